@@ -1,8 +1,8 @@
 -- No declaration is lost where others are copied or joined.
 use Rattle.std.proofs.Common.{◌≡◌, ℕ, ◌≤◌, Bool, true, false, cond, List, [], ◌∷◌, length, Option, Some, None, refl, ap, arith, length-append}
 use Rattle.tasks.specs.Task.{BodyTree, MakesType, Makes, Defines, Induces, Constructs, Says, DeclarationTree}
-use Rattle.syntax_why.specs.declared.declarations.PropKind.{PropKind}
-use Rattle.syntax_why.specs.declared.declarations.PropKind.TheVariants as kind
+use Rattle.elab_parts.specs.syntax_why.declared.declarations.PropKind.{PropKind}
+use Rattle.elab_parts.specs.syntax_why.declared.declarations.PropKind.TheVariants as kind
 use Rattle.theory_states.specs.States.{StateTree, with_declaration}
 use Rattle.clone_elements.specs.Plans.{is_replaced, kind_or}
 use Rattle.clone_copies.specs.Origins.{is_own}

@@ -1,7 +1,7 @@
 -- The entries of the symbols of copies (Why3 manual, "theory cloning").
 use Rattle.std.specs.Prelude.{ℕ, List, map}
 use Rattle.tasks.specs.Task.{SymbolTree, symbol_or}
-use Rattle.syntax_why.specs.Lexeme.{Word}
+use Rattle.elab_parts.specs.syntax_why.Lexeme.{Word}
 use Rattle.clones.specs.Mapped.{Map}
 use Rattle.clones.specs.Copies.{entry_copied}
 

@@ -1,7 +1,7 @@
 -- What the parts of a clone in code stand for.
 use Rattle.std.specs.Prelude.{nat_eq, List, []}
 use Rattle.indexmap.specs.IndexMap.{get}
-use Rattle.trees.specs.Tree.{Tree}
+use Rattle.tasks.specs.trees.Tree.{Tree}
 use Rattle.clones.specs.Meaning.{map_at}
 use Rattle.theory_states.specs.declared.states.Typed.{Typed}
 use Rattle.theory_states.specs.declared.states.Opened.{Opened}

@@ -3,7 +3,7 @@ use Rattle.std.specs.Prelude.{ℕ, ◌==◌, if◌then◌else◌, Bool, List, []
 use Rattle.std.specs.Option.{is_some}
 use Rattle.std.specs.Str.{bytes_eq}
 use Rattle.tasks.specs.Task.{DeclarationTree}
-use Rattle.syntax_why.specs.Lexeme.{Word}
+use Rattle.elab_parts.specs.syntax_why.Lexeme.{Word}
 use Rattle.clone_elements.specs.Left.{Origin, decl_or}
 use Rattle.theory_states.specs.declared.states.AxiomAt.{AxiomAt}
 use Rattle.theory_states.specs.States.{KnownTree}

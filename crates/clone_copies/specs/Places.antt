@@ -1,12 +1,12 @@
 -- The copies of a theory's declarations, and the others joined at their places; what an axiom becomes (Why3 manual, "theory cloning").
 use Rattle.std.specs.Prelude.{ℕ, ◌+◌, if◌then◌else◌, Bool, List, [], ◌∷◌, ◌++◌, map, length, Option, Some, None}
-use Rattle.trees.specs.Tree.{Tree}
-use Rattle.trees.specs.Binding.{inst_types}
+use Rattle.tasks.specs.trees.Tree.{Tree}
+use Rattle.tasks.specs.trees.Binding.{inst_types}
 use Rattle.tasks.specs.Task.{BodyTree, MakesType, Makes, Defines, Induces, Constructs, Says, DeclarationTree}
 use Rattle.tasks.specs.Rigid.{rigid_symbol}
-use Rattle.syntax_why.specs.Lexeme.{Word}
-use Rattle.syntax_why.specs.declared.declarations.PropKind.{PropKind}
-use Rattle.syntax_why.specs.declared.declarations.PropKind.TheVariants as kind
+use Rattle.elab_parts.specs.syntax_why.Lexeme.{Word}
+use Rattle.elab_parts.specs.syntax_why.declared.declarations.PropKind.{PropKind}
+use Rattle.elab_parts.specs.syntax_why.declared.declarations.PropKind.TheVariants as kind
 use Rattle.clones.specs.Mapped.{Map}
 use Rattle.clones.specs.Copies.{declaration_copied}
 use Rattle.goal_tasks.specs.Theories.{GoalTree}

@@ -1,8 +1,8 @@
 // The entries of the symbols of copies.
 // They depend on copies of entries and on signatures.
 ghost use Rattle.std.specs.Prelude.{◌≡◌, ◌++◌, ◌<◌, List, length, map, slice_get, Some, All, IfOk, OnOk};
-ghost use Rattle.trees.specs.Tree.{Tree};
-ghost use Rattle.trees.specs.Node.{Grows};
+ghost use Rattle.tasks.specs.trees.Tree.{Tree};
+ghost use Rattle.tasks.specs.trees.Node.{Grows};
 ghost use Rattle.tasks.specs.Task.{int_symbol};
 ghost use Rattle.tasks.specs.Meaning.{symbols_at, SymbolHeld};
 ghost use Rattle.clones.specs.Meaning.{map_at, MapHeld, AreKnown};
@@ -10,10 +10,8 @@ ghost use Rattle.clone_copies.specs.Entries.{entries_copied};
 
 use clone_elements::entry_or;
 use clones::{MappedTrees, SymbolMap, copy_entry};
-use outside::Seq;
 use std::alloc::{AllocError, Global};
-use tasks::{Signature, SymbolInfo};
-use term_store::Store;
+use tasks::{Seq, Signature, Store, SymbolInfo};
 
 // The entries of the copies of these symbols.
 fn copy_entries(

@@ -7,6 +7,7 @@ mod moves;
 mod origins;
 mod places;
 
+pub use clones::{MappedTrees, SymbolMap, no_trees};
 pub use entries::push_entries;
 pub use moves::map_moves;
 pub use origins::{axioms_of, own_places};

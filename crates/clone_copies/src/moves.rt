@@ -1,9 +1,9 @@
 // The names that a clone passes on.
 // They depend on maps of symbols and on moves in scopes.
 ghost use Rattle.std.specs.Prelude.{◌≡◌, List, All, IfOk, OnOk};
-ghost use Rattle.trees.specs.Tree.{Tree};
-ghost use Rattle.trees.specs.Node.{tree_at, Grows};
-ghost use Rattle.names_space.specs.declared.TypeName.TheVariants.{Alias};
+ghost use Rattle.tasks.specs.trees.Tree.{Tree};
+ghost use Rattle.tasks.specs.trees.Node.{tree_at, Grows};
+ghost use Rattle.elab_parts.specs.names_space.declared.TypeName.TheVariants.{Alias};
 ghost use Rattle.tasks.specs.Meaning.{symbols_at};
 ghost use Rattle.clones.specs.Mapped.{mapped};
 ghost use Rattle.clones.specs.Meaning.{map_at, MapHeld, AreKnown};
@@ -12,12 +12,10 @@ ghost use Rattle.clone_copies.specs.Moves.{IsAliasOf, IsTypeMapped, IsThingMappe
 
 use clone_elements::vars_of;
 use clones::{MappedTrees, SymbolMap, map_symbol, map_tree};
-use names_space::{Table, TypeName};
+use elab_parts::{Table, TypeName};
 use std::alloc::{AllocError, Global};
-use tasks::Signature;
-use term_store::Store;
+use tasks::{Signature, Store, TermId};
 use theory_states::Move;
-use trees::TermId;
 
 // The name of a type at so many type variables.
 fn alias_of(vars: usize, ty: TermId) -> TypeName

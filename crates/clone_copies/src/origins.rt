@@ -2,15 +2,14 @@
 // It depends on what is known of theories.
 ghost use Rattle.std.specs.Prelude.{◌≡◌, ◌++◌, nat_eq, List, IfOk, OnOk};
 ghost use Rattle.indexmap.specs.IndexMap.{get};
-ghost use Rattle.trees.specs.Tree.{Tree};
+ghost use Rattle.tasks.specs.trees.Tree.{Tree};
 ghost use Rattle.tasks.specs.Meaning.{declarations_at};
 ghost use Rattle.theory_states.specs.Meaning.{known_at};
 ghost use Rattle.clone_copies.specs.Origins.{is_own, own_at, own_places, with_axioms, axioms_at};
 
 use indexmap::IndexMap;
-use outside::{Seq, Text};
 use std::alloc::{AllocError, Global};
-use tasks::Decl;
+use tasks::{Decl, Seq, Text};
 use theory_states::{AxiomAt, KnownTheory};
 
 /// Whether the declaration at a place is of the theory with this path.

@@ -1,9 +1,9 @@
 // The copies of a theory's declarations, and what its axioms become.
 // They depend on plans of clones, on copies of declarations and on what is known of theories.
 ghost use Rattle.std.specs.Prelude.{◌≡◌, ◌++◌, ◌<◌, List, length, map, All, IfOk, OnOk};
-ghost use Rattle.trees.specs.Tree.{Tree};
-ghost use Rattle.trees.specs.Node.{tree_at, Holds, Grows};
-ghost use Rattle.trees.specs.Binding.{inst_types};
+ghost use Rattle.tasks.specs.trees.Tree.{Tree};
+ghost use Rattle.tasks.specs.trees.Node.{tree_at, Holds, Grows};
+ghost use Rattle.tasks.specs.trees.Binding.{inst_types};
 ghost use Rattle.tasks.specs.Task.{Says};
 ghost use Rattle.tasks.specs.Rigid.{rigid_symbol};
 ghost use Rattle.tasks.specs.Meaning.{trees_at, declaration_at, DeclHeld};
@@ -17,19 +17,14 @@ ghost use Rattle.clone_copies.specs.Places.{next_numbers, rigid_types, with_copi
 ghost use Rattle.clone_copies.specs.Meaning.{copying_at, bare_at};
 
 use crate::origins::{copy_names, is_own};
-use binders::inst_types;
 use clone_elements::{Fate, Plan, is_replaced};
 use clones::{MappedTrees as Trees, SymbolMap, copy_decl};
-use elab_parts::push_entry;
+use elab_parts::{PropKind, inst_types, push_entry};
 use goal_tasks::GoalAt;
 use indexmap::IndexMap;
-use outside::{Seq, Text};
 use std::alloc::{AllocError, Global};
-use syntax_why::PropKind;
-use tasks::{Body, Decl, Signature, SymbolInfo};
-use term_store::{Grow, Store};
+use tasks::{Body, Decl, Grow, Node, Seq, Signature, Store, SymbolInfo, TermId, Text};
 use theory_states::{AxiomAt, Opened, Typed, push_decl};
-use trees::{Node, TermId};
 
 /// What a theory is copied by: its path, its axioms by their places with the names of their type variables, what elements replace, the
 /// map of symbols, and the names of the scopes of the copies, each followed by a dot.

@@ -1,7 +1,7 @@
 -- The sides of elements stay as the store grows.
 use Rattle.std.proofs.Common.{◌≡◌, ℕ, List, get_or, All, refl, sym, ap, subst}
-use Rattle.trees.specs.Tree.{Tree}
-use Rattle.trees.specs.Node.{Grows}
+use Rattle.tasks.specs.trees.Tree.{Tree}
+use Rattle.tasks.specs.trees.Node.{Grows}
 use Rattle.tasks.proofs.Growth.{map_agree}
 use Rattle.syntax_why.specs.SurfaceDeclarations.{element_of}
 use Rattle.elab_walk.proofs.Growing.{type_grows, type_stays}

@@ -1,8 +1,8 @@
 -- What the sides of elements and parts of a plan in code stand for.
 use Rattle.std.specs.Prelude.{◌≡◌, ℕ, nat_eq, List, map, All, Some}
 use Rattle.indexmap.specs.IndexMap.{IndexMap, get}
-use Rattle.trees.specs.Tree.{Tree}
-use Rattle.trees.specs.Node.{tree_at}
+use Rattle.tasks.specs.trees.Tree.{Tree}
+use Rattle.tasks.specs.trees.Node.{tree_at}
 use Rattle.syntax_why.specs.SurfaceDeclarations.{element_of}
 use Rattle.elab_walk.specs.Drafts.{HoldsType}
 use Rattle.clone_elements.specs.declared.rights.Right.{Right}

@@ -4,7 +4,7 @@ use Rattle.std.specs.Option.{is_some}
 use Rattle.std.specs.HashMap.{get_by}
 use Rattle.std.specs.Str.{bytes_eq}
 use Rattle.indexmap.specs.IndexMap.{get}
-use Rattle.trees.specs.Tree.{Tree}
+use Rattle.tasks.specs.trees.Tree.{Tree}
 use Rattle.tasks.specs.Meaning.{declarations_at}
 use Rattle.syntax_why.specs.Lexeme.{Word}
 use Rattle.clone_elements.specs.declared.left.ClonedTheory.{ClonedTheory}

@@ -2,12 +2,12 @@
 use Rattle.std.specs.Prelude.{ℕ, ◌+◌, ◌==◌, ◌&&◌, if◌then◌else◌, Bool, true, false, List, [], ◌∷◌, ◌++◌, length, Option, Some, None}
 use Rattle.std.specs.List.{list_any}
 use Rattle.std.specs.Option.{is_none}
-use Rattle.trees.specs.Tree.{Tree}
+use Rattle.tasks.specs.trees.Tree.{Tree}
 use Rattle.tasks.specs.Task.{SymbolTree, symbol_or, made_by}
 use Rattle.syntax_why.specs.declared.declarations.PropKind.{PropKind}
 use Rattle.syntax_why.specs.declared.declarations.PropKind.TheVariants as kind
 use Rattle.syntax_why.specs.Declarations.{Element, type_element, symbol_element, prop_element, all_axioms}
-use Rattle.names_space.specs.Names.{ScopeNames}
+use Rattle.elab_names.specs.names_space.Names.{ScopeNames}
 use Rattle.syntax_why.specs.Lexeme.{Word}
 use Rattle.clones.specs.Mapped.{Map}
 use Rattle.clone_elements.specs.Left.{Origin, decl_or, symbol_at_place, element_key, place_by}

@@ -1,10 +1,10 @@
 -- What the right sides of a clone's elements stand for, and their first fault of names, in the order of the elements (Why3 manual,
 -- "theory cloning").
 use Rattle.std.specs.Prelude.{ℕ, false, List, [], ◌∷◌, ◌++◌, map, length, Option, Some, None, unwrap_or}
-use Rattle.trees.specs.Tree.{Tree}
-use Rattle.trees.specs.Facts.{TyVarsBelow}
+use Rattle.tasks.specs.trees.Tree.{Tree}
+use Rattle.tasks.specs.trees.Facts.{TyVarsBelow}
 use Rattle.tasks.specs.Task.{SymbolTree}
-use Rattle.names_space.specs.Names.{ScopeNames}
+use Rattle.elab_names.specs.names_space.Names.{ScopeNames}
 use Rattle.syntax_why.specs.Declarations.{Element, type_element, symbol_element, prop_element, all_axioms}
 use Rattle.syntax_why.specs.Forms.{Called}
 use Rattle.elab_names.specs.Abstract.{TypeExpression, texts_of_names, type_expression, text_of_own}

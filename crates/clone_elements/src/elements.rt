@@ -1,8 +1,8 @@
 // The sides of elements, and the first element that is wrong.
 // They depend on right sides, on names of the theory and on plans; clones depend on them.
 ghost use Rattle.std.specs.Prelude.{◌≡◌, ◌++◌, ◌<◌, ◌↔◌, ℕ, List, [], None, Some, length, map, slice_get, All, IfOk, IfErr, OnOk, IsTrue, option_map, IfSome};
-ghost use Rattle.trees.specs.Tree.{Tree};
-ghost use Rattle.trees.specs.Node.{tree_at, Holds, Grows};
+ghost use Rattle.tasks.specs.trees.Tree.{Tree};
+ghost use Rattle.tasks.specs.trees.Node.{tree_at, Holds, Grows};
 ghost use Rattle.tasks.specs.Task.{symbol_or, int_symbol};
 ghost use Rattle.tasks.specs.Meaning.{symbols_at, symbol_at, trees_at, declarations_at, SymbolHeld, DeclHeld};
 ghost use Rattle.syntax_why.specs.SurfaceDeclarations.{element_of, element_by};
@@ -25,9 +25,7 @@ use clones::{MappedTrees, SymbolMap, map_tree, no_trees};
 use indexmap::IndexMap;
 use std::alloc::{AllocError, AllocFailed, Global};
 use syntax_why::{ElemNode, ElemTree, SymbolWord};
-use tasks::{Signature, SymbolInfo, SymbolKind};
-use term_store::Store;
-use trees::TermId;
+use tasks::{Signature, Store, SymbolInfo, SymbolKind, TermId};
 
 /// What is wrong with the elements of a clone, at a token, or want of memory.
 #[derive(Clone, Copy)]

@@ -1,7 +1,7 @@
 // The declarations of a theory that elements of a clone may name, found by a kind and a name.
 // They depend on names and signatures; the elements depend on them.
 ghost use Rattle.std.specs.Prelude.{◌≡◌, ℕ, ◌++◌, List, IfOk, OnOk, None, option_map};
-ghost use Rattle.trees.specs.Tree.{Tree};
+ghost use Rattle.tasks.specs.trees.Tree.{Tree};
 ghost use Rattle.tasks.specs.Meaning.{symbols_at, body_at, declaration_at};
 ghost use Rattle.syntax_why.specs.Surface.{own_of, called_of};
 ghost use Rattle.syntax_why.specs.SurfaceDeclarations.{element_by};
@@ -11,11 +11,10 @@ ghost use Rattle.clone_elements.specs.Origins.{origin_at, place_at};
 
 use elab_names::own_name;
 use indexmap::IndexMap;
-use outside::{Seq, Text};
 use std::alloc::{AllocError, Global};
 use std::collections::HashMap;
 use syntax_why::{ElemNode, QName, SymbolWord};
-use tasks::{Body, Decl, Signature, SymbolKind};
+use tasks::{Body, Decl, Seq, Signature, SymbolKind, Text};
 
 /// What elements name: abstract types, functions and predicates, and axioms.
 #[derive(Clone, Copy)]

@@ -1,8 +1,8 @@
 // What the elements of a clone replace, and what axioms become.
 // It depends on the sides of elements; the first wrong element and the copies depend on it.
 ghost use Rattle.std.specs.Prelude.{◌≡◌, ◌++◌, ℕ, List, length, All, IfOk, OnOk};
-ghost use Rattle.trees.specs.Tree.{Tree};
-ghost use Rattle.trees.specs.Node.{tree_at};
+ghost use Rattle.tasks.specs.trees.Tree.{Tree};
+ghost use Rattle.tasks.specs.trees.Node.{tree_at};
 ghost use Rattle.tasks.specs.Task.{symbol_or};
 ghost use Rattle.tasks.specs.Meaning.{symbols_at, body_at, declarations_at};
 ghost use Rattle.syntax_why.specs.SurfaceDeclarations.{element_of, element_by};
@@ -19,9 +19,7 @@ use clones::SymbolMap;
 use indexmap::IndexMap;
 use std::alloc::{AllocError, Global};
 use syntax_why::{ElemNode, ElemTree, PropKind};
-use tasks::{Body, Decl, Signature, made_by};
-use term_store::Store;
-use trees::TermId;
+use tasks::{Body, Decl, Signature, Store, TermId, made_by};
 
 /// What becomes of a declaration that an element names: it is replaced, or an axiom becomes one of its kinds.
 #[derive(Clone, Copy)]

@@ -1,9 +1,9 @@
 // The right sides of elements: types and symbols.
 // They depend on the walk of names and types; the plan of a clone depends on them.
 ghost use Rattle.std.specs.Prelude.{◌≡◌, ◌++◌, ℕ, List, None, Some, false, length, map, IfOk, IfErr, OnOk, Err};
-ghost use Rattle.trees.specs.Tree.{Tree};
-ghost use Rattle.trees.specs.Node.{tree_at, Grows};
-ghost use Rattle.trees.specs.Facts.{TyVarsBelow};
+ghost use Rattle.tasks.specs.trees.Tree.{Tree};
+ghost use Rattle.tasks.specs.trees.Node.{tree_at, Grows};
+ghost use Rattle.tasks.specs.trees.Facts.{TyVarsBelow};
 ghost use Rattle.tasks.specs.Meaning.{symbols_at};
 ghost use Rattle.syntax_why.specs.Surface.{called_of};
 ghost use Rattle.syntax_why.specs.SurfaceDeclarations.{element_of, element_by};
@@ -17,17 +17,13 @@ ghost use Rattle.elab_parts.specs.Outcomes.{over};
 ghost use Rattle.clone_elements.specs.Rights.{variables_fault, all_variables_fault, type_tuples, called_symbol, symbol_missing, right_fault, right_tuples, right_made, IsWithin};
 ghost use Rattle.clone_elements.specs.Meaning.{right_at, RightHeld};
 
-use elab_names::{NamingFault, check_form, own_name};
+use elab_names::{NamingFault, Scope, Table, check_form, own_name};
 use elab_parts::{find_repeated, gather, push_tuples, texts_of, world_over};
 use elab_variables::{Seen, enter_form};
 use elab_walk::type_of_form;
-use names_space::{Scope, Table};
-use outside::{Seq, Text};
 use std::alloc::{AllocError, Global};
 use syntax_why::{ElemNode, ElemTree, Name, QName, TypeTree};
-use tasks::Signature;
-use term_store::Store;
-use trees::TermId;
+use tasks::{Seq, Signature, Store, TermId, Text};
 
 /// What is on the right of an element: a type, a symbol, or nothing.
 #[derive(Clone, Copy)]

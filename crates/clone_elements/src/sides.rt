@@ -1,8 +1,8 @@
 // The sides of elements, in their order.
 // They depend on right sides and on the names of the theory; plans are made of them.
 ghost use Rattle.std.specs.Prelude.{◌≡◌, ◌++◌, ℕ, List, [], None, length, map, All, IfOk, IfErr, OnOk, Err};
-ghost use Rattle.trees.specs.Tree.{Tree};
-ghost use Rattle.trees.specs.Node.{Grows};
+ghost use Rattle.tasks.specs.trees.Tree.{Tree};
+ghost use Rattle.tasks.specs.trees.Node.{Grows};
 ghost use Rattle.tasks.specs.Meaning.{symbols_at};
 ghost use Rattle.syntax_why.specs.SurfaceDeclarations.{element_of};
 ghost use Rattle.elab_names.specs.Naming.{Tells};
@@ -15,12 +15,10 @@ ghost use Rattle.clone_elements.specs.Meaning.{sides_at, SideHeld};
 use crate::left::LeftNames;
 use crate::plans::Side;
 use crate::rights::right_side;
-use elab_names::NamingFault;
-use names_space::Scope;
+use elab_names::{NamingFault, Scope};
 use std::alloc::Global;
 use syntax_why::ElemTree;
-use tasks::Signature;
-use term_store::Store;
+use tasks::{Signature, Store};
 
 // The sides of elements, after others, and the entries of the tuples of their types.
 fn push_sides<'a>(

@@ -1,9 +1,9 @@
 -- What is known once the elements of a clone are read, and then the clone.
 use Rattle.std.proofs.Common.{◌≡◌, ℕ, ◌<◌, List, map, length, All, Option, Some, None, refl, sym, ap, subst, ◌∙◌, arith}
 use Rattle.std.proofs.lemmas.List.{length-map}
-use Rattle.trees.specs.Tree.{Tree}
-use Rattle.trees.specs.Node.{Grows}
-use Rattle.trees.proofs.Nodes.{Grows_trans}
+use Rattle.tasks.specs.trees.Tree.{Tree}
+use Rattle.tasks.specs.trees.Node.{Grows}
+use Rattle.tasks.proofs.trees.Nodes.{Grows_trans}
 use Rattle.tasks.specs.declared.signature.Signature.{Signature}
 use Rattle.tasks.specs.Task.{DeclarationTree}
 use Rattle.tasks.specs.Meaning.{symbols_at, declarations_at}

@@ -1,16 +1,16 @@
 -- What a theory is copied by, in code, and what is known once its contents are copied.
 use Rattle.std.proofs.Common.{◌≡◌, ◌++◌, ℕ, ◌<◌, nat_eq, List, [], length, get_or, All, sym, ap, subst, ◌∙◌}
 use Rattle.indexmap.specs.IndexMap.{get}
-use Rattle.trees.specs.Tree.{Tree}
-use Rattle.trees.specs.Node.{Grows}
+use Rattle.tasks.specs.trees.Tree.{Tree}
+use Rattle.tasks.specs.trees.Node.{Grows}
 use Rattle.tasks.specs.declared.signature.Signature.{Signature}
 use Rattle.tasks.specs.Task.{SymbolTree}
 use Rattle.tasks.specs.Meaning.{symbols_at, declarations_at}
 use Rattle.theory_states.specs.declared.moves.Move.{Move}
 use Rattle.syntax_why.specs.Lexeme.{Word}
-use Rattle.clones.specs.Mapped.{Map}
-use Rattle.clones.specs.Meaning.{map_at}
-use Rattle.clones.proofs.Steps.{map_stays}
+use Rattle.clone_copies.specs.clones.Mapped.{Map}
+use Rattle.clone_copies.specs.clones.Meaning.{map_at}
+use Rattle.clone_copies.proofs.clones.Steps.{map_stays}
 use Rattle.elab_parts.specs.Entries.{IsExtended}
 use Rattle.theory_states.specs.declared.states.KnownTheory.{KnownTheory}
 use Rattle.theory_states.specs.declared.states.Opened.{Opened}

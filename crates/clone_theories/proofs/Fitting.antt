@@ -1,14 +1,14 @@
 -- Typed entries are kept by a signature, and the numbers in typed moves are held.
 use Rattle.std.proofs.Common.{ℕ, List, get_or, All, Option, Some, None, IfSome}
-use Rattle.trees.specs.Tree.{Tree}
-use Rattle.trees.specs.Facts.{TyVarsBelow}
+use Rattle.tasks.specs.trees.Tree.{Tree}
+use Rattle.tasks.specs.trees.Facts.{TyVarsBelow}
 use Rattle.tasks.specs.Task.{SymbolTree}
 use Rattle.tasks.specs.Vocabulary.{Vocabulary}
 use Rattle.tasks.specs.Valid.{IsTypeIn}
-use Rattle.names_space.specs.declared.Table.{Table}
-use Rattle.names_space.specs.declared.Table.TheVariants.{Types, Symbols, Propositions, Scopes}
-use Rattle.names_space.specs.declared.TypeName.{TypeName}
-use Rattle.names_space.specs.declared.TypeName.TheVariants as stands
+use Rattle.elab_parts.specs.names_space.declared.Table.{Table}
+use Rattle.elab_parts.specs.names_space.declared.Table.TheVariants.{Types, Symbols, Propositions, Scopes}
+use Rattle.elab_parts.specs.names_space.declared.TypeName.{TypeName}
+use Rattle.elab_parts.specs.names_space.declared.TypeName.TheVariants as stands
 use Rattle.theory_states.specs.declared.moves.Move.{Move}
 use Rattle.theory_states.specs.declared.moves.Move.TheVariants.{Brings, Opens, Closes}
 use Rattle.valid_tasks.specs.Scopes.{IsTypedEntry, IsTypedThing}

@@ -3,18 +3,18 @@ use Rattle.std.proofs.Common.{◌≡◌, List, [], ◌∷◌, ◌++◌, map, get
 use Rattle.std.specs.Option.{option_map}
 use Rattle.std.proofs.lemmas.List.{get_or-map, length-map}
 use Rattle.std.proofs.lemmas.List.Elements.{All-append, All-map}
-use Rattle.trees.specs.declared.TermId.{TermId}
-use Rattle.trees.specs.declared.Sort.TheVariants.{Kind}
-use Rattle.trees.specs.Tree.{Tree}
-use Rattle.trees.specs.Node.{tree_at, Holds, Grows}
-use Rattle.trees.specs.Sorts.{sort_of}
+use Rattle.tasks.specs.trees.declared.TermId.{TermId}
+use Rattle.tasks.specs.trees.declared.Sort.TheVariants.{Kind}
+use Rattle.tasks.specs.trees.Tree.{Tree}
+use Rattle.tasks.specs.trees.Node.{tree_at, Holds, Grows}
+use Rattle.tasks.specs.trees.Sorts.{sort_of}
 use Rattle.tasks.specs.declared.signature.SymbolInfo.{SymbolInfo}
 use Rattle.tasks.specs.Task.{SymbolTree, int_symbol}
 use Rattle.tasks.specs.Meaning.{symbol_at, symbols_at, SymbolHeld}
 use Rattle.theory_states.specs.declared.moves.Move.{Move}
-use Rattle.clones.specs.Mapped.{Map}
-use Rattle.elab_walk.specs.Drafts.{HoldsType, SymbolTyped}
-use Rattle.elab_walk.specs.Scoped.{IsScopedEntry}
+use Rattle.clone_copies.specs.clones.Mapped.{Map}
+use Rattle.elab_parts.specs.elab_walk.Drafts.{HoldsType, SymbolTyped}
+use Rattle.elab_parts.specs.elab_walk.Scoped.{IsScopedEntry}
 use Rattle.elab_parts.specs.Entries.{IsSignature}
 use Rattle.clone_copies.specs.Moves.{MoveHeld, AreMovesMapped}
 use Rattle.clone_copies.proofs.Moved.{move_grows, move_held_grows}

@@ -1,6 +1,6 @@
 -- The copies of declarations leave the trees of the store and the number of the next declaration.
 use Rattle.std.proofs.Common.{◌≡◌, ℕ, if◌then◌else◌, Bool, true, false, List, [], ◌∷◌, Option, Some, None, refl, sym, ap, ◌∙◌}
-use Rattle.trees.specs.Tree.{Tree}
+use Rattle.tasks.specs.trees.Tree.{Tree}
 use Rattle.tasks.specs.Task.{BodyTree, MakesType, Makes, Defines, Induces, Constructs, Says, DeclarationTree}
 use Rattle.syntax_why.specs.Lexeme.{Word}
 use Rattle.syntax_why.specs.declared.declarations.PropKind.{PropKind}

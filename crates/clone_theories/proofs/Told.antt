@@ -1,8 +1,8 @@
 -- What is told of elements, over the signature and the theory that they were read with.
 use Rattle.std.proofs.Common.{◌≡◌, ℕ, List, ◌++◌, None, subst}
-use Rattle.trees.specs.Tree.{Tree}
+use Rattle.tasks.specs.trees.Tree.{Tree}
 use Rattle.tasks.specs.Task.{SymbolTree}
-use Rattle.names_space.specs.Names.{ScopeNames}
+use Rattle.elab_parts.specs.names_space.Names.{ScopeNames}
 use Rattle.syntax_why.specs.Declarations.{Element}
 use Rattle.theory_states.specs.declared.fault.SourceFault.{SourceFault}
 use Rattle.clone_elements.specs.declared.elements.Plan.{Plan}

@@ -2,17 +2,17 @@
 use Rattle.std.proofs.Common.{◌≡◌, ◌⊎◌, inl, inr, ℕ, ◌+◌, ◌<◌, if◌then◌else◌, Bool, true, false, zero, suc, List, [], ◌∷◌, ◌++◌, map, length, get_or, slice_get, All, Option, Some, None, IfSome, option_map, unwrap_or, refl, sym, ap, subst, ◌∙◌, arith}
 use Rattle.std.specs.List.{find, Contains}
 use Rattle.std.proofs.lemmas.List.Elements.{All-nil, All-cons, All-head, All-tail, All-append, All-map, Contains-append_cases}
-use Rattle.trees.specs.Tree.{Tree}
-use Rattle.trees.specs.Node.{Grows}
-use Rattle.trees.proofs.Nodes.{Grows_refl}
+use Rattle.tasks.specs.trees.Tree.{Tree}
+use Rattle.tasks.specs.trees.Node.{Grows}
+use Rattle.tasks.proofs.trees.Nodes.{Grows_refl}
 use Rattle.tasks.specs.Task.{SymbolTree, symbol_or, DeclarationTree, BodyTree, MakesType, Makes, Defines, Induces, Constructs, Says}
 use Rattle.tasks.specs.Rigid.{rigid_symbol}
 use Rattle.tasks.specs.Vocabulary.{Vocabulary, of_signature, is_empty}
-use Rattle.names_space.specs.Names.{ScopeNames, find_name, number_of}
-use Rattle.names_space.specs.declared.Table.{Table}
-use Rattle.names_space.specs.declared.Table.TheVariants.{Types, Symbols, Propositions, Scopes}
-use Rattle.names_space.specs.declared.TypeName.{TypeName}
-use Rattle.names_space.specs.declared.TypeName.TheVariants as stands
+use Rattle.elab_parts.specs.names_space.Names.{ScopeNames, find_name, number_of}
+use Rattle.elab_parts.specs.names_space.declared.Table.{Table}
+use Rattle.elab_parts.specs.names_space.declared.Table.TheVariants.{Types, Symbols, Propositions, Scopes}
+use Rattle.elab_parts.specs.names_space.declared.TypeName.{TypeName}
+use Rattle.elab_parts.specs.names_space.declared.TypeName.TheVariants as stands
 use Rattle.theory_states.specs.declared.moves.Move.{Move}
 use Rattle.theory_states.specs.declared.moves.Move.TheVariants.{Brings, Opens, Closes}
 use Rattle.syntax_why.specs.Lexeme.{Word}
@@ -22,12 +22,12 @@ use Rattle.syntax_why.specs.declared.declarations.Link.{Link}
 use Rattle.syntax_why.specs.declared.declarations.PropKind.{PropKind}
 use Rattle.syntax_why.specs.declared.declarations.PropKind.TheVariants as kind
 use Rattle.syntax_why.specs.Declarations.{Element, type_element, symbol_element, prop_element, all_axioms}
-use Rattle.clones.specs.Mapped.{Map}
-use Rattle.clones.specs.Copies.{entry_copied}
-use Rattle.goal_tasks.specs.Theories.{GoalTree}
-use Rattle.elab_names.specs.Abstract.{text_of_own}
-use Rattle.elab_names.specs.Faults.{first_of}
-use Rattle.elab_names.specs.declared.NamingFault.{NamingFault}
+use Rattle.clone_copies.specs.clones.Mapped.{Map}
+use Rattle.clone_copies.specs.clones.Copies.{entry_copied}
+use Rattle.theory_states.specs.goal_tasks.Theories.{GoalTree}
+use Rattle.elab_parts.specs.elab_names.Abstract.{text_of_own}
+use Rattle.elab_parts.specs.elab_names.Faults.{first_of}
+use Rattle.elab_parts.specs.elab_names.declared.NamingFault.{NamingFault}
 use Rattle.valid_tasks.specs.Scopes.{IsSubvocabulary, IsTypeNumber, IsSymbolNumber, IsTypeName, IsTypedThing, IsTypedEntry, IsTypedSignature, AreTypedScopes}
 use Rattle.valid_tasks.proofs.Extended.{scopes_part}
 use Rattle.valid_tasks.proofs.Scopes.{found_thing}

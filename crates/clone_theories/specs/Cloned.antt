@@ -1,10 +1,10 @@
 -- A theory that is cloned, or the first fault of a clone: a type variable that occurs twice in an element, the path, the names on the
 -- right of the elements, and an element that is wrong (Why3 manual, "theory cloning").
 use Rattle.std.specs.Prelude.{◌≡◌, ℕ, List, ◌++◌, Option, Some, None, codes}
-use Rattle.trees.specs.Tree.{Tree}
-use Rattle.trees.specs.Node.{Grows}
+use Rattle.tasks.specs.trees.Tree.{Tree}
+use Rattle.tasks.specs.trees.Node.{Grows}
 use Rattle.tasks.specs.Task.{SymbolTree}
-use Rattle.names_space.specs.Names.{ScopeNames}
+use Rattle.elab_parts.specs.names_space.Names.{ScopeNames}
 use Rattle.theory_states.specs.declared.moves.Move.{Move}
 use Rattle.theory_states.specs.Moves.{brought, handed, name_or}
 use Rattle.syntax_why.specs.Lexeme.{Word}
@@ -13,9 +13,9 @@ use Rattle.syntax_why.specs.declared.names.Name.{Name}
 use Rattle.syntax_why.specs.declared.names.Path.{Path}
 use Rattle.syntax_why.specs.declared.declarations.Link.{Link}
 use Rattle.syntax_why.specs.declared.declarations.Link.TheVariants as link
-use Rattle.elab_names.specs.declared.NamingFault.{NamingFault}
-use Rattle.elab_names.specs.declared.NamingFault.TheVariants as names
-use Rattle.clones.specs.Mapped.{Map}
+use Rattle.elab_parts.specs.elab_names.declared.NamingFault.{NamingFault}
+use Rattle.elab_parts.specs.elab_names.declared.NamingFault.TheVariants as names
+use Rattle.clone_copies.specs.clones.Mapped.{Map}
 use Rattle.theory_states.specs.declared.fault.SourceFault.{SourceFault}
 use Rattle.theory_states.specs.declared.fault.SourceFault.TheVariants as fault
 use Rattle.theory_states.specs.States.{KnownTree, StateTree, known_named}

@@ -1,16 +1,16 @@
 -- A theory that is copied in code: the map with the symbols that the copies make, what is asked before, and what is known after.
 use Rattle.std.specs.Prelude.{◌≡◌, ℕ, ◌<◌, List, [], ◌++◌, length, All, Option, IfSome}
-use Rattle.trees.specs.Tree.{Tree}
-use Rattle.trees.specs.Sorts.{sort_of}
-use Rattle.trees.specs.declared.Sort.TheVariants.{Kind}
+use Rattle.tasks.specs.trees.Tree.{Tree}
+use Rattle.tasks.specs.trees.Sorts.{sort_of}
+use Rattle.tasks.specs.trees.declared.Sort.TheVariants.{Kind}
 use Rattle.tasks.specs.Task.{SymbolTree}
 use Rattle.tasks.specs.Meaning.{symbols_at, declarations_at}
 use Rattle.theory_states.specs.declared.moves.Move.{Move}
 use Rattle.syntax_why.specs.Lexeme.{Word}
 use Rattle.syntax_why.specs.declared.declarations.Link.{Link}
-use Rattle.clones.specs.Mapped.{Map}
-use Rattle.clones.specs.Meaning.{map_at, MapHeld}
-use Rattle.elab_walk.specs.Scoped.{IsScopedEntry}
+use Rattle.clone_copies.specs.clones.Mapped.{Map}
+use Rattle.clone_copies.specs.clones.Meaning.{map_at, MapHeld}
+use Rattle.elab_parts.specs.elab_walk.Scoped.{IsScopedEntry}
 use Rattle.theory_states.specs.declared.states.Opened.{Opened}
 use Rattle.theory_states.specs.declared.states.Typed.{Typed}
 use Rattle.theory_states.specs.States.{KnownTree, StateTree}

@@ -1,7 +1,7 @@
 -- What a theory that is cloned has of its own, in code, and the theory at a place.
 use Rattle.std.specs.Prelude.{◌≡◌, ℕ, nat_eq, List, [], map, get_or}
 use Rattle.indexmap.specs.IndexMap.{get}
-use Rattle.trees.specs.Tree.{Tree}
+use Rattle.tasks.specs.trees.Tree.{Tree}
 use Rattle.tasks.specs.Task.{DeclarationTree}
 use Rattle.theory_states.specs.declared.states.Typed.{Typed}
 use Rattle.theory_states.specs.States.{KnownTree}

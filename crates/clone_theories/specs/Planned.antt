@@ -1,11 +1,11 @@
 -- What the elements of a clone are read as: what they replace, or their first fault; and what the theory is copied by.
 use Rattle.std.specs.Prelude.{◌≡◌, ℕ, List, ◌++◌, length, None}
-use Rattle.trees.specs.Tree.{Tree}
+use Rattle.tasks.specs.trees.Tree.{Tree}
 use Rattle.tasks.specs.Task.{SymbolTree}
-use Rattle.names_space.specs.Names.{ScopeNames}
+use Rattle.elab_parts.specs.names_space.Names.{ScopeNames}
 use Rattle.syntax_why.specs.Lexeme.{Word}
 use Rattle.syntax_why.specs.Declarations.{Element}
-use Rattle.clones.specs.Mapped.{Map}
+use Rattle.clone_copies.specs.clones.Mapped.{Map}
 use Rattle.theory_states.specs.declared.fault.SourceFault.{SourceFault}
 use Rattle.theory_states.specs.States.{KnownTree, StateTree}
 use Rattle.clone_elements.specs.declared.elements.Plan.{Plan}

@@ -1,7 +1,7 @@
 // A theory is cloned.
 // It depends on the reading of elements, on copies and on what is known of theories.
 ghost use Rattle.std.specs.Prelude.{◌≡◌, ◌<◌, None, Some, length, map, IfErr, OnOk};
-ghost use Rattle.trees.specs.Node.{Grows};
+ghost use Rattle.tasks.specs.trees.Node.{Grows};
 ghost use Rattle.syntax_why.specs.SurfaceDeclarations.{element_of};
 ghost use Rattle.theory_states.specs.States.{known_named};
 ghost use Rattle.theory_states.specs.Meaning.{known_at, state_at, StateHeld};
@@ -18,7 +18,7 @@ use crate::reading::{naming, plan_elements};
 use clone_elements::check_variables;
 use std::alloc::Global;
 use syntax_why::{ElemTree, Link, Name, Path};
-use term_store::Store;
+use tasks::Store;
 use theory_states::{Opened, SourceFault, Typed, alias_text, find_theory, last_part};
 
 // The theory at a place is cloned, or the first fault of the clone but for type variables that occur twice.

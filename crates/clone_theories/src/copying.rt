@@ -2,9 +2,9 @@
 // They depend on copies and on what is known of theories.
 ghost use Rattle.std.specs.Prelude.{All, IfOk, OnOk};
 ghost use Rattle.std.specs.Option.{option_copied};
-ghost use Rattle.trees.specs.Node.{Grows};
+ghost use Rattle.tasks.specs.trees.Node.{Grows};
 ghost use Rattle.tasks.specs.Meaning.{symbols_at};
-ghost use Rattle.clones.specs.Meaning.{map_at, MapHeld, AreKnown};
+ghost use Rattle.clone_copies.specs.clones.Meaning.{map_at, MapHeld, AreKnown};
 ghost use Rattle.elab_parts.specs.Entries.{IsSignature, IsExtended};
 ghost use Rattle.theory_states.specs.Meaning.{state_at, StateHeld};
 ghost use Rattle.clone_elements.specs.Origins.{origin_at};
@@ -17,13 +17,13 @@ ghost use Rattle.clone_theories.specs.Planned.{planned_kept, planned_map, planne
 ghost use Rattle.clone_theories.specs.Copied.{IsRenaming, IsPlannedRenaming, IsKeptEntry, IsCopyReady, AreContents, IsTheoryCopied};
 
 use crate::own::{Own, source_of, within_of};
-use clone_copies::{Job, copy_places, map_moves, push_entries};
+use clone_copies::{
+    Job, MappedTrees as Trees, SymbolMap, copy_places, map_moves, no_trees, push_entries,
+};
 use clone_elements::{ClonedTheory, Plan, kept_symbols, map_of};
-use clones::{MappedTrees as Trees, SymbolMap, no_trees};
 use std::alloc::{AllocError, Global};
 use syntax_why::Link;
-use tasks::Signature;
-use term_store::Store;
+use tasks::{Signature, Store};
 use theory_states::{Move, Opened, Typed, bring_names};
 
 /// The map of a clone, and the symbols that become new ones, in order.

@@ -3,7 +3,7 @@
 ghost use Rattle.std.specs.Prelude.{◌≡◌, nat_eq, List, IfOk};
 ghost use Rattle.std.specs.Option.{option_copied};
 ghost use Rattle.indexmap.specs.IndexMap.{get};
-ghost use Rattle.trees.specs.Tree.{Tree};
+ghost use Rattle.tasks.specs.trees.Tree.{Tree};
 ghost use Rattle.tasks.specs.Meaning.{declarations_at};
 ghost use Rattle.theory_states.specs.Meaning.{known_at};
 ghost use Rattle.clone_elements.specs.Origins.{origin_at};
@@ -14,10 +14,9 @@ ghost use Rattle.clone_theories.specs.Owned.{IsOwnOf};
 use clone_copies::{axioms_of, own_places};
 use clone_elements::ClonedTheory;
 use indexmap::IndexMap;
-use outside::{Seq, Text};
 use std::alloc::{AllocError, Global};
 use syntax_why::Link;
-use tasks::Decl;
+use tasks::{Decl, Seq, Text};
 use theory_states::KnownTheory;
 
 /// The path of a theory, the places of its visible declarations and of its own ones, in order, and its axioms by their places, with the

@@ -1,7 +1,7 @@
 // The elements of a clone are read: their sides, and what they replace.
 // They depend on the elements of clones and on what is known of theories.
 ghost use Rattle.std.specs.Prelude.{◌≡◌, None, length, map, All, IfOk, IfErr, OnOk};
-ghost use Rattle.trees.specs.Node.{Grows};
+ghost use Rattle.tasks.specs.trees.Node.{Grows};
 ghost use Rattle.tasks.specs.Meaning.{symbols_at, DeclHeld};
 ghost use Rattle.syntax_why.specs.SurfaceDeclarations.{element_of};
 ghost use Rattle.elab_parts.specs.Entries.{IsSignature, IsExtended, AreScopes};
@@ -15,12 +15,10 @@ ghost use Rattle.clone_theories.specs.Cloned.{naming, sides_over, IsNamesFault, 
 ghost use Rattle.clone_theories.specs.Planned.{AreElementsRead, IsElementsFault};
 
 use clone_elements::{ClonedTheory, ElementFault, LeftNames, Plan, Side, make_plan, sides_of};
-use elab_names::NamingFault;
-use names_space::Scope;
+use elab_parts::{NamingFault, Scope};
 use std::alloc::Global;
 use syntax_why::ElemTree;
-use tasks::Signature;
-use term_store::Store;
+use tasks::{Signature, Store};
 use theory_states::SourceFault;
 
 /// A fault of names in the declaration of a number.

@@ -2,9 +2,9 @@
 use Rattle.std.proofs.Common.{◌≡◌, ℕ, ◌+◌, ◌≤◌, List, [], ◌∷◌, ◌++◌, map, max, reverse, length, Option, None, Some, IfSome, refl, sym, ap, subst, ◌∙◌, arith, length-append}
 use Rattle.std.specs.Option.{is_none}
 use Rattle.std.specs.List.{AllByRecursion}
-use Rattle.trees.specs.Tree.{Tree}
-use Rattle.trees.specs.Facts.{TyVarsBelow}
-use Rattle.syntax_why.specs.Lexeme.{Word}
+use Rattle.tasks.specs.trees.Tree.{Tree}
+use Rattle.tasks.specs.trees.Facts.{TyVarsBelow}
+use Rattle.elab_names.specs.syntax_why.Lexeme.{Word}
 use Rattle.elab_names.specs.Abstract.{Expression}
 use Rattle.elab_names.specs.Where.{Where}
 use Rattle.elab_walk.specs.Patterns.{taken, LocalTree}

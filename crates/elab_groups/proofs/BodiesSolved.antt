@@ -1,13 +1,13 @@
 -- Trees and matches of several bodies at the values of one solution.
 use Rattle.std.proofs.Common.{◌≡◌, ℕ, ◌+◌, List, [], ◌∷◌, map, Result, Ok, Err, IfOk, refl, sym, ap, subst, ◌∙◌}
 use Rattle.std.specs.List.{All}
-use Rattle.trees.specs.declared.TermId.{TermId}
-use Rattle.trees.specs.Tree.{Tree}
-use Rattle.trees.specs.Node.{tree_at, Holds, Grows}
-use Rattle.trees.specs.Sorts.{sort_of}
-use Rattle.trees.specs.Binding.{typing}
-use Rattle.trees.proofs.Nodes.{Grows_trans}
-use Rattle.trees.proofs.Sorts.{sort_of-change}
+use Rattle.tasks.specs.trees.declared.TermId.{TermId}
+use Rattle.tasks.specs.trees.Tree.{Tree}
+use Rattle.tasks.specs.trees.Node.{tree_at, Holds, Grows}
+use Rattle.tasks.specs.trees.Sorts.{sort_of}
+use Rattle.tasks.specs.trees.Binding.{typing}
+use Rattle.tasks.proofs.trees.Nodes.{Grows_trans}
+use Rattle.tasks.proofs.trees.Sorts.{sort_of-change}
 use Rattle.binders.specs.Visits.{sorts_typing}
 use Rattle.tasks.specs.Meaning.{trees_at}
 use Rattle.elab_walk.specs.Patterns.{Notes, taken}

@@ -2,13 +2,13 @@
 use Rattle.std.proofs.Common.{◌≡◌, ℕ, true, false, List, [], ◌∷◌, ◌++◌, map, reverse, length, Option, None, Some, refl, sym, ap, subst, ◌∙◌, arith, append_assoc, append-nil}
 use Rattle.std.specs.List.{All}
 use Rattle.std.specs.Option.{is_some, is_none}
-use Rattle.trees.specs.declared.TermId.{TermId}
-use Rattle.trees.specs.declared.Sort.{Sort}
-use Rattle.trees.specs.Tree.{Tree, Leaf, HEnd}
-use Rattle.trees.specs.Node.{tree_at, Holds, Grows}
-use Rattle.trees.specs.Sorts.{sort_of}
+use Rattle.tasks.specs.trees.declared.TermId.{TermId}
+use Rattle.tasks.specs.trees.declared.Sort.{Sort}
+use Rattle.tasks.specs.trees.Tree.{Tree, Leaf, HEnd}
+use Rattle.tasks.specs.trees.Node.{tree_at, Holds, Grows}
+use Rattle.tasks.specs.trees.Sorts.{sort_of}
 use Rattle.tasks.specs.Meaning.{trees_at}
-use Rattle.syntax_why.specs.Lexeme.{Word}
+use Rattle.elab_names.specs.syntax_why.Lexeme.{Word}
 use Rattle.elab_names.specs.Abstract.{Expression}
 use Rattle.elab_names.specs.Faults.{fault}
 use Rattle.elab_names.specs.Where.{Where}

@@ -4,17 +4,17 @@ use Rattle.std.specs.List.{All}
 use Rattle.std.specs.Option.{is_some, option_copied}
 use Rattle.std.proofs.lemmas.List.{map-append}
 use Rattle.std.proofs.lemmas.List.Elements.{All-append, All-cons, All-nil}
-use Rattle.trees.specs.declared.TermId.{TermId}
-use Rattle.trees.specs.declared.Sort.{Sort}
-use Rattle.trees.specs.Tree.{Tree}
-use Rattle.trees.specs.Node.{tree_at, Holds, Grows}
-use Rattle.trees.specs.Sorts.{sort_of}
-use Rattle.trees.proofs.Nodes.{tree_at-grows}
+use Rattle.tasks.specs.trees.declared.TermId.{TermId}
+use Rattle.tasks.specs.trees.declared.Sort.{Sort}
+use Rattle.tasks.specs.trees.Tree.{Tree}
+use Rattle.tasks.specs.trees.Node.{tree_at, Holds, Grows}
+use Rattle.tasks.specs.trees.Sorts.{sort_of}
+use Rattle.tasks.proofs.trees.Nodes.{tree_at-grows}
 use Rattle.tasks.specs.declared.declaration.Def.{Def}
 use Rattle.tasks.specs.declared.declaration.Decl.{Decl}
 use Rattle.tasks.specs.Task.{DefinitionTree, DeclarationTree, Defines}
 use Rattle.tasks.specs.Meaning.{trees_at, definition_at, declaration_at, declarations_at, DeclHeld}
-use Rattle.syntax_why.specs.declared.expressions.Expr.{Expr}
+use Rattle.elab_names.specs.syntax_why.declared.expressions.Expr.{Expr}
 use Rattle.elab_names.specs.Abstract.{Expression, expression_of}
 use Rattle.elab_walk.specs.Drafts.{due}
 use Rattle.elab_walk.proofs.Growing.{held_grows}

@@ -1,11 +1,11 @@
 -- The definitions on small groups: by computation alone.
 use Rattle.std.proofs.Common.{◌≡◌, ℕ, pos, [], ◌∷◌, Some, refl, codes}
-use Rattle.trees.specs.Tree.{Tree, Leaf, One, Two, Three, HTyVar, HTyApp, HEnd, HBound, HFun, HEq, HForall}
+use Rattle.tasks.specs.trees.Tree.{Tree, Leaf, One, Two, Three, HTyVar, HTyApp, HEnd, HBound, HFun, HEq, HForall}
 use Rattle.tasks.specs.declared.signature.SymbolKind.TheVariants.{Function}
 use Rattle.tasks.specs.Task.{int_symbol}
 use Rattle.tasks.specs.Equations.{cells}
-use Rattle.syntax_why.specs.Lexeme.{Word}
-use Rattle.names_space.specs.Names.{empty_names}
+use Rattle.elab_names.specs.syntax_why.Lexeme.{Word}
+use Rattle.elab_names.specs.names_space.Names.{empty_names}
 use Rattle.elab_names.specs.Abstract.{TypeExpression, Expression, variable_type, composed_type, no_types, applied_expression, integer_expression, no_expressions, more_expressions}
 use Rattle.elab_names.specs.declared.NamingFault.TheVariants.{Unknown, Duplicate, Arity}
 use Rattle.elab_parts.specs.Declarations.{GroupMember, token_name}

@@ -1,15 +1,15 @@
 -- Groups of functions, predicates and constants: what each makes, without a definition or with one (Why3 manual, "logical
 -- declarations"). All type equations of a group are one list.
 use Rattle.std.specs.Prelude.{◌≡◌, ℕ, suc, max, List, [], ◌∷◌, ◌++◌, map, reverse, length, Option, Some, None}
-use Rattle.trees.specs.Tree.{Tree, Leaf, HEnd}
+use Rattle.tasks.specs.trees.Tree.{Tree, Leaf, HEnd}
 use Rattle.tasks.specs.Task.{SymbolTree, DefinitionTree, BodyTree, Makes, Defines, DeclarationTree}
 use Rattle.tasks.specs.Equations.{cells, type_variables, bound_variables, for_all, equated}
 use Rattle.tasks.specs.declared.signature.SymbolKind.TheVariants.{Function, Predicate}
 use Rattle.tasks.specs.declared.signature.Signature.{Signature}
 use Rattle.unify_types.specs.Assigned.{assign}
 use Rattle.unify_types.specs.Pairs.{IsSolution}
-use Rattle.names_space.specs.Names.{ScopeNames}
-use Rattle.syntax_why.specs.Lexeme.{Word}
+use Rattle.elab_names.specs.names_space.Names.{ScopeNames}
+use Rattle.elab_names.specs.syntax_why.Lexeme.{Word}
 use Rattle.elab_names.specs.Abstract.{Expression}
 use Rattle.elab_names.specs.declared.NamingFault.{NamingFault}
 use Rattle.elab_names.specs.Faults.{first_of}

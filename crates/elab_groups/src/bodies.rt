@@ -1,9 +1,9 @@
 // The bodies of a group's members: one walk after another, into one draft.
 ghost use Rattle.std.specs.Prelude.{◌≡◌, ◌++◌, List, length, map, true, All, IfOk, OnOk};
 ghost use Rattle.std.specs.Option.{is_some};
-ghost use Rattle.trees.specs.Tree.{Tree};
-ghost use Rattle.trees.specs.Node.{tree_at, Holds, Grows};
-ghost use Rattle.trees.specs.Sorts.{sort_of};
+ghost use Rattle.tasks.specs.trees.Tree.{Tree};
+ghost use Rattle.tasks.specs.trees.Node.{tree_at, Holds, Grows};
+ghost use Rattle.tasks.specs.trees.Sorts.{sort_of};
 ghost use Rattle.tasks.specs.Meaning.{trees_at};
 ghost use Rattle.elab_names.specs.Naming.{where_at};
 ghost use Rattle.elab_walk.specs.Drafts.{HoldsType, WorldHeld, IsReady, local_at, due};
@@ -14,10 +14,8 @@ ghost use Rattle.elab_groups.specs.Bodies.{IsBodyWalked, AreBodiesWalked};
 use elab_members::{MemberSource, Signed, over_vars, push_param_names};
 use elab_names::World;
 use elab_walk::{Constraints, Local, Locals, walk};
-use outside::Text;
 use std::alloc::{AllocError, Global};
-use term_store::{Grow, Store};
-use trees::{Node, TermId};
+use tasks::{Grow, Node, Store, TermId, Text};
 
 // The variables of these names and types, after those that are there.
 fn push_locals<'a>(

@@ -1,8 +1,8 @@
 // The equations that define the members of a group.
 ghost use Rattle.std.specs.Prelude.{◌≡◌, ◌++◌, List, map, All, IfOk, OnOk};
-ghost use Rattle.trees.specs.declared.Sort.TheVariants.{Formula, Term};
-ghost use Rattle.trees.specs.Node.{tree_at, Holds, Grows};
-ghost use Rattle.trees.specs.Sorts.{sort_of, IsList};
+ghost use Rattle.tasks.specs.trees.declared.Sort.TheVariants.{Formula, Term};
+ghost use Rattle.tasks.specs.trees.Node.{tree_at, Holds, Grows};
+ghost use Rattle.tasks.specs.trees.Sorts.{sort_of, IsList};
 ghost use Rattle.tasks.specs.declared.declaration.Def.{Def};
 ghost use Rattle.tasks.specs.Meaning.{trees_at, definition_at};
 ghost use Rattle.tasks.specs.Equations.{cells, bound_variables, for_all};
@@ -14,11 +14,8 @@ ghost use Rattle.elab_groups.specs.Bodies.{IsBody, AreBodies};
 use elab_members::Signed;
 use elab_parts::variables;
 use elab_walk::list_of;
-use outside::Seq;
 use std::alloc::{AllocError, Global};
-use tasks::Def;
-use term_store::{Grow, Store};
-use trees::{Node, Op, TermId};
+use tasks::{Def, Grow, Node, Op, Seq, Store, TermId};
 
 // The list of the variables that parameters of these types bind, the outermost first.
 fn parameters_list(store: &mut Store, args: &[TermId]) -> Result<TermId, AllocError>

@@ -2,7 +2,7 @@
 ghost use Rattle.std.specs.Prelude.{◌≡◌, List, length, map, true, All, IfOk, IfErr};
 ghost use Rattle.std.specs.List.{AllByRecursion};
 ghost use Rattle.std.specs.Option.{is_some};
-ghost use Rattle.trees.specs.Node.{Grows};
+ghost use Rattle.tasks.specs.trees.Node.{Grows};
 ghost use Rattle.tasks.specs.Meaning.{trees_at, body_at, BodyHeld, declarations_at, DeclHeld};
 ghost use Rattle.elab_names.specs.Naming.{where_at};
 ghost use Rattle.elab_walk.specs.Drafts.{WorldHeld};
@@ -19,17 +19,13 @@ use crate::solving::solve_group;
 use elab_members::{
     MemberSource, Signatures, Signed, check_members, declare_members, enter_members, push_group,
 };
-use elab_names::{World, own_name};
+use elab_names::{Scope, World, own_name};
 use elab_parts::{
     ElabFault, Elaborated, Place, TypingFault, join_words, naming_fault, typing_fault, world_over,
 };
 use elab_variables::Seen;
-use names_space::Scope;
-use outside::{Seq, Text};
 use std::alloc::{AllocError, Global};
-use tasks::{Body, Decl, Signature};
-use term_store::Store;
-use trees::TermId;
+use tasks::{Body, Decl, Seq, Signature, Store, TermId, Text};
 
 // What a group's first member has in its declaration: the definitions of all members, or its own number where it has no body.
 fn body_of_group(

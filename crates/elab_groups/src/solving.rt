@@ -1,9 +1,9 @@
 // The bodies of a group at every solution of their type equations.
 ghost use Rattle.std.specs.Prelude.{◌≡◌, ◌≤◌, List, length, map, All, IfOk, IfErr};
 ghost use Rattle.std.specs.List.{AllByRecursion};
-ghost use Rattle.trees.specs.Tree.{Tree};
-ghost use Rattle.trees.specs.Node.{Holds, Grows};
-ghost use Rattle.trees.specs.Sorts.{sort_of};
+ghost use Rattle.tasks.specs.trees.Tree.{Tree};
+ghost use Rattle.tasks.specs.trees.Node.{Holds, Grows};
+ghost use Rattle.tasks.specs.trees.Sorts.{sort_of};
 ghost use Rattle.tasks.specs.Meaning.{trees_at};
 ghost use Rattle.elab_names.specs.Naming.{where_at};
 ghost use Rattle.elab_walk.specs.Drafts.{WorldHeld, IsReady, match_at, notes_at};
@@ -19,10 +19,8 @@ use elab_members::{MemberSource, Signed};
 use elab_names::World;
 use elab_parts::{TypingFault, put_matches, put_trees, solve_draft};
 use elab_walk::{Constraints, MatchAt, start_draft};
-use outside::Seq;
 use std::alloc::Global;
-use term_store::Store;
-use trees::TermId;
+use tasks::{Seq, Store, TermId};
 
 /// The bodies of a group with the matches in them.
 #[derive(Drop)]

@@ -5,9 +5,9 @@ use Rattle.std.specs.List.{All}
 use Rattle.std.proofs.lemmas.List.{map-append}
 use Rattle.std.proofs.lemmas.List.Elements.{All-append, All-cons, All-nil, recursion_from_All, All-from_recursion}
 use Rattle.std.specs.List.{AllByRecursion}
-use Rattle.trees.specs.declared.TermId.{TermId}
-use Rattle.trees.specs.Tree.{Tree}
-use Rattle.trees.specs.Node.{tree_at, Holds}
+use Rattle.tasks.specs.trees.declared.TermId.{TermId}
+use Rattle.tasks.specs.trees.Tree.{Tree}
+use Rattle.tasks.specs.trees.Node.{tree_at, Holds}
 use Rattle.tasks.specs.declared.declaration.Ind.{Ind}
 use Rattle.tasks.specs.Task.{InductiveTree}
 use Rattle.tasks.specs.Meaning.{trees_at, inductive_at, inductives_at, InductiveHeld}

@@ -1,9 +1,9 @@
 -- What names mean among the predicates of a group.
 use Rattle.std.proofs.Common.{◌≡◌, ℕ, ◌+◌, ◌≤◌, true, List, [], ◌∷◌, length, suc, refl, ◌∙◌, arith}
-use Rattle.trees.specs.Tree.{Tree}
-use Rattle.names_space.specs.declared.Table.TheVariants.{Symbols, Propositions}
-use Rattle.names_space.specs.declared.TypeName.TheVariants as stands
-use Rattle.names_space.specs.Names.{ScopeNames, with_name}
+use Rattle.tasks.specs.trees.Tree.{Tree}
+use Rattle.elab_names.specs.names_space.declared.Table.TheVariants.{Symbols, Propositions}
+use Rattle.elab_names.specs.names_space.declared.TypeName.TheVariants as stands
+use Rattle.elab_names.specs.names_space.Names.{ScopeNames, with_name}
 use Rattle.syntax_why.specs.Lexeme.{Word}
 use Rattle.elab_names.specs.Naming.{type_named}
 use Rattle.elab_parts.specs.Declarations.{InductiveClause, InductivePredicate}

@@ -3,11 +3,11 @@ use Rattle.std.proofs.Common.{◌≡◌, ℕ, Bool, true, false, List, [], ◌�
 use Rattle.std.specs.Prelude.{◌||◌, ◌&&◌}
 use Rattle.std.specs.Option.{is_some}
 use Rattle.std.specs.Str.{bytes_eq}
-use Rattle.names_space.specs.declared.Table.{Table}
-use Rattle.names_space.specs.declared.Table.TheVariants.{Symbols, Propositions}
-use Rattle.names_space.specs.declared.TypeName.{TypeName}
-use Rattle.names_space.specs.declared.TypeName.TheVariants as stands
-use Rattle.names_space.specs.Names.{ScopeNames, ScopeEntry, is_named, is_declared, innermost, with_name}
+use Rattle.elab_names.specs.names_space.declared.Table.{Table}
+use Rattle.elab_names.specs.names_space.declared.Table.TheVariants.{Symbols, Propositions}
+use Rattle.elab_names.specs.names_space.declared.TypeName.{TypeName}
+use Rattle.elab_names.specs.names_space.declared.TypeName.TheVariants as stands
+use Rattle.elab_names.specs.names_space.Names.{ScopeNames, ScopeEntry, is_named, is_declared, innermost, with_name}
 use Rattle.syntax_why.specs.Lexeme.{Word}
 use Rattle.elab_names.specs.declared.NamingFault.{NamingFault}
 use Rattle.elab_names.specs.declared.NamingFault.TheVariants.{Duplicate}

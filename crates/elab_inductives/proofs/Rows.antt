@@ -1,10 +1,10 @@
 -- The definitions on small groups of inductive predicates: by computation alone.
 use Rattle.std.proofs.Common.{◌≡◌, ℕ, pos, List, [], ◌∷◌, Some, None, refl, codes}
-use Rattle.trees.specs.Tree.{Tree, Leaf, One, HTyApp, HTyVar, HEnd}
+use Rattle.tasks.specs.trees.Tree.{Tree, Leaf, One, HTyApp, HTyVar, HEnd}
 use Rattle.tasks.specs.declared.signature.SymbolKind.TheVariants.{Predicate}
 use Rattle.tasks.specs.Task.{int_symbol}
 use Rattle.syntax_why.specs.Lexeme.{Word}
-use Rattle.names_space.specs.Names.{empty_names}
+use Rattle.elab_names.specs.names_space.Names.{empty_names}
 use Rattle.elab_names.specs.Abstract.{TypeExpression, Expression, variable_type, composed_type, no_types, applied_expression, integer_expression, cast_expression, no_expressions, more_expressions}
 use Rattle.elab_names.specs.declared.NamingFault.TheVariants.{Unknown, Duplicate, WrongKind}
 use Rattle.elab_parts.specs.Declarations.{InductiveClause, InductivePredicate, token_name}

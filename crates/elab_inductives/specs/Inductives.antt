@@ -2,11 +2,11 @@
 -- predicates of a group see each other, their clauses are closed formulas, and all type equations are one list.
 use Rattle.std.specs.Prelude.{◌≡◌, ℕ, suc, Bool, true, ◌||◌, List, [], ◌∷◌, ◌++◌, map, take, drop, length, Option, Some, None}
 use Rattle.std.specs.Option.{is_some}
-use Rattle.trees.specs.Tree.{Tree}
+use Rattle.tasks.specs.trees.Tree.{Tree}
 use Rattle.tasks.specs.Task.{SymbolTree, InductiveTree, Induces, DeclarationTree}
 use Rattle.tasks.specs.declared.signature.Signature.{Signature}
-use Rattle.names_space.specs.Names.{ScopeNames, with_entry}
-use Rattle.names_space.specs.declared.Table.TheVariants.{Symbols, Propositions}
+use Rattle.elab_names.specs.names_space.Names.{ScopeNames, with_entry}
+use Rattle.elab_names.specs.names_space.declared.Table.TheVariants.{Symbols, Propositions}
 use Rattle.syntax_why.specs.Lexeme.{Word}
 use Rattle.elab_names.specs.declared.NamingFault.{NamingFault}
 use Rattle.elab_names.specs.declared.NamingFault.TheVariants.{Duplicate}

@@ -1,6 +1,6 @@
 -- Inductive predicates in code, and what is made of them.
 use Rattle.std.specs.Prelude.{◌≡◌, ℕ, List, [], map, All}
-use Rattle.trees.specs.Tree.{Tree}
+use Rattle.tasks.specs.trees.Tree.{Tree}
 use Rattle.tasks.specs.Meaning.{declarations_at, DeclHeld}
 use Rattle.syntax_why.specs.SurfaceDeclarations.{clause_of, inductive_of}
 use Rattle.syntax_why.specs.declared.declarations.ClauseTree.{ClauseTree}

@@ -1,7 +1,7 @@
 // The signatures of clauses, which have type variables alone, and the clauses of each predicate among those of a group.
 ghost use Rattle.std.specs.Prelude.{◌≡◌, ◌++◌, List, None, [], length, map, All, IfOk, OnOk};
-ghost use Rattle.trees.specs.Tree.{Tree};
-ghost use Rattle.trees.specs.Node.{Holds};
+ghost use Rattle.tasks.specs.trees.Tree.{Tree};
+ghost use Rattle.tasks.specs.trees.Node.{Holds};
 ghost use Rattle.tasks.specs.Meaning.{trees_at, inductives_at, InductiveHeld};
 ghost use Rattle.elab_names.specs.Abstract.{expression_of};
 ghost use Rattle.elab_variables.specs.Seen.{seen};
@@ -12,11 +12,9 @@ ghost use Rattle.elab_inductives.specs.Sources.{predicate_at, predicates_at, cla
 
 use elab_members::{Signed, signature_seen};
 use elab_variables::{Seen, enter_variables};
-use outside::{Seq, Text};
 use std::alloc::{AllocError, Global};
 use syntax_why::{ClauseTree, Expr, IndTree, ParamTree};
-use tasks::Ind;
-use trees::TermId;
+use tasks::{Ind, Seq, TermId, Text};
 
 // The type variables of a clause: those of its predicate's parameters, then its others.
 fn clause_vars(alloc: Global, params: &[ParamTree], prop: &Expr) -> Result<Seq<Text>, AllocError>

@@ -1,6 +1,6 @@
 // Groups of inductive predicates where they are: what is made of them, or their first fault.
 ghost use Rattle.std.specs.Prelude.{◌≡◌, length, All, IfOk, IfErr};
-ghost use Rattle.trees.specs.Node.{Holds, Grows};
+ghost use Rattle.tasks.specs.trees.Node.{Holds, Grows};
 ghost use Rattle.tasks.specs.Meaning.{trees_at, declarations_at, DeclHeld};
 ghost use Rattle.elab_names.specs.Naming.{where_at};
 ghost use Rattle.elab_walk.specs.Drafts.{WorldHeld};
@@ -18,18 +18,14 @@ use crate::naming::{check_inductives, declare_group};
 use crate::sources::{enter_inductives, push_formulas, push_predicates};
 use elab_groups::solve_group;
 use elab_members::{Signatures, push_group, signature_seen};
-use elab_names::{World, own_name};
+use elab_names::{Scope, World, own_name};
 use elab_parts::{
     ElabFault, Elaborated, Place, TypingFault, join_words, naming_fault, typing_fault, world_over,
 };
 use elab_variables::Seen;
-use names_space::Scope;
-use outside::{Seq, Text};
 use std::alloc::{AllocError, Global};
 use syntax_why::IndTree;
-use tasks::{Body, Decl, Signature};
-use term_store::Store;
-use trees::TermId;
+use tasks::{Body, Decl, Seq, Signature, Store, TermId, Text};
 
 // The declaration of a group with its clauses, whose entries stand from a number on.
 fn inductive_decls(

@@ -1,7 +1,7 @@
 // The names that inductive predicates and their clauses make, and the first fault of those that they use.
 ghost use Rattle.std.specs.Prelude.{◌≡◌, ◌++◌, ◌∷◌, [], true, List, OnOk};
-ghost use Rattle.trees.specs.Tree.{Tree};
-ghost use Rattle.names_space.specs.Names.{with_name};
+ghost use Rattle.tasks.specs.trees.Tree.{Tree};
+ghost use Rattle.elab_names.specs.names_space.Names.{with_name};
 ghost use Rattle.elab_names.specs.Naming.{where_at, Tells};
 ghost use Rattle.elab_parts.specs.Declarations.{token_name, clauses_fault, inductives_fault, made_by_inductives, made_fault};
 ghost use Rattle.elab_parts.specs.Outcomes.{declared_in};
@@ -9,12 +9,13 @@ ghost use Rattle.elab_inductives.specs.Inductives.{with_clauses, with_inductives
 ghost use Rattle.elab_inductives.specs.Sources.{predicate_at, predicates_at, clauses_at};
 
 use elab_members::{MemberSource, check_params, declare_member};
-use elab_names::{Names, NamingFault, World, check, own_name, variable_named};
+use elab_names::{
+    Names, NamingFault, Scope, Table, TypeName, World, check, own_name, variable_named,
+};
 use elab_parts::declare;
-use names_space::{Scope, Table, TypeName};
-use outside::Text;
 use std::alloc::Global;
 use syntax_why::{ClauseTree, IndTree, Style};
+use tasks::Text;
 
 // The first fault of the names that clauses use.
 fn check_clauses(

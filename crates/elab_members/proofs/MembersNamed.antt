@@ -1,6 +1,6 @@
 -- What names mean among the members of a group.
 use Rattle.std.proofs.Common.{◌≡◌, ℕ, ◌+◌, ◌≤◌, true, List, [], ◌∷◌, map, length, suc, refl, ap, ◌∙◌, arith}
-use Rattle.trees.specs.Tree.{Tree}
+use Rattle.term_store.specs.trees.Tree.{Tree}
 use Rattle.names_space.specs.declared.Table.TheVariants.{Symbols}
 use Rattle.names_space.specs.declared.TypeName.TheVariants as stands
 use Rattle.names_space.specs.Names.{ScopeNames, with_name}

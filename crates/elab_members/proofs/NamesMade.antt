@@ -16,7 +16,7 @@ use Rattle.elab_names.proofs.Placed.{one_more}
 use Rattle.elab_parts.specs.Declarations.{GroupMember, Made, makes, binds_names, names_of_parameters, list_fault, made_before, made_by_members, made_fault}
 use Rattle.elab_parts.specs.Outcomes.{declared_in}
 use Rattle.elab_members.specs.Members.{member_made, members_made}
-use Rattle.outside.proofs.Bools.{or_grouped as or_assoc}
+use Rattle.names_space.proofs.outside.Bools.{or_grouped as or_assoc}
 use Rattle.elab_names.proofs.Told.{three as first_assoc}
 use Rattle.std.proofs.lemmas.Bool.{or_right as or_true}
 

@@ -1,8 +1,8 @@
 -- Signatures whose names are there: closed at their own type variables, their types have no others.
 use Rattle.std.proofs.Common.{◌≡◌, ℕ, true, false, List, [], ◌∷◌, ◌++◌, length, Option, Some, None, IfSome, option_map, refl, sym, ap, subst, ◌∙◌}
 use Rattle.std.specs.Option.{is_some}
-use Rattle.trees.specs.Tree.{Tree}
-use Rattle.trees.specs.Facts.{TyVarsBelow}
+use Rattle.term_store.specs.trees.Tree.{Tree}
+use Rattle.term_store.specs.trees.Facts.{TyVarsBelow}
 use Rattle.syntax_why.specs.Lexeme.{Word}
 use Rattle.elab_names.specs.Abstract.{TypeExpression, BoundNames, quantified_expression, true_expression, no_expressions}
 use Rattle.elab_names.specs.declared.NamingFault.{NamingFault}

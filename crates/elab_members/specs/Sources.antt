@@ -2,9 +2,9 @@
 use Rattle.std.specs.Prelude.{◌≡◌, List, [], ◌∷◌, ◌++◌, map, length, All, Option, Some, None, option_map, IfSome, slice_get}
 use Rattle.std.specs.Option.{option_copied, is_none}
 use Rattle.std.specs.List.{AllByRecursion}
-use Rattle.trees.specs.Tree.{Tree}
-use Rattle.trees.specs.Node.{tree_at}
-use Rattle.trees.specs.Facts.{TyVarsBelow}
+use Rattle.term_store.specs.trees.Tree.{Tree}
+use Rattle.term_store.specs.trees.Node.{tree_at}
+use Rattle.term_store.specs.trees.Facts.{TyVarsBelow}
 use Rattle.tasks.specs.Meaning.{symbols_at, trees_at}
 use Rattle.tasks.specs.Task.{SymbolTree, int_symbol}
 use Rattle.tasks.specs.declared.signature.Signature.{Signature}

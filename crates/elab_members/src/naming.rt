@@ -1,6 +1,6 @@
 // The names that members make, and the first fault of those that they use.
 ghost use Rattle.std.specs.Prelude.{◌≡◌, ◌++◌, ℕ, true, false, List, map, OnOk};
-ghost use Rattle.trees.specs.Tree.{Tree};
+ghost use Rattle.term_store.specs.trees.Tree.{Tree};
 ghost use Rattle.names_space.specs.Names.{with_name};
 ghost use Rattle.names_space.specs.declared.TypeName.TheVariants as stands;
 ghost use Rattle.elab_names.specs.Naming.{where_at, Tells};
@@ -14,8 +14,7 @@ use crate::params::{check_params, gather_params, signature_seen};
 use crate::sources::MemberSource;
 use elab_names::{Names, NamingFault, World, check, check_form, own_name, variable_named};
 use elab_parts::{declare, find_repeated};
-use names_space::{Scope, Table, TypeName};
-use outside::Text;
+use names_space::{Scope, Table, Text, TypeName};
 use std::alloc::{AllocError, Global};
 use syntax_why::{Name, ParamTree};
 

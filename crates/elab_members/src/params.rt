@@ -1,8 +1,8 @@
 // The parameters of functions and predicates: their names, their types, and what is seen in them.
 ghost use Rattle.std.specs.Prelude.{◌≡◌, ◌++◌, List, map, true, All, IfOk, OnOk};
 ghost use Rattle.std.specs.Option.{option_copied};
-ghost use Rattle.trees.specs.Tree.{Tree};
-ghost use Rattle.trees.specs.Node.{tree_at, Grows};
+ghost use Rattle.term_store.specs.trees.Tree.{Tree};
+ghost use Rattle.term_store.specs.trees.Node.{tree_at, Grows};
 ghost use Rattle.tasks.specs.Meaning.{trees_at};
 ghost use Rattle.elab_names.specs.Naming.{where_at, Tells};
 ghost use Rattle.elab_variables.specs.Entered.{seen_at};
@@ -16,12 +16,11 @@ use elab_names::{NamingFault, World, check_form};
 use elab_parts::{NamedToken, gather};
 use elab_variables::{Seen, enter_form};
 use elab_walk::type_of_form;
-use outside::Seq;
+use names_space::Seq;
 use std::alloc::{AllocError, Global};
 use syntax_why::{Name, ParamTree, TypeTree};
 use tasks::SymbolKind;
-use term_store::Store;
-use trees::TermId;
+use term_store::{Store, TermId};
 
 /// The first fault of the names of parameters' types.
 pub fn check_params(

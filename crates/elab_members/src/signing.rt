@@ -1,7 +1,7 @@
 // The signatures of members, and their entries.
 ghost use Rattle.std.specs.Prelude.{◌≡◌, ◌++◌, ◌∷◌, [], ℕ, List, length, map, All, IfOk, OnOk};
-ghost use Rattle.trees.specs.Tree.{Tree};
-ghost use Rattle.trees.specs.Node.{Grows};
+ghost use Rattle.term_store.specs.trees.Tree.{Tree};
+ghost use Rattle.term_store.specs.trees.Node.{Grows};
 ghost use Rattle.tasks.specs.Meaning.{symbols_at};
 ghost use Rattle.elab_names.specs.Naming.{where_at};
 ghost use Rattle.elab_walk.specs.Drafts.{SymbolTyped, WorldHeld};
@@ -16,12 +16,10 @@ use crate::sources::MemberSource;
 use elab_names::{World, own_name};
 use elab_parts::{Place, join_words, push_tuples, world_over};
 use elab_walk::type_of_form;
-use names_space::Scope;
-use outside::{Seq, Text};
+use names_space::{Scope, Seq, Text};
 use std::alloc::{AllocError, Global};
 use tasks::{Signature, SymbolInfo};
-use term_store::Store;
-use trees::TermId;
+use term_store::{Store, TermId};
 
 /// The type variables of a signature, the types of its parameters and of its result.
 #[derive(Drop)]

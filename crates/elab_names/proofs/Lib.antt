@@ -1,3 +1,4 @@
+pub use Rattle.names_space.proofs as names_space
 pub mod Placed
 pub mod Nodes
 pub mod Told

@@ -14,6 +14,7 @@ ghost use Rattle.std.specs.Prelude.{◌≡◌};
 
 pub use bound::Names;
 pub use names::{check, let_name};
+pub use names_space::{Scope, Table, TypeName};
 pub use operators::{Operation, infix_operation, own_name, prefix_operator};
 pub use patterns::{check_pattern, check_patterns};
 use std::alloc::{AllocError, AllocFailed};

@@ -6,8 +6,8 @@ use Rattle.std.specs.List.{All, AllByRecursion}
 use Rattle.std.proofs.lemmas.List.Elements.{recursion_from_All, All-from_recursion, All-cons, All-set}
 use Rattle.std.proofs.Math.ListN.{get_or-append}
 use Rattle.std.proofs.lemmas.Bool.{eqb-true}
-use Rattle.trees.specs.Tree.{Tree}
-use Rattle.trees.specs.Node.{Grows}
+use Rattle.tasks.specs.trees.Tree.{Tree}
+use Rattle.tasks.specs.trees.Node.{Grows}
 use Rattle.tasks.specs.Task.{SymbolTree, symbol_or, int_symbol}
 use Rattle.tasks.specs.Vocabulary.{is_constructor_kind}
 use Rattle.names_space.specs.declared.Table.{Table}
@@ -21,11 +21,11 @@ use Rattle.elab_walk.specs.Patterns.{entry_of}
 use Rattle.elab_walk.specs.Scoped.{IsScopedMeaning}
 use Rattle.elab_walk.specs.Drafts.{MeaningHeld}
 use Rattle.elab_walk.proofs.Growing.{type_grows, type_stays}
-use Rattle.trees.specs.Facts.{TyVarsBelow}
+use Rattle.tasks.specs.trees.Facts.{TyVarsBelow}
 use Rattle.elab_parts.specs.Alike.{meaning_arity, shape, AreScopesAlike}
 use Rattle.elab_parts.specs.Entries.{IsTypeNameMeaning, IsThing, IsEntry, AreScopes, builtin, is_tuple, tuple_from, tuple_in}
 use Rattle.elab_parts.specs.Outcomes.{over}
-use Rattle.plain_laws.proofs.Bools.{and_first as and_left, and_second as and_right}
+use Rattle.tasks.proofs.plain_laws.Bools.{and_first as and_left, and_second as and_right}
 use Rattle.names_space.proofs.Listed.{same_table_is as same_is}
 
 -- ---- what is found is the thing of an entry

@@ -7,14 +7,14 @@ use Rattle.std.proofs.Math.ListN.{length-map}
 use Rattle.std.proofs.Math.Seq.{drop-append_seam}
 use Rattle.std.proofs.lemmas.List.{get_or-map}
 use Rattle.std.proofs.lemmas.Bool.{cases_order}
-use Rattle.trees.specs.declared.TermId.{TermId}
-use Rattle.trees.specs.declared.Sort.TheVariants.{Kind}
-use Rattle.trees.specs.Sorts.{sort_of}
-use Rattle.trees.specs.Tree.{Tree}
-use Rattle.trees.specs.Node.{tree_at, Holds, Grows}
-use Rattle.trees.specs.Binding.{inst_types, TyVar}
-use Rattle.trees.specs.Facts.{TyVarsBelow}
-use Rattle.trees.proofs.Nodes.{tree_at-grows, Grows_trans}
+use Rattle.tasks.specs.trees.declared.TermId.{TermId}
+use Rattle.tasks.specs.trees.declared.Sort.TheVariants.{Kind}
+use Rattle.tasks.specs.trees.Sorts.{sort_of}
+use Rattle.tasks.specs.trees.Tree.{Tree}
+use Rattle.tasks.specs.trees.Node.{tree_at, Holds, Grows}
+use Rattle.tasks.specs.trees.Binding.{inst_types, TyVar}
+use Rattle.tasks.specs.trees.Facts.{TyVarsBelow}
+use Rattle.tasks.proofs.trees.Nodes.{tree_at-grows, Grows_trans}
 use Rattle.tasks.specs.Meaning.{trees_at}
 use Rattle.unify_types.specs.declared.Solution.{Solution}
 use Rattle.unify_types.specs.declared.UnifyFault.{UnifyFault}

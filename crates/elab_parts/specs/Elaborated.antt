@@ -1,6 +1,6 @@
 -- Type equations of a declaration: when they determine its trees, and their first fault (rank-1 polymorphism; most general types).
 use Rattle.std.specs.Prelude.{◌≡◌, ℕ, ◌+◌, ◌<◌, List, [], take, map, length, slice_get, Some}
-use Rattle.trees.specs.Tree.{Tree}
+use Rattle.tasks.specs.trees.Tree.{Tree}
 use Rattle.unify_types.specs.Assigned.{assign}
 use Rattle.unify_types.specs.Pairs.{IsSolution, IsSolvable, IsUnsolvable, IsLeftOpen}
 use Rattle.elab_names.specs.declared.NamingFault.{NamingFault}

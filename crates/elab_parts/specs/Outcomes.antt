@@ -1,7 +1,7 @@
 -- What the elaboration of a declaration gives where it is, or its first fault (Why3 manual, "logical declarations"). Each kind of
 -- declaration says by these what it makes.
 use Rattle.std.specs.Prelude.{◌≡◌, ℕ, Bool, true, All, List, ◌++◌, map, length, Option, Some, None, option_map}
-use Rattle.trees.specs.Tree.{Tree, Leaf, HTyRigid}
+use Rattle.tasks.specs.trees.Tree.{Tree, Leaf, HTyRigid}
 use Rattle.tasks.specs.Task.{SymbolTree, DeclarationTree}
 use Rattle.tasks.specs.Meaning.{symbols_at, declarations_at, DeclHeld}
 use Rattle.tasks.specs.declared.signature.Signature.{Signature}

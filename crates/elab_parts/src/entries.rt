@@ -2,9 +2,9 @@
 // They depend on signatures and types; each kind of declaration enters what it makes by them.
 ghost use Rattle.std.specs.Prelude.{◌≡◌, ◌+◌, ◌<◌, ◌^◌, ◌++◌, ◌∷◌, [], ℕ, List, length, All, IfOk, OnOk};
 ghost use Rattle.std.specs.Fmt.{decimal};
-ghost use Rattle.trees.specs.Tree.{Tree};
-ghost use Rattle.trees.specs.Node.{tree_at, Grows};
-ghost use Rattle.trees.specs.Facts.{TyVarsBelow};
+ghost use Rattle.tasks.specs.trees.Tree.{Tree};
+ghost use Rattle.tasks.specs.trees.Node.{tree_at, Grows};
+ghost use Rattle.tasks.specs.trees.Facts.{TyVarsBelow};
 ghost use Rattle.tasks.specs.Meaning.{symbol_at, symbols_at, trees_at};
 ghost use Rattle.tasks.specs.Equations.{type_variables};
 ghost use Rattle.tasks.specs.Vocabulary.{is_constructor_kind};
@@ -13,11 +13,9 @@ ghost use Rattle.elab_walk.specs.Drafts.{HoldsType, SymbolTyped};
 ghost use Rattle.elab_parts.specs.Entries.{type_entry, projections, constructor_entries, tuple_entries, is_tuple, tuple_in, wanting_tuple, wanting_tuples, IsSignature, IsExtended};
 
 use elab_walk::list_of;
-use outside::{Seq, Text};
+use names_space::{Seq, Text};
 use std::alloc::{AllocError, Global};
-use tasks::{Signature, SymbolInfo, SymbolKind, tuple_among};
-use term_store::{Grow, Store};
-use trees::{Node, TermId};
+use tasks::{Grow, Node, Signature, Store, SymbolInfo, SymbolKind, TermId, tuple_among};
 
 /// A word after another.
 pub fn join_words(alloc: Global, first: &[u8], second: &[u8]) -> Result<Text, AllocError>

@@ -10,11 +10,18 @@ mod solution;
 
 ghost use Rattle.std.specs.Prelude.{◌≡◌};
 
+pub use binders::inst_types;
+pub use elab_names::{Names, NamingFault, check, check_form, own_name};
+pub use elab_variables::{Seen, enter_form, enter_variables};
+pub use elab_walk::{MatchAt, type_of_form};
 pub use entries::{join_words, push_constructor, push_entry, push_tuples, push_type, variables};
 pub use made::{Elaborated, Place, declare, naming_fault, typing_fault};
 pub use names::{NamedToken, find_repeated, gather, texts_of, world_over};
+pub use names_space::{NameFault, Scope, Seq, Table, Text, TypeName};
 pub use solution::{Formula, TypingFault, put_matches, put_trees, solve_draft, solve_formula};
 use std::alloc::{AllocError, AllocFailed};
+pub use syntax_why::PropKind;
+pub use tasks::{Ints, Signature, Store};
 
 /// Why a declaration isn't elaborated; `decl` is its number.
 #[derive(Clone, Copy)]

@@ -9,8 +9,7 @@ use crate::ElabFault;
 use crate::solution::TypingFault;
 use elab_names::NamingFault;
 use elab_walk::MatchAt;
-use names_space::{NameFault, Scope, Table, TypeName};
-use outside::Seq;
+use names_space::{NameFault, Scope, Seq, Table, TypeName};
 use tasks::Decl;
 
 /// What a declaration becomes.

@@ -2,7 +2,7 @@
 // They depend on scopes and signatures; each kind of declaration depends on them.
 ghost use Rattle.std.specs.Prelude.{◌≡◌, ℕ, List, [], ◌++◌, length, map, IfOk, OnOk, option_map};
 ghost use Rattle.std.specs.Option.{is_some};
-ghost use Rattle.trees.specs.Tree.{Tree};
+ghost use Rattle.tasks.specs.trees.Tree.{Tree};
 ghost use Rattle.tasks.specs.Meaning.{symbols_at};
 ghost use Rattle.elab_names.specs.Abstract.{texts_of_names};
 ghost use Rattle.elab_names.specs.Where.{place_of};
@@ -16,8 +16,7 @@ ghost use Rattle.elab_parts.specs.Entries.{tuple_in, IsSignature, AreScopes};
 ghost use Rattle.elab_parts.specs.Outcomes.{over};
 
 use elab_names::World;
-use names_space::Scope;
-use outside::Text;
+use names_space::{Scope, Text};
 use std::alloc::{AllocError, Global};
 use syntax_why::Name;
 use tasks::Signature;

@@ -1,7 +1,7 @@
 // A formula from its expression: the walk, the solution of its equations, and the types put in.
 // It depends on the walk of trees and on unification.
 ghost use Rattle.std.specs.Prelude.{◌≡◌, ◌≤◌, ◌++◌, None, IfOk, IfErr, OnOk, [], length, map, true, false, All};
-ghost use Rattle.trees.specs.Node.{tree_at, Holds, Grows};
+ghost use Rattle.tasks.specs.trees.Node.{tree_at, Holds, Grows};
 ghost use Rattle.tasks.specs.Meaning.{trees_at};
 ghost use Rattle.elab_names.specs.Abstract.{expression_of};
 ghost use Rattle.elab_names.specs.Faults.{fault};
@@ -15,11 +15,10 @@ ghost use Rattle.elab_parts.specs.Values.{AreKinds, IsTypeNumbered, AreSolutionV
 use binders::inst_types;
 use elab_names::World;
 use elab_walk::{Constraints, Locals, MatchAt, start_draft, walk};
-use outside::Seq;
+use names_space::Seq;
 use std::alloc::{AllocError, AllocFailed, Global};
 use syntax_why::Expr;
-use term_store::{Grow, Store};
-use trees::{Node, TermId};
+use tasks::{Grow, Node, Store, TermId};
 use unify_types::{Solution, UnifyFault, solve};
 
 /// What is wrong with the types of a declaration.

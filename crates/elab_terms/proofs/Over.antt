@@ -1,11 +1,11 @@
 -- Facts about a place, said of an equal one.
 use Rattle.std.proofs.Common.{◌≡◌, ℕ, List, [], ◌∷◌, map, None, refl, ap, subst, Result, Ok, Err}
 use Rattle.std.specs.Prelude.{OnOk}
-use Rattle.trees.specs.Tree.{Tree}
+use Rattle.tasks.specs.trees.Tree.{Tree}
 use Rattle.syntax_why.specs.declared.names.Name.{Name}
-use Rattle.elab_names.specs.Abstract.{Expression, texts_of_names}
-use Rattle.elab_names.specs.Where.{Where}
-use Rattle.elab_walk.specs.Pieces.{piece}
+use Rattle.elab_parts.specs.elab_names.Abstract.{Expression, texts_of_names}
+use Rattle.elab_parts.specs.elab_names.Where.{Where}
+use Rattle.elab_parts.specs.elab_walk.Pieces.{piece}
 use Rattle.elab_parts.specs.declared.solution.TypingFault.{TypingFault}
 use Rattle.elab_parts.specs.Declarations.{word, words}
 use Rattle.elab_parts.specs.Elaborated.{IsSolved, IsTypingFault}

@@ -2,8 +2,8 @@
 use Rattle.std.proofs.Common.{◌≡◌, ℕ, ◌+◌, true, false, List, [], ◌∷◌, ◌++◌, map, length, Option, None, refl, sym, ap, subst, ◌∙◌, arith, length-append, Err}
 use Rattle.std.specs.List.{All}
 use Rattle.std.proofs.Math.ListN.{length-map}
-use Rattle.trees.specs.Tree.{Tree}
-use Rattle.trees.specs.Node.{Grows}
+use Rattle.tasks.specs.trees.Tree.{Tree}
+use Rattle.tasks.specs.trees.Node.{Grows}
 use Rattle.tasks.specs.Task.{SymbolTree, Says}
 use Rattle.tasks.specs.Rigid.{rigid_symbol}
 use Rattle.tasks.specs.Meaning.{symbol_at, symbols_at, declarations_at, DeclHeld}
@@ -13,14 +13,14 @@ use Rattle.names_space.specs.declared.TypeName.TheVariants as stands
 use Rattle.names_space.specs.Names.{ScopeNames, with_name}
 use Rattle.syntax_why.specs.Lexeme.{Word}
 use Rattle.syntax_why.specs.declared.declarations.PropKind.{PropKind}
-use Rattle.elab_names.specs.Abstract.{Expression}
-use Rattle.elab_names.specs.declared.NamingFault.{NamingFault}
-use Rattle.elab_names.specs.Faults.{fault}
-use Rattle.elab_names.specs.Naming.{Tells}
-use Rattle.elab_names.specs.Where.{Where}
-use Rattle.elab_walk.specs.Pieces.{NotedTree, piece}
-use Rattle.elab_variables.specs.Seen.{SeenTree}
-use Rattle.elab_walk.specs.Drafts.{match_at, MatchHeld}
+use Rattle.elab_parts.specs.elab_names.Abstract.{Expression}
+use Rattle.elab_parts.specs.elab_names.declared.NamingFault.{NamingFault}
+use Rattle.elab_parts.specs.elab_names.Faults.{fault}
+use Rattle.elab_parts.specs.elab_names.Naming.{Tells}
+use Rattle.elab_parts.specs.elab_names.Where.{Where}
+use Rattle.elab_parts.specs.elab_walk.Pieces.{NotedTree, piece}
+use Rattle.elab_parts.specs.elab_variables.Seen.{SeenTree}
+use Rattle.elab_parts.specs.elab_walk.Drafts.{match_at, MatchHeld}
 use Rattle.elab_parts.specs.declared.made.Elaborated.{Elaborated}
 use Rattle.elab_parts.specs.declared.made.Place.{Place}
 use Rattle.elab_parts.specs.declared.solution.TypingFault.{TypingFault}

@@ -3,11 +3,11 @@ use Rattle.std.proofs.Common.{◌≡◌, ℕ, ◌+◌, true, false, List, [], �
 use Rattle.std.proofs.Math.ListN.{length-map}
 use Rattle.std.specs.List.{All}
 use Rattle.std.proofs.lemmas.List.Elements.{All-nil, All-cons}
-use Rattle.trees.specs.declared.TermId.{TermId}
-use Rattle.trees.specs.Tree.{Tree}
-use Rattle.trees.specs.Node.{tree_at, Grows}
-use Rattle.trees.proofs.Nodes.{Grows_refl}
-use Rattle.trees.specs.Facts.{TyVarsBelow}
+use Rattle.tasks.specs.trees.declared.TermId.{TermId}
+use Rattle.tasks.specs.trees.Tree.{Tree}
+use Rattle.tasks.specs.trees.Node.{tree_at, Grows}
+use Rattle.tasks.proofs.trees.Nodes.{Grows_refl}
+use Rattle.tasks.specs.trees.Facts.{TyVarsBelow}
 use Rattle.tasks.specs.Task.{MakesType, BodyTree, DeclarationTree}
 use Rattle.tasks.specs.Meaning.{symbol_at, symbols_at, body_at, declarations_at, BodyHeld, DeclHeld}
 use Rattle.tasks.specs.declared.declaration.Body.{Body}
@@ -18,10 +18,10 @@ use Rattle.tasks.specs.declared.signature.Signature.{Signature}
 use Rattle.names_space.specs.declared.Table.TheVariants.{Types}
 use Rattle.names_space.specs.declared.TypeName.TheVariants as stands
 use Rattle.names_space.specs.Names.{ScopeNames, with_name}
-use Rattle.elab_names.specs.Abstract.{TypeExpression}
-use Rattle.elab_names.specs.Faults.{form_fault}
-use Rattle.elab_walk.specs.Pieces.{type_at}
-use Rattle.elab_walk.specs.Drafts.{HoldsType, MatchHeld, match_at}
+use Rattle.elab_parts.specs.elab_names.Abstract.{TypeExpression}
+use Rattle.elab_parts.specs.elab_names.Faults.{form_fault}
+use Rattle.elab_parts.specs.elab_walk.Pieces.{type_at}
+use Rattle.elab_parts.specs.elab_walk.Drafts.{HoldsType, MatchHeld, match_at}
 use Rattle.elab_parts.specs.declared.made.Elaborated.{Elaborated}
 use Rattle.elab_parts.specs.declared.made.Place.{Place}
 use Rattle.elab_parts.specs.Declarations.{TokenName, words, abstract_type, alias, made_names, made_fault}

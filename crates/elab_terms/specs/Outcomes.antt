@@ -1,8 +1,8 @@
 -- What the elaboration of each kind of declaration gives, or its first fault (Why3 manual, "logical declarations").
 use Rattle.std.specs.Prelude.{◌≡◌, ℕ, ◌+◌, true, false, All, List, [], ◌∷◌, ◌++◌, map, length, Option, Some, None}
-use Rattle.trees.specs.Tree.{Tree, Leaf, HTyRigid}
-use Rattle.trees.specs.Node.{tree_at}
-use Rattle.trees.specs.Binding.{inst_types}
+use Rattle.tasks.specs.trees.Tree.{Tree, Leaf, HTyRigid}
+use Rattle.tasks.specs.trees.Node.{tree_at}
+use Rattle.tasks.specs.trees.Binding.{inst_types}
 use Rattle.tasks.specs.Task.{MakesType, Says}
 use Rattle.tasks.specs.Rigid.{rigid_symbol}
 use Rattle.tasks.specs.Meaning.{symbols_at, declarations_at, DeclHeld}
@@ -14,14 +14,14 @@ use Rattle.syntax_why.specs.Lexeme.{Word}
 use Rattle.syntax_why.specs.Declarations.{SyntaxDeclaration, use_decl, clone_decl, scope_decl}
 use Rattle.syntax_why.specs.declared.declarations.PropKind.{PropKind}
 use Rattle.syntax_why.specs.declared.declarations.PropKind.TheVariants as kind
-use Rattle.elab_names.specs.Abstract.{TypeExpression, Expression}
-use Rattle.elab_names.specs.declared.NamingFault.{NamingFault}
-use Rattle.elab_names.specs.Faults.{first_of, fault, form_fault}
-use Rattle.elab_variables.specs.Seen.{SeenTree, seen, form_seen}
-use Rattle.elab_variables.specs.declared.variables.Seen.{Seen as SeenCode}
-use Rattle.elab_walk.specs.Patterns.{Notes, no_notes}
-use Rattle.elab_walk.specs.Pieces.{NotedTree, piece, type_at}
-use Rattle.elab_walk.specs.Drafts.{HoldsType, match_at, MatchHeld}
+use Rattle.elab_parts.specs.elab_names.Abstract.{TypeExpression, Expression}
+use Rattle.elab_parts.specs.elab_names.declared.NamingFault.{NamingFault}
+use Rattle.elab_parts.specs.elab_names.Faults.{first_of, fault, form_fault}
+use Rattle.elab_parts.specs.elab_variables.Seen.{SeenTree, seen, form_seen}
+use Rattle.elab_parts.specs.elab_variables.declared.variables.Seen.{Seen as SeenCode}
+use Rattle.elab_parts.specs.elab_walk.Patterns.{Notes, no_notes}
+use Rattle.elab_parts.specs.elab_walk.Pieces.{NotedTree, piece, type_at}
+use Rattle.elab_parts.specs.elab_walk.Drafts.{HoldsType, match_at, MatchHeld}
 use Rattle.elab_parts.specs.declared.ElabFault.{ElabFault}
 use Rattle.elab_parts.specs.declared.made.Elaborated.{Elaborated}
 use Rattle.elab_parts.specs.declared.made.Place.{Place}

@@ -1,9 +1,9 @@
 // Elaboration: the declarations, entries, names and matches of a declaration, or its first fault.
 ghost use Rattle.std.specs.Prelude.{◌≡◌, ◌∷◌, ◌↔◌, ℕ, List, [], None, length, IsTrue, IfSome, IfOk, IfErr};
 ghost use Rattle.std.specs.Option.{option_copied};
-ghost use Rattle.trees.specs.Tree.{Tree};
+ghost use Rattle.tasks.specs.trees.Tree.{Tree};
 ghost use Rattle.names_space.specs.Names.{empty_names};
-ghost use Rattle.trees.specs.Node.{Grows};
+ghost use Rattle.tasks.specs.trees.Node.{Grows};
 ghost use Rattle.syntax_why.specs.SurfaceDeclarations.{decl_of};
 ghost use Rattle.tasks.specs.Task.{int_symbol};
 ghost use Rattle.tasks.specs.Meaning.{symbols_at};
@@ -21,12 +21,10 @@ use elab_inductives::elaborate_inductives;
 use elab_members::{MemberSource, gather_members};
 use elab_parts::{ElabFault, Elaborated, Place};
 use elab_types::elaborate_algebraic;
-use names_space::Scope;
-use outside::{Seq, Text};
+use names_space::{Scope, Seq, Text};
 use std::alloc::{AllocError, Global};
 use syntax_why::{DeclNode, DeclTree, Expr, MemberTree, OpName, ParamTree, TypeTree};
-use tasks::{Signature, SymbolInfo, SymbolKind};
-use term_store::Store;
+use tasks::{Signature, Store, SymbolInfo, SymbolKind};
 
 // The first member of a group.
 fn head_member<'a>(

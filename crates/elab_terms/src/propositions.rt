@@ -1,17 +1,17 @@
 // Propositions: axioms, lemmas and goals.
 // They depend on the solution of type equations, on entries and names; elaboration depends on them.
 ghost use Rattle.std.specs.Prelude.{◌≡◌, ◌++◌, ◌∷◌, [], List, length, map, true, None, All, IfOk, IfErr, OnOk};
-ghost use Rattle.trees.specs.Tree.{Tree};
-ghost use Rattle.trees.specs.Node.{tree_at, Holds, Grows};
+ghost use Rattle.tasks.specs.trees.Tree.{Tree};
+ghost use Rattle.tasks.specs.trees.Node.{tree_at, Holds, Grows};
 ghost use Rattle.tasks.specs.Task.{Says};
 ghost use Rattle.tasks.specs.Rigid.{rigid_symbol};
 ghost use Rattle.tasks.specs.Meaning.{symbols_at, declarations_at, trees_at, DeclHeld};
-ghost use Rattle.elab_names.specs.Abstract.{expression_of};
-ghost use Rattle.elab_names.specs.Faults.{fault};
-ghost use Rattle.elab_names.specs.Naming.{Tells};
-ghost use Rattle.elab_variables.specs.Entered.{seen_at};
+ghost use Rattle.elab_parts.specs.elab_names.Abstract.{expression_of};
+ghost use Rattle.elab_parts.specs.elab_names.Faults.{fault};
+ghost use Rattle.elab_parts.specs.elab_names.Naming.{Tells};
+ghost use Rattle.elab_parts.specs.elab_variables.Entered.{seen_at};
 ghost use Rattle.syntax_why.specs.SurfaceDeclarations.{plain_name};
-ghost use Rattle.elab_walk.specs.Drafts.{HoldsType, MatchHeld, match_at};
+ghost use Rattle.elab_parts.specs.elab_walk.Drafts.{HoldsType, MatchHeld, match_at};
 ghost use Rattle.elab_parts.specs.Elaborated.{IsSolved, IsTypingFault};
 ghost use Rattle.elab_parts.specs.Values.{FormulaHeld};
 ghost use Rattle.elab_parts.specs.Declarations.{symbol, proposition_declaration};
@@ -19,20 +19,15 @@ ghost use Rattle.elab_parts.specs.Entries.{wanting_tuples, IsSignature, IsExtend
 ghost use Rattle.elab_parts.specs.Outcomes.{over, setting, IsKept};
 ghost use Rattle.elab_terms.specs.Outcomes.{proposition_seen, proposition_piece, rigid_names, entry_numbers, rigid_types, said_as, schematic, solved_piece, IsTypedProposition, IsElaborated, IsRefusal};
 
-use binders::inst_types;
-use elab_names::{Names, NamingFault, check, own_name};
 use elab_parts::{
-    ElabFault, Elaborated, Formula, Place, TypingFault, declare, join_words, naming_fault,
-    push_entry, push_tuples, solve_formula, typing_fault, world_over,
+    ElabFault, Elaborated, Formula, Names, NamingFault, Place, Seen, TypingFault, check, declare,
+    enter_variables, inst_types, join_words, naming_fault, own_name, push_entry, push_tuples,
+    solve_formula, typing_fault, world_over,
 };
-use elab_variables::{Seen, enter_variables};
-use names_space::{Scope, Table, TypeName};
-use outside::{Seq, Text};
+use names_space::{Scope, Seq, Table, Text, TypeName};
 use std::alloc::{AllocError, Global};
 use syntax_why::{Expr, Name, PropKind, Style};
-use tasks::{Body, Decl, Signature, SymbolInfo};
-use term_store::{Grow, Store};
-use trees::{Node, TermId};
+use tasks::{Body, Decl, Grow, Node, Signature, Store, SymbolInfo, TermId};
 
 // The first fault of a proposition's names.
 fn check_formula(alloc: Global, sig: &Signature, scope: &Scope, e: &Expr) -> Result<(), NamingFault>

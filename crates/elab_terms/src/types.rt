@@ -1,36 +1,31 @@
 // Type symbols without a definition, and aliases.
 // They depend on entries and names; elaboration depends on them.
 ghost use Rattle.std.specs.Prelude.{◌≡◌, ◌++◌, ◌∷◌, [], List, None, length, map, true, false, IfOk, IfErr, OnOk, option_map};
-ghost use Rattle.trees.specs.Tree.{Tree};
-ghost use Rattle.trees.specs.Node.{tree_at, Grows};
-ghost use Rattle.trees.specs.Facts.{TyVarsBelow};
+ghost use Rattle.tasks.specs.trees.Tree.{Tree};
+ghost use Rattle.tasks.specs.trees.Node.{tree_at, Grows};
+ghost use Rattle.tasks.specs.trees.Facts.{TyVarsBelow};
 ghost use Rattle.tasks.specs.Task.{MakesType};
 ghost use Rattle.tasks.specs.Meaning.{symbols_at, declarations_at};
 ghost use Rattle.names_space.specs.Names.{with_name};
-ghost use Rattle.elab_names.specs.Abstract.{type_expression_of};
-ghost use Rattle.elab_names.specs.Faults.{form_fault};
-ghost use Rattle.elab_names.specs.Naming.{Tells};
-ghost use Rattle.elab_walk.specs.Pieces.{type_at};
-ghost use Rattle.elab_walk.specs.Drafts.{HoldsType};
+ghost use Rattle.elab_parts.specs.elab_names.Abstract.{type_expression_of};
+ghost use Rattle.elab_parts.specs.elab_names.Faults.{form_fault};
+ghost use Rattle.elab_parts.specs.elab_names.Naming.{Tells};
+ghost use Rattle.elab_parts.specs.elab_walk.Pieces.{type_at};
+ghost use Rattle.elab_parts.specs.elab_walk.Drafts.{HoldsType};
 ghost use Rattle.elab_parts.specs.Declarations.{word, abstract_type, alias, made_fault, makes, binds_names};
 ghost use Rattle.elab_parts.specs.Entries.{type_entry, wanting_tuples, IsSignature, IsExtended, AreScopes};
 ghost use Rattle.elab_parts.specs.Outcomes.{over, setting, declared_in, IsKept};
 ghost use Rattle.elab_terms.specs.Outcomes.{alias_seen, type_declaration, IsElaborated, IsRefusal};
 
-use elab_names::{NamingFault, check_form};
 use elab_parts::{
-    ElabFault, Elaborated, Place, declare, find_repeated, gather, join_words, naming_fault,
-    push_tuples, push_type, texts_of, world_over,
+    ElabFault, Elaborated, NamingFault, Place, Seen, check_form, declare, enter_form,
+    find_repeated, gather, join_words, naming_fault, push_tuples, push_type, texts_of,
+    type_of_form, world_over,
 };
-use elab_variables::{Seen, enter_form};
-use elab_walk::type_of_form;
-use names_space::{Scope, Table, TypeName};
-use outside::{Seq, Text};
+use names_space::{Scope, Seq, Table, Text, TypeName};
 use std::alloc::{AllocError, Global};
 use syntax_why::{Name, TypeTree};
-use tasks::{Body, Decl, Signature};
-use term_store::Store;
-use trees::TermId;
+use tasks::{Body, Decl, Signature, Store, TermId};
 
 // The declaration of a type symbol, whose entry is at the signature's end.
 fn make_type(

@@ -1,8 +1,8 @@
 -- What names mean where the names of a group are there, among them those of entries that aren't made yet.
 use Rattle.std.proofs.Common.{◌≡◌, ℕ, ◌+◌, ◌≤◌, true, List, [], ◌∷◌, length, IfSome, sym, ap, subst, ◌∙◌, arith}
-use Rattle.trees.specs.Tree.{Tree}
-use Rattle.trees.specs.Node.{Grows}
-use Rattle.trees.proofs.Nodes.{Grows_refl}
+use Rattle.term_store.specs.trees.Tree.{Tree}
+use Rattle.term_store.specs.trees.Node.{Grows}
+use Rattle.term_store.proofs.trees.Nodes.{Grows_refl}
 use Rattle.tasks.specs.declared.signature.SymbolInfo.{SymbolInfo}
 use Rattle.tasks.specs.declared.signature.Signature.{Signature}
 use Rattle.tasks.specs.Task.{SymbolTree}

@@ -4,9 +4,9 @@ use Rattle.std.proofs.Math.ListN.{length-map}
 use Rattle.std.specs.List.{All}
 use Rattle.std.proofs.lemmas.List.{map-append}
 use Rattle.std.proofs.lemmas.List.Elements.{All-append, All-cons, All-nil, All-from_recursion}
-use Rattle.trees.specs.Tree.{Tree}
-use Rattle.trees.specs.Node.{Grows}
-use Rattle.trees.specs.Facts.{TyVarsBelow}
+use Rattle.term_store.specs.trees.Tree.{Tree}
+use Rattle.term_store.specs.trees.Node.{Grows}
+use Rattle.term_store.specs.trees.Facts.{TyVarsBelow}
 use Rattle.tasks.specs.Task.{ConstructorTree, AlgebraicTree}
 use Rattle.tasks.specs.Meaning.{con_at, cons_at, algebraic_at, algebraics_at, ConHeld, AlgebraicHeld}
 use Rattle.tasks.specs.declared.declaration.Con.{Con}

@@ -2,7 +2,7 @@
 -- of a group see each other.
 use Rattle.std.specs.Prelude.{◌≡◌, ℕ, ◌+◌, Bool, true, ◌||◌, List, [], ◌∷◌, ◌++◌, map, length, Option, None}
 use Rattle.std.specs.Option.{is_some}
-use Rattle.trees.specs.Tree.{Tree}
+use Rattle.term_store.specs.trees.Tree.{Tree}
 use Rattle.tasks.specs.Task.{SymbolTree, ConstructorTree, AlgebraicTree, Constructs}
 use Rattle.tasks.specs.Valid.{own_type}
 use Rattle.tasks.specs.declared.signature.Signature.{Signature}

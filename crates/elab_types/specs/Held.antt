@@ -1,7 +1,7 @@
 -- Algebraic types in code: each field is a type of the store, and has the type variables of its own type alone.
 use Rattle.std.specs.Prelude.{ℕ, List, [], ◌∷◌, All, length}
-use Rattle.trees.specs.Tree.{Tree}
-use Rattle.trees.specs.Facts.{TyVarsBelow}
+use Rattle.term_store.specs.trees.Tree.{Tree}
+use Rattle.term_store.specs.trees.Facts.{TyVarsBelow}
 use Rattle.tasks.specs.Task.{ConstructorTree, AlgebraicTree}
 use Rattle.tasks.specs.declared.declaration.Con.{Con}
 use Rattle.tasks.specs.declared.declaration.Alg.{Alg}

@@ -1,8 +1,8 @@
 // The entries of a group: of its types, and of their constructors with their projections.
 ghost use Rattle.std.specs.Prelude.{◌≡◌, List, All, IfOk, OnOk};
-ghost use Rattle.trees.specs.Tree.{Tree};
-ghost use Rattle.trees.specs.Node.{tree_at, Grows};
-ghost use Rattle.trees.specs.Facts.{TyVarsBelow};
+ghost use Rattle.term_store.specs.trees.Tree.{Tree};
+ghost use Rattle.term_store.specs.trees.Node.{tree_at, Grows};
+ghost use Rattle.term_store.specs.trees.Facts.{TyVarsBelow};
 ghost use Rattle.tasks.specs.Meaning.{cons_at, algebraics_at};
 ghost use Rattle.tasks.specs.Valid.{own_type};
 ghost use Rattle.elab_walk.specs.Drafts.{HoldsType};
@@ -15,8 +15,7 @@ use elab_walk::list_of;
 use std::alloc::{AllocError, Global};
 use syntax_why::{AlgTree, ConTree};
 use tasks::{Alg, Con, Signature};
-use term_store::{Grow, Store};
-use trees::{Node, TermId};
+use term_store::{Grow, Node, Store, TermId};
 
 /// The entries of the types.
 pub fn push_type_entries(

@@ -1,7 +1,7 @@
 // The types of the fields of a group, or the first fault of their names.
 ghost use Rattle.std.specs.Prelude.{◌≡◌, ◌++◌, ◌+◌, ◌<◌, ◌^◌, ◌∷◌, [], ℕ, List, None, length, map, false, All, IfOk, IfErr, OnOk, Err};
-ghost use Rattle.trees.specs.Tree.{Tree};
-ghost use Rattle.trees.specs.Node.{Grows};
+ghost use Rattle.term_store.specs.trees.Tree.{Tree};
+ghost use Rattle.term_store.specs.trees.Node.{Grows};
 ghost use Rattle.tasks.specs.Meaning.{symbols_at, trees_at, con_at, cons_at, algebraics_at};
 ghost use Rattle.elab_names.specs.Faults.{forms_fault};
 ghost use Rattle.elab_names.specs.Naming.{where_at, Tells};
@@ -16,13 +16,11 @@ ghost use Rattle.elab_types.specs.Held.{ConTyped, AlgTyped, HaveThings};
 use elab_names::{NamingFault, World, check_form};
 use elab_parts::texts_of;
 use elab_walk::type_of_form;
-use names_space::Scope;
-use outside::{Seq, Text};
+use names_space::{Scope, Seq, Text};
 use std::alloc::{AllocError, Global};
 use syntax_why::{AlgTree, ConTree, TypeTree};
 use tasks::{Alg, Con, Signature};
-use term_store::Store;
-use trees::TermId;
+use term_store::{Store, TermId};
 
 // The types of fields, after those that are there.
 fn push_fields(

@@ -1,7 +1,7 @@
 // A group of algebraic types: its entries, its names and its declaration, or its first fault.
 ghost use Rattle.std.specs.Prelude.{◌≡◌, ◌++◌, ◌+◌, ◌∷◌, ◌<◌, ◌^◌, [], List, None, length, All, IfOk, IfErr, OnOk, Err};
-ghost use Rattle.trees.specs.Tree.{Tree};
-ghost use Rattle.trees.specs.Node.{Grows};
+ghost use Rattle.term_store.specs.trees.Tree.{Tree};
+ghost use Rattle.term_store.specs.trees.Node.{Grows};
 ghost use Rattle.tasks.specs.Task.{Constructs};
 ghost use Rattle.tasks.specs.Meaning.{symbols_at, declarations_at, algebraics_at, DeclHeld};
 ghost use Rattle.elab_names.specs.Naming.{Tells};
@@ -17,8 +17,7 @@ use crate::naming::{Before, declare_types};
 use crate::widths::group_seen;
 use elab_names::NamingFault;
 use elab_parts::{ElabFault, Elaborated, Place, join_words, naming_fault, push_tuples};
-use names_space::Scope;
-use outside::{Seq, Text};
+use names_space::{Scope, Seq, Text};
 use std::alloc::{AllocError, Global};
 use syntax_why::AlgTree;
 use tasks::{Alg, Body, Decl, Signature};

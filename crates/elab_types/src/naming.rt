@@ -8,8 +8,7 @@ ghost use Rattle.elab_types.specs.Algebraics.{constructors_of, algebraics_of, en
 
 use elab_names::{NamingFault, variable_named};
 use elab_parts::{declare, find_repeated, gather};
-use names_space::{Scope, Table, TypeName};
-use outside::Text;
+use names_space::{Scope, Table, Text, TypeName};
 use std::alloc::{AllocError, Global};
 use syntax_why::{AlgTree, ConTree, Name};
 

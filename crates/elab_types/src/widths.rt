@@ -5,7 +5,7 @@ ghost use Rattle.elab_variables.specs.Entered.{seen_at};
 ghost use Rattle.elab_types.specs.Algebraics.{field_expressions, constructors_of, algebraics_of, constructors_seen, types_seen, group_seen};
 
 use elab_variables::{Seen, enter_form};
-use outside::Seq;
+use names_space::Seq;
 use std::alloc::{AllocError, Global};
 use syntax_why::{AlgTree, ConTree, TypeTree};
 

@@ -1,8 +1,8 @@
 -- Uses in other words, and what is in parentheses.
 use Rattle.std.proofs.Common.{◌≡◌, ℕ, Bool, true, false, not, List, [], ◌∷◌, length, get_or, Option, None, Result, Ok, Err, IfOk, refl, ap, subst, ◌∙◌, arith}
-use Rattle.trees.specs.declared.Sort.TheVariants.{Formula}
-use Rattle.trees.specs.Tree.{Tree}
-use Rattle.trees.specs.Sorts.{sort_of}
+use Rattle.term_store.specs.trees.declared.Sort.TheVariants.{Formula}
+use Rattle.term_store.specs.trees.Tree.{Tree}
+use Rattle.term_store.specs.trees.Sorts.{sort_of}
 use Rattle.syntax_why.specs.declared.expressions.Expr.{Expr}
 use Rattle.syntax_why.specs.Lexeme.{Word}
 use Rattle.elab_names.specs.Abstract.{Expression, Expressions, BoundNames, applied_expression, infix_expression, tuple_expression, quantified_expression, no_expressions, more_expressions, count_expressions}
@@ -14,7 +14,7 @@ use Rattle.elab_walk.specs.declared.locals.Locals.{Locals}
 use Rattle.elab_names.specs.Naming.{where_at}
 use Rattle.elab_walk.specs.Drafts.{CanWalk, CanUse, names_of_locals, is_due}
 use Rattle.elab_walk.specs.Pieces.{equality}
-use Rattle.trees.specs.declared.TermId.{TermId}
+use Rattle.term_store.specs.trees.declared.TermId.{TermId}
 use Rattle.elab_walk.specs.Sizes.{size_of, sizes_of}
 use Rattle.elab_walk.proofs.Walking.{in_infixed, in_tuple, none_both, must_be}
 

@@ -5,14 +5,14 @@ use Rattle.std.specs.Str.{bytes_eq}
 use Rattle.std.specs.List.{All, AllByRecursion}
 use Rattle.std.proofs.lemmas.List.Elements.{recursion_from_All}
 use mathlib.Core.List.{reverse-cons}
-use Rattle.trees.specs.declared.TermId.{TermId}
-use Rattle.trees.specs.declared.Sort.{Sort}
-use Rattle.trees.specs.declared.Sort.TheVariants.{Term}
-use Rattle.trees.specs.declared.Sort.TheVariants as sorts
-use Rattle.trees.specs.Tree.{Tree, Leaf, Two, HEnd, HCell}
-use Rattle.trees.specs.Node.{tree_at, Grows}
-use Rattle.trees.specs.Sorts.{Fits, sort_of, IsList}
-use Rattle.trees.proofs.Nodes.{Grows_trans}
+use Rattle.term_store.specs.trees.declared.TermId.{TermId}
+use Rattle.term_store.specs.trees.declared.Sort.{Sort}
+use Rattle.term_store.specs.trees.declared.Sort.TheVariants.{Term}
+use Rattle.term_store.specs.trees.declared.Sort.TheVariants as sorts
+use Rattle.term_store.specs.trees.Tree.{Tree, Leaf, Two, HEnd, HCell}
+use Rattle.term_store.specs.trees.Node.{tree_at, Grows}
+use Rattle.term_store.specs.trees.Sorts.{Fits, sort_of, IsList}
+use Rattle.term_store.proofs.trees.Nodes.{Grows_trans}
 use Rattle.tasks.specs.declared.signature.SymbolInfo.{SymbolInfo}
 use Rattle.tasks.specs.Task.{SymbolTree, symbol_or}
 use Rattle.tasks.specs.Meaning.{symbols_at, trees_at}

@@ -5,9 +5,9 @@ use Rattle.std.specs.List.{AllByRecursion}
 use Rattle.std.proofs.lemmas.List.Elements.{recursion_from_All, All-nil}
 use mathlib.Core.List.{reverse-cons}
 use Rattle.std.proofs.lemmas.Bool.{eqb-true}
-use Rattle.trees.specs.Tree.{Tree, Leaf, One, Two, Three, Head, HTyVar, HBound, HParam, binders_over}
-use Rattle.trees.specs.Binding.{change, leaf_by, one_by, typing, TyVar}
-use Rattle.trees.specs.Facts.{TyVarsBelow, leaf_below}
+use Rattle.term_store.specs.trees.Tree.{Tree, Leaf, One, Two, Three, Head, HTyVar, HBound, HParam, binders_over}
+use Rattle.term_store.specs.trees.Binding.{change, leaf_by, one_by, typing, TyVar}
+use Rattle.term_store.specs.trees.Facts.{TyVarsBelow, leaf_below}
 use Rattle.tasks.specs.Task.{SymbolTree, symbol_or, int_symbol}
 use Rattle.tasks.specs.Equations.{cells, type_variables}
 use Rattle.syntax_why.specs.Lexeme.{Word}

@@ -2,8 +2,8 @@
 use Rattle.std.proofs.Common.{◌≡◌, ℕ, ◌+◌, List, [], ◌∷◌, ◌++◌, map, replicate, refl, sym, ap, ◌∙◌, append_assoc, append-nil}
 use Rattle.std.specs.List.{All}
 use Rattle.std.proofs.lemmas.List.Elements.{All-append, All-cons, All-nil}
-use Rattle.trees.specs.Tree.{Tree}
-use Rattle.trees.specs.Node.{Grows}
+use Rattle.term_store.specs.trees.Tree.{Tree}
+use Rattle.term_store.specs.trees.Node.{Grows}
 use Rattle.elab_walk.specs.declared.draft.Constraints.{Constraints}
 use Rattle.elab_walk.specs.declared.locals.Local.{Local}
 use Rattle.elab_walk.specs.Patterns.{Notes, noted, follow, LocalTree}

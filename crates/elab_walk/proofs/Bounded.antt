@@ -1,8 +1,8 @@
 -- The type variables of a piece are the declaration's own and the unknowns that it takes.
 use Rattle.std.proofs.Common.{◌≡◌, ℕ, ◌+◌, ◌≤◌, Bool, true, false, not, List, [], ◌∷◌, ◌++◌, reverse, replicate, length, Option, Some, None, IfSome, arith, length-append}
 use Rattle.std.specs.List.{AllByRecursion}
-use Rattle.trees.specs.Tree.{Tree, Leaf, Two, HCell, HEnd}
-use Rattle.trees.specs.Facts.{TyVarsBelow}
+use Rattle.term_store.specs.trees.Tree.{Tree, Leaf, Two, HCell, HEnd}
+use Rattle.term_store.specs.trees.Facts.{TyVarsBelow}
 use Rattle.tasks.specs.Equations.{type_variables}
 use Rattle.syntax_why.specs.Lexeme.{Word}
 use Rattle.elab_names.specs.Abstract.{Pattern, Patterns, wildcard_pattern, variable_pattern, constructor_pattern, tuple_pattern, alias_pattern, no_patterns, more_patterns, Alternatives, no_alternatives, more_alternatives, Expression, Expressions, MatchBranches, applied_expression, infix_expression, integer_expression, true_expression, false_expression, tuple_expression, cast_expression, not_expression, connected_expression, equality_expression, if_expression, let_expression, match_expression, quantified_expression, no_expressions, more_expressions, no_branches, more_branches, count_patterns, count_expressions}

@@ -3,14 +3,14 @@ use Rattle.std.proofs.Common.{◌≡◌, ℕ, ◌+◌, ◌<◌, suc, slice_set, 
 use Rattle.std.specs.List.{All}
 use Rattle.std.proofs.lemmas.List.{reverse-append}
 use Rattle.std.proofs.lemmas.List.Elements.{All-append, All-cons, All-nil}
-use Rattle.trees.specs.declared.TermId.{TermId}
-use Rattle.trees.specs.declared.Sort.{Sort}
-use Rattle.trees.specs.declared.Sort.TheVariants.{Kind, Term, Formula, Pattern, Branch}
-use Rattle.trees.specs.declared.Sort.TheVariants as sorts
-use Rattle.trees.specs.Tree.{Tree, Leaf, Two, HTyVar, HEnd, HCell, HArm, HCase, head_of}
-use Rattle.trees.specs.Node.{tree_at, Holds, Grows}
-use Rattle.trees.specs.Sorts.{Fits, sort_of, yield, IsList}
-use Rattle.trees.proofs.Nodes.{tree_at-grows, Grows_trans}
+use Rattle.term_store.specs.trees.declared.TermId.{TermId}
+use Rattle.term_store.specs.trees.declared.Sort.{Sort}
+use Rattle.term_store.specs.trees.declared.Sort.TheVariants.{Kind, Term, Formula, Pattern, Branch}
+use Rattle.term_store.specs.trees.declared.Sort.TheVariants as sorts
+use Rattle.term_store.specs.trees.Tree.{Tree, Leaf, Two, HTyVar, HEnd, HCell, HArm, HCase, head_of}
+use Rattle.term_store.specs.trees.Node.{tree_at, Holds, Grows}
+use Rattle.term_store.specs.trees.Sorts.{Fits, sort_of, yield, IsList}
+use Rattle.term_store.proofs.trees.Nodes.{tree_at-grows, Grows_trans}
 use Rattle.tasks.specs.Meaning.{trees_at}
 use Rattle.tasks.specs.Equations.{cells}
 use Rattle.syntax_why.specs.Lexeme.{Word}

@@ -7,9 +7,9 @@ use Rattle.syntax_why.specs.Lexeme.{Word}
 use Rattle.elab_names.specs.Naming.{meaning_at, type_named, where_at}
 use Rattle.elab_names.specs.declared.world.World.{World}
 use Rattle.std.proofs.lemmas.List.{at_drop_more}
-use Rattle.trees.specs.declared.TermId.{TermId}
-use Rattle.trees.specs.Tree.{Tree}
-use Rattle.trees.specs.Node.{tree_at, Grows}
+use Rattle.term_store.specs.trees.declared.TermId.{TermId}
+use Rattle.term_store.specs.trees.Tree.{Tree}
+use Rattle.term_store.specs.trees.Node.{tree_at, Grows}
 use Rattle.tasks.specs.Meaning.{trees_at}
 use Rattle.syntax_why.specs.declared.types.TypeTree.{TypeTree}
 use Rattle.elab_names.specs.Abstract.{TypeExpressions, no_types, more_types, count_forms, grouped_forms, type_expression_of, forms_of}

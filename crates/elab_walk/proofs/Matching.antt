@@ -1,13 +1,13 @@
 -- Walks of patterns.
 use Rattle.std.proofs.Common.{◌≡◌, ℕ, ◌+◌, List, [], ◌∷◌, ◌++◌, map, length, get_or, Option, Some, inl, inr, refl, sym, ap, subst, ◌∙◌, append_assoc, append-nil}
 use Rattle.std.specs.List.{All}
-use Rattle.trees.specs.declared.TermId.{TermId}
-use Rattle.trees.specs.declared.Sort.TheVariants.{Kind, Pattern}
-use Rattle.trees.specs.declared.Sort.TheVariants as sorts
-use Rattle.trees.specs.Tree.{Tree, Leaf, Two, Three, HEnd, HCell, HPatCon}
-use Rattle.trees.specs.Node.{tree_at, Grows}
-use Rattle.trees.specs.Sorts.{Fits, sort_of, IsList}
-use Rattle.trees.proofs.Nodes.{tree_at-grows, Grows_refl, Grows_trans}
+use Rattle.term_store.specs.trees.declared.TermId.{TermId}
+use Rattle.term_store.specs.trees.declared.Sort.TheVariants.{Kind, Pattern}
+use Rattle.term_store.specs.trees.declared.Sort.TheVariants as sorts
+use Rattle.term_store.specs.trees.Tree.{Tree, Leaf, Two, Three, HEnd, HCell, HPatCon}
+use Rattle.term_store.specs.trees.Node.{tree_at, Grows}
+use Rattle.term_store.specs.trees.Sorts.{Fits, sort_of, IsList}
+use Rattle.term_store.proofs.trees.Nodes.{tree_at-grows, Grows_refl, Grows_trans}
 use Rattle.tasks.specs.Task.{SymbolTree, symbol_or}
 use Rattle.tasks.specs.Meaning.{trees_at}
 use Rattle.tasks.specs.Equations.{cells, type_variables}

@@ -1,13 +1,13 @@
 -- Walks of quantifiers and of triggers.
 use Rattle.std.proofs.Common.{◌≡◌, ℕ, ◌+◌, suc, Bool, true, false, not, cond, List, [], ◌∷◌, ◌++◌, map, reverse, length, Option, Some, None, refl, sym, ap, subst, ◌∙◌, arith}
 use Rattle.std.specs.List.{All}
-use Rattle.trees.specs.declared.TermId.{TermId}
-use Rattle.trees.specs.declared.Sort.{Sort}
-use Rattle.trees.specs.declared.Sort.TheVariants.{Formula}
-use Rattle.trees.specs.Tree.{Tree}
-use Rattle.trees.specs.Node.{tree_at, Grows}
-use Rattle.trees.specs.Sorts.{sort_of}
-use Rattle.trees.proofs.Nodes.{Grows_trans}
+use Rattle.term_store.specs.trees.declared.TermId.{TermId}
+use Rattle.term_store.specs.trees.declared.Sort.{Sort}
+use Rattle.term_store.specs.trees.declared.Sort.TheVariants.{Formula}
+use Rattle.term_store.specs.trees.Tree.{Tree}
+use Rattle.term_store.specs.trees.Node.{tree_at, Grows}
+use Rattle.term_store.specs.trees.Sorts.{sort_of}
+use Rattle.term_store.proofs.trees.Nodes.{Grows_trans}
 use Rattle.syntax_why.specs.Lexeme.{Word}
 use Rattle.elab_names.specs.Abstract.{TypeExpression, Expression, Expressions, BoundNames, quantified_expression, more_expressions}
 use Rattle.elab_names.specs.declared.NamingFault.TheVariants.{WrongKind}

@@ -2,15 +2,15 @@
 use Rattle.std.proofs.Common.{◌≡◌, ℕ, ◌+◌, ◌-◌, ◌<◌, ◌≤◌, min, nat_lt, nat_eq, if◌then◌else◌, zero, suc, Bool, true, false, ◌&&◌, ◌||◌, List, [], ◌∷◌, ◌++◌, length, get_or, Result, Ok, Err, IfOk, refl, ap, subst, ◌∙◌, arith}
 use Rattle.std.specs.List.{list_any}
 use Rattle.std.proofs.lemmas.Bool.Decides.{nat_tests}
-use Rattle.trees.specs.Tree.{Tree, Leaf, One, Two, Three, Head, HEnd, HBound, HParam, HTyVar, head_of, binders_over, loose, above_params, above_ty_vars}
-use Rattle.trees.specs.declared.Parts.{Parts}
-use Rattle.trees.specs.declared.Parts.TheVariants as parts
-use Rattle.trees.specs.Node.{assemble}
-use Rattle.trees.specs.Binding.{Bound, change, leaf_by, one_by}
-use Rattle.trees.specs.Facts.{IndicesFit}
-use Rattle.trees.specs.Sorts.{WellSorted}
-use Rattle.trees.proofs.Above.{KeepsBelow, change_left}
-use Rattle.trees.proofs.Sizes.{sorted_fits}
+use Rattle.term_store.specs.trees.Tree.{Tree, Leaf, One, Two, Three, Head, HEnd, HBound, HParam, HTyVar, head_of, binders_over, loose, above_params, above_ty_vars}
+use Rattle.term_store.specs.trees.declared.Parts.{Parts}
+use Rattle.term_store.specs.trees.declared.Parts.TheVariants as parts
+use Rattle.term_store.specs.trees.Node.{assemble}
+use Rattle.term_store.specs.trees.Binding.{Bound, change, leaf_by, one_by}
+use Rattle.term_store.specs.trees.Facts.{IndicesFit}
+use Rattle.term_store.specs.trees.Sorts.{WellSorted}
+use Rattle.term_store.proofs.trees.Above.{KeepsBelow, change_left}
+use Rattle.term_store.proofs.trees.Sizes.{sorted_fits}
 use Rattle.binders.specs.Depth.{IsDepth}
 use Rattle.binders.specs.Known.{same_pair}
 use Rattle.elab_walk.specs.Patterns.{reordering}

@@ -1,8 +1,8 @@
 -- The definitions on small sources: by computation alone.
 use Rattle.std.proofs.Common.{◌≡◌, ℕ, zero, suc, pos, true, false, cond, List, [], ◌∷◌, Option, Some, None, refl, codes}
 use Rattle.std.specs.Str.{bytes_eq}
-use Rattle.trees.specs.Tree.{Tree, Leaf, One, Two, HTyVar, HTyApp, HEnd, HBound, HEq, HForall, HLet, HPatVar}
-use Rattle.trees.specs.Sorts.{int_type}
+use Rattle.term_store.specs.trees.Tree.{Tree, Leaf, One, Two, HTyVar, HTyApp, HEnd, HBound, HEq, HForall, HLet, HPatVar}
+use Rattle.term_store.specs.trees.Sorts.{int_type}
 use Rattle.tasks.specs.declared.signature.SymbolKind.{SymbolKind}
 use Rattle.tasks.specs.declared.signature.SymbolKind.TheVariants.{Kind, Function, Predicate, Constructor}
 use Rattle.tasks.specs.Task.{SymbolTree, int_symbol}

@@ -1,9 +1,9 @@
 -- Unknowns, one after another.
 use Rattle.std.proofs.Common.{◌≡◌, ℕ, ◌+◌, List, [], ◌∷◌, ◌++◌, replicate, length, zero, suc, refl, sym, ap, ◌∙◌, arith, add-one}
 use Rattle.std.proofs.lemmas.List.Elements.{All-nil}
-use Rattle.trees.specs.declared.TermId.{TermId}
-use Rattle.trees.specs.Tree.{Tree, Leaf, HTyVar}
-use Rattle.trees.specs.Node.{tree_at, Grows}
+use Rattle.term_store.specs.trees.declared.TermId.{TermId}
+use Rattle.term_store.specs.trees.Tree.{Tree, Leaf, HTyVar}
+use Rattle.term_store.specs.trees.Node.{tree_at, Grows}
 use Rattle.tasks.specs.Meaning.{trees_at}
 use Rattle.tasks.specs.Equations.{type_variables}
 use Rattle.elab_walk.specs.declared.draft.Constraints.{Constraints}

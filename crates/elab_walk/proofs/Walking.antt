@@ -2,15 +2,15 @@
 use Rattle.std.proofs.Common.{◌≡◌, ℕ, Bool, true, false, not, List, [], ◌∷◌, length, Option, Some, None, IfSome, option_map, inl, inr, refl, sym, ap, subst, ◌∙◌}
 use Rattle.std.specs.List.{All}
 use Rattle.std.proofs.lemmas.List.Elements.{All-cons, All-nil}
-use Rattle.trees.specs.declared.TermId.{TermId}
-use Rattle.trees.specs.declared.Sort.{Sort}
-use Rattle.trees.specs.declared.Sort.TheVariants.{Kind, Term, Formula}
-use Rattle.trees.specs.declared.Sort.TheVariants as sorts
-use Rattle.trees.specs.declared.Op.{Op}
-use Rattle.trees.specs.Tree.{Tree, Two, Three, Head, HIf, HLet, HEnd, HCell, HArm, head_of}
-use Rattle.trees.specs.Node.{tree_at, Holds, Grows}
-use Rattle.trees.specs.Sorts.{Fits, sort_of, yield, top_sort, IsExpression}
-use Rattle.trees.proofs.Nodes.{tree_at-grows, Grows_trans}
+use Rattle.term_store.specs.trees.declared.TermId.{TermId}
+use Rattle.term_store.specs.trees.declared.Sort.{Sort}
+use Rattle.term_store.specs.trees.declared.Sort.TheVariants.{Kind, Term, Formula}
+use Rattle.term_store.specs.trees.declared.Sort.TheVariants as sorts
+use Rattle.term_store.specs.trees.declared.Op.{Op}
+use Rattle.term_store.specs.trees.Tree.{Tree, Two, Three, Head, HIf, HLet, HEnd, HCell, HArm, head_of}
+use Rattle.term_store.specs.trees.Node.{tree_at, Holds, Grows}
+use Rattle.term_store.specs.trees.Sorts.{Fits, sort_of, yield, top_sort, IsExpression}
+use Rattle.term_store.proofs.trees.Nodes.{tree_at-grows, Grows_trans}
 use Rattle.syntax_why.specs.Lexeme.{Word}
 use Rattle.elab_names.specs.Abstract.{TypeExpression, Expression, Expressions, applied_expression, infix_expression, cast_expression, not_expression, connected_expression, equality_expression, if_expression, let_expression, tuple_expression, no_expressions, more_expressions}
 use Rattle.elab_names.specs.declared.NamingFault.{NamingFault}

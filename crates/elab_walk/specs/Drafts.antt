@@ -1,13 +1,13 @@
 -- What the variables, equations and matches in code stand for, and what the walk asks for and gives.
 use Rattle.std.specs.Prelude.{◌≡◌, ℕ, length, Bool, true, false, List, [], ◌∷◌, ◌++◌, map, reverse, replicate, All, Option, Some, None, IfSome}
-use Rattle.trees.specs.declared.TermId.{TermId}
-use Rattle.trees.specs.declared.Sort.{Sort}
-use Rattle.trees.specs.declared.Sort.TheVariants.{Kind, Term, Formula, Pattern, Branch}
-use Rattle.trees.specs.declared.Sort.TheVariants as sorts
-use Rattle.trees.specs.Tree.{Tree, Two, HCell, HArm, head_of}
-use Rattle.trees.specs.Node.{tree_at, Holds}
-use Rattle.trees.specs.Sorts.{sort_of, yield, IsList}
-use Rattle.trees.specs.Binding.{change, inst_types}
+use Rattle.term_store.specs.trees.declared.TermId.{TermId}
+use Rattle.term_store.specs.trees.declared.Sort.{Sort}
+use Rattle.term_store.specs.trees.declared.Sort.TheVariants.{Kind, Term, Formula, Pattern, Branch}
+use Rattle.term_store.specs.trees.declared.Sort.TheVariants as sorts
+use Rattle.term_store.specs.trees.Tree.{Tree, Two, HCell, HArm, head_of}
+use Rattle.term_store.specs.trees.Node.{tree_at, Holds}
+use Rattle.term_store.specs.trees.Sorts.{sort_of, yield, IsList}
+use Rattle.term_store.specs.trees.Binding.{change, inst_types}
 use Rattle.tasks.specs.Meaning.{symbol_at, trees_at}
 use Rattle.tasks.specs.Equations.{cells, type_variables}
 use Rattle.tasks.specs.Task.{SymbolTree, int_symbol}

@@ -1,9 +1,9 @@
 -- What a pattern gives before its types are known: its tree over unknowns, what it notes, and its variables in order.
 use Rattle.std.specs.Prelude.{ℕ, suc, ◌+◌, ◌-◌, nat_lt, cond, if◌then◌else◌, List, [], ◌∷◌, ◌++◌, map, reverse, replicate, length, get_or, Option, Some, None}
 use Rattle.std.specs.Str.{bytes_eq}
-use Rattle.trees.specs.Tree.{Tree, Leaf, One, Two, Three, HEnd, HCell, HArm, HPatAny, HPatVar, HPatCon, HPatAlias}
-use Rattle.trees.specs.Sorts.{int_type}
-use Rattle.trees.specs.Binding.{Change, change, Bound, Param, TyVar, inst_types}
+use Rattle.term_store.specs.trees.Tree.{Tree, Leaf, One, Two, Three, HEnd, HCell, HArm, HPatAny, HPatVar, HPatCon, HPatAlias}
+use Rattle.term_store.specs.trees.Sorts.{int_type}
+use Rattle.term_store.specs.trees.Binding.{Change, change, Bound, Param, TyVar, inst_types}
 use Rattle.tasks.specs.Task.{SymbolTree, symbol_or}
 use Rattle.tasks.specs.Equations.{cells, type_variables}
 use Rattle.syntax_why.specs.Lexeme.{Word}

@@ -4,9 +4,9 @@
 use Rattle.std.specs.Prelude.{ℕ, suc, ℤ, ◌+◌, Bool, true, false, cond, List, [], ◌∷◌, ◌++◌, map, reverse, replicate, length, Option, Some, None}
 use Rattle.std.specs.Option.{option_map}
 use Rattle.std.specs.Str.{bytes_eq}
-use Rattle.trees.specs.Tree.{Tree, Leaf, One, Two, Three, HTyVar, HTyApp, HEnd, HCell, HBound, HNum, HFun, HPred, HEq, HTrue, HFalse, HNot, HJoin, HForall, HExists, HLet, HIf, HCase}
-use Rattle.trees.specs.Sorts.{int_type}
-use Rattle.trees.specs.Binding.{inst_types}
+use Rattle.term_store.specs.trees.Tree.{Tree, Leaf, One, Two, Three, HTyVar, HTyApp, HEnd, HCell, HBound, HNum, HFun, HPred, HEq, HTrue, HFalse, HNot, HJoin, HForall, HExists, HLet, HIf, HCase}
+use Rattle.term_store.specs.trees.Sorts.{int_type}
+use Rattle.term_store.specs.trees.Binding.{inst_types}
 use Rattle.tasks.specs.Equations.{cells, type_variables}
 use Rattle.syntax_why.specs.Lexeme.{Word}
 use Rattle.elab_names.specs.Abstract.{TypeExpression, TypeExpressions, variable_type, composed_type, product_type, no_types, more_types, BoundNames, Expression, Expressions, MatchBranches, applied_expression, infix_expression, integer_expression, true_expression, false_expression, tuple_expression, cast_expression, not_expression, connected_expression, equality_expression, if_expression, let_expression, match_expression, quantified_expression, no_expressions, more_expressions, no_branches, more_branches, count_forms, count_expressions}

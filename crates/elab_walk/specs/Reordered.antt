@@ -1,8 +1,8 @@
 -- Variables in another order: what it keeps, and where each index stays below the greatest number.
 use Rattle.std.specs.Prelude.{◌≡◌, ℕ, ◌+◌, List, [], ◌∷◌, get_or, refl}
-use Rattle.trees.specs.Tree.{Tree, Leaf, Head, HEnd}
-use Rattle.trees.specs.Binding.{change, one_by}
-use Rattle.trees.specs.Facts.{PutsSorts, IndicesFit, index_fits}
+use Rattle.term_store.specs.trees.Tree.{Tree, Leaf, Head, HEnd}
+use Rattle.term_store.specs.trees.Binding.{change, one_by}
+use Rattle.term_store.specs.trees.Facts.{PutsSorts, IndicesFit, index_fits}
 use Rattle.binders.specs.Depth.{IsDepth}
 use Rattle.elab_walk.specs.Patterns.{reordering}
 

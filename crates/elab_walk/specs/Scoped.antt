@@ -1,6 +1,6 @@
 -- Signatures and aliases whose types name only their own type variables.
 use Rattle.std.specs.Prelude.{ℕ, ◌≤◌, List, All, IfSome}
-use Rattle.trees.specs.Facts.{TyVarsBelow}
+use Rattle.term_store.specs.trees.Facts.{TyVarsBelow}
 use Rattle.tasks.specs.Task.{SymbolTree}
 use Rattle.syntax_why.specs.Lexeme.{Word}
 use Rattle.elab_names.specs.Where.{Where, MeaningTree, Stands, Abbreviates}

@@ -1,19 +1,18 @@
 // The arms of branches.
 // They depend on patterns and on the order of variables; the walk of branches depends on them.
 ghost use Rattle.std.specs.Prelude.{◌≡◌, ◌∷◌, ◌++◌, IfOk, OnOk, map, All};
-ghost use Rattle.trees.specs.Tree.{Two, HCell, HArm};
-ghost use Rattle.trees.specs.Node.{tree_at, Holds, Grows};
-ghost use Rattle.trees.specs.Sorts.{sort_of, IsExpression, IsList};
-ghost use Rattle.trees.specs.declared.Sort.TheVariants.{Branch};
+ghost use Rattle.term_store.specs.trees.Tree.{Two, HCell, HArm};
+ghost use Rattle.term_store.specs.trees.Node.{tree_at, Holds, Grows};
+ghost use Rattle.term_store.specs.trees.Sorts.{sort_of, IsExpression, IsList};
+ghost use Rattle.term_store.specs.trees.declared.Sort.TheVariants.{Branch};
 ghost use Rattle.elab_walk.specs.Patterns.{cells_onto};
 ghost use Rattle.elab_walk.specs.Drafts.{HoldsPattern, LaterHeld, PatternsHeld, later_at, later_arm, branch_arms};
 
 use crate::patterns::{BranchPatterns, LaterPattern};
 use crate::reorder::reorder;
-use outside::Seq;
+use names_space::Seq;
 use std::alloc::{AllocError, Global};
-use term_store::{Grow, Store};
-use trees::{Node, TermId};
+use term_store::{Grow, Node, Store, TermId};
 
 // The numbers of later alternatives, after those that are there.
 fn push_later_patterns(patterns: &mut Seq<TermId>, later: &[LaterPattern]) -> Result<(), AllocError>

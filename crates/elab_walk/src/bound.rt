@@ -1,9 +1,9 @@
 // The variables of quantifiers.
 // They depend on drafts and on types; the walk depends on them.
 ghost use Rattle.std.specs.Prelude.{◌≡◌, IfOk, OnOk, length, map, All};
-ghost use Rattle.trees.specs.Node.{tree_at, Holds, Grows};
-ghost use Rattle.trees.specs.Sorts.{sort_of};
-ghost use Rattle.trees.specs.declared.Sort.TheVariants.{Formula};
+ghost use Rattle.term_store.specs.trees.Node.{tree_at, Holds, Grows};
+ghost use Rattle.term_store.specs.trees.Sorts.{sort_of};
+ghost use Rattle.term_store.specs.trees.declared.Sort.TheVariants.{Formula};
 ghost use Rattle.elab_names.specs.Abstract.{texts_of_names, bound_names_of, binders_of};
 ghost use Rattle.elab_names.specs.Naming.{where_at};
 ghost use Rattle.elab_walk.specs.Pieces.{quantify, locals_of_type, untyped, binder_locals, binder_vars, binders_vars, bound};
@@ -15,8 +15,7 @@ use crate::types::type_of_form;
 use elab_names::World;
 use std::alloc::{AllocError, Global};
 use syntax_why::{BinderTree, Name};
-use term_store::{Grow, Store};
-use trees::{Node, TermId};
+use term_store::{Grow, Node, Store, TermId};
 
 /// A formula under quantifiers, the first one outermost.
 pub fn quantify(

@@ -1,17 +1,16 @@
 // What the walk of a declaration gives beside its trees.
 // It depends on the store and on type equations; each part of the walk depends on it.
 ghost use Rattle.std.specs.Prelude.{◌≡◌, ◌<◌, ◌∷◌, [], length, slice_set, Some, OnOk, IfOk, IfSome, option_map};
-ghost use Rattle.trees.specs.Tree.{Leaf, HTyVar};
-ghost use Rattle.trees.specs.Node.{tree_at, node_tree, parts_of, AreBelow, Grows};
-ghost use Rattle.trees.specs.Sorts.{Fits};
+ghost use Rattle.term_store.specs.trees.Tree.{Leaf, HTyVar};
+ghost use Rattle.term_store.specs.trees.Node.{tree_at, node_tree, parts_of, AreBelow, Grows};
+ghost use Rattle.term_store.specs.trees.Sorts.{Fits};
 ghost use Rattle.elab_walk.specs.Patterns.{noted, with_match};
 ghost use Rattle.elab_walk.specs.Pieces.{wanting};
 ghost use Rattle.elab_walk.specs.Drafts.{HoldsType, IsReady, IsMade, IsNoted, IsTaken};
 
-use outside::Seq;
+use names_space::Seq;
 use std::alloc::{AllocError, Global};
-use term_store::{Grow, Store};
-use trees::{Node, TermId};
+use term_store::{Grow, Node, Store, TermId};
 use unify_types::Equation;
 
 /// The patterns of a `match`, or of a `let` of a pattern, by its token: one for each alternative.

@@ -1,10 +1,10 @@
 // The walk of an expression: its tree over unknowns, and what it notes in a draft.
 // It depends on drafts, variables, uses and binders; what solves the equations depends on it.
 ghost use Rattle.std.specs.Prelude.{◌≡◌, None, IfOk, IfSome, length, map, true, false, List, OnOk, option_map};
-ghost use Rattle.trees.specs.Node.{tree_at, Holds, Grows};
-ghost use Rattle.trees.specs.Sorts.{sort_of};
+ghost use Rattle.term_store.specs.trees.Node.{tree_at, Holds, Grows};
+ghost use Rattle.term_store.specs.trees.Sorts.{sort_of};
 ghost use Rattle.tasks.specs.Meaning.{trees_at};
-ghost use Rattle.trees.specs.declared.Sort.TheVariants.{Term, Formula};
+ghost use Rattle.term_store.specs.trees.declared.Sort.TheVariants.{Term, Formula};
 ghost use Rattle.syntax_why.specs.Surface.{integer_word};
 ghost use Rattle.elab_names.specs.Abstract.{expression_of, expressions_of, grouped, applied_expression, quantified_expression, binders_of, triggers_of, integer_value, match_expression, first_tree, more_branches, no_branches, more_alternatives, no_alternatives, first_form, side_by_side, alternatives_of, branches_of};
 ghost use Rattle.syntax_why.specs.Surface as code;
@@ -25,11 +25,10 @@ use crate::uses::{
     begin_use, entry_args, finish_use, first_type, other_types, types_put, walk_local,
 };
 use elab_names::{Operation, World, infix_operation, let_name, own_name, prefix_operator};
-use outside::{Seq, Text};
+use names_space::{Seq, Text};
 use std::alloc::{AllocError, Global};
 use syntax_why::{BinderTree, BranchTree, Expr, ExprNode, Pat, TriggerTree};
-use term_store::{Grow, Store};
-use trees::{Node, TermId};
+use term_store::{Grow, Node, Store, TermId};
 
 // The value of an integer, which in a source isn't below zero.
 fn literal_value(value: &i128) -> i128

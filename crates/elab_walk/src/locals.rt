@@ -1,13 +1,13 @@
 // The variables that are bound around an expression.
 // They depend on the numbers of types; the walk depends on them.
 ghost use Rattle.std.specs.Prelude.{◌≡◌, List, ◌++◌, map, reverse, IfSome, IfOk, All, option_map};
-ghost use Rattle.trees.specs.Tree.{Tree};
+ghost use Rattle.term_store.specs.trees.Tree.{Tree};
 ghost use Rattle.elab_walk.specs.Pieces.{variable_named, found_local};
 ghost use Rattle.elab_walk.specs.Drafts.{local_at, locals_at, place_pair_at, HoldsType, LocalsHeld};
 
-use outside::Text;
+use names_space::Text;
 use std::alloc::AllocError;
-use trees::TermId;
+use term_store::TermId;
 
 /// A variable with its type.
 #[derive(Clone, Copy)]

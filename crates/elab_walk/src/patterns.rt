@@ -1,8 +1,8 @@
 // Patterns: their trees over unknowns, what they note, and their variables.
 // They depend on drafts, on uses and on types; the walk of branches depends on them.
 ghost use Rattle.std.specs.Prelude.{◌≡◌, ◌≤◌, ℕ, List, IfOk, OnOk, [], ◌∷◌, ◌++◌, Some, length, map, reverse, All};
-ghost use Rattle.trees.specs.Tree.{Tree};
-ghost use Rattle.trees.specs.Node.{tree_at, Grows};
+ghost use Rattle.term_store.specs.trees.Tree.{Tree};
+ghost use Rattle.term_store.specs.trees.Node.{tree_at, Grows};
 ghost use Rattle.tasks.specs.Meaning.{trees_at};
 ghost use Rattle.elab_names.specs.Abstract.{abstract_pattern_of, patterns_of, grouped_patterns, first_form, side_by_side, more_alternatives, alternatives_of};
 ghost use Rattle.syntax_why.specs.Surface as code;
@@ -15,11 +15,10 @@ use crate::locals::Local;
 use crate::types::{entry_at, entry_number, int, list_of};
 use crate::uses::{begin_use, entry_args, first_type, other_types, types_put};
 use elab_names::{World, own_name};
-use outside::Seq;
+use names_space::Seq;
 use std::alloc::{AllocError, Global};
 use syntax_why::{Pat, PatNode};
-use term_store::{Grow, Store};
-use trees::{Node, TermId};
+use term_store::{Grow, Node, Store, TermId};
 
 /// Which alternative of a branch is walked: the first, or a later one, whose variables have the types of those of the first.
 #[derive(Clone, Copy)]

@@ -1,18 +1,17 @@
 // A tree under the same variables in another order.
 // It depends on the walk of the binding functions; the arms of branches depend on it.
 ghost use Rattle.std.specs.Prelude.{refl, ◌≡◌, IsTrue, IfOk};
-ghost use Rattle.trees.specs.Tree.{head_of};
-ghost use Rattle.trees.specs.Node.{tree_at, node_tree, head_of_node, parts_of, AreBelow, Holds, Grows};
-ghost use Rattle.trees.specs.Sorts.{sort_of, Fits, WellSorted};
-ghost use Rattle.trees.specs.Binding.{change};
+ghost use Rattle.term_store.specs.trees.Tree.{head_of};
+ghost use Rattle.term_store.specs.trees.Node.{tree_at, node_tree, head_of_node, parts_of, AreBelow, Holds, Grows};
+ghost use Rattle.term_store.specs.trees.Sorts.{sort_of, Fits, WellSorted};
+ghost use Rattle.term_store.specs.trees.Binding.{change};
 ghost use Rattle.elab_walk.specs.Patterns.{reordering};
 ghost use Rattle.elab_walk.specs.Reordered.{sorts_reordering, IsInOrder, HeadFits, AllReorderedFit, IsLookedAt};
 
 use binders::{Visit, change_tree};
 use indexmap::IndexSet;
 use std::alloc::{AllocError, Global};
-use term_store::{Grow, Store};
-use trees::{Node, Parts, TermId};
+use term_store::{Grow, Node, Parts, Store, TermId};
 
 /// The innermost variables have other places.
 #[derive(Drop)]

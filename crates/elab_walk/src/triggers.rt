@@ -1,8 +1,8 @@
 // What is wanted of a trigger.
 // It depends on the heads of triggers, on variables and on drafts; the walk depends on it.
 ghost use Rattle.std.specs.Prelude.{◌≡◌, List, IfOk, IfSome, OnOk, length, option_map};
-ghost use Rattle.trees.specs.Tree.{Tree};
-ghost use Rattle.trees.specs.Node.{tree_at, Grows};
+ghost use Rattle.term_store.specs.trees.Tree.{Tree};
+ghost use Rattle.term_store.specs.trees.Node.{tree_at, Grows};
 ghost use Rattle.elab_names.specs.Abstract.{expression_of};
 ghost use Rattle.elab_names.specs.Faults.{trigger_named, is_formula_head, is_formula_trigger};
 ghost use Rattle.elab_names.specs.Naming.{where_at, head_at};
@@ -12,11 +12,10 @@ ghost use Rattle.elab_walk.specs.Drafts.{HoldsType, locals_at, names_of_locals, 
 use crate::draft::{Constraints, new_unknown};
 use crate::locals::{Locals, local_named};
 use elab_names::{TriggerHead, World, names_predicate, own_name, prefix_operator, trigger_of};
-use outside::Text;
+use names_space::Text;
 use std::alloc::{AllocError, Global};
 use syntax_why::Expr;
-use term_store::Store;
-use trees::TermId;
+use term_store::{Store, TermId};
 
 // Whether a name is that of a predicate, which no variable hides.
 fn is_formula_name(

@@ -2,10 +2,10 @@
 // They depend on what names mean and on the binding functions; the walk depends on them.
 ghost use Rattle.std.specs.Prelude.{◌≡◌, List, None, Some, IfOk, IfSome, length, slice_get, All, option_map};
 ghost use Rattle.std.specs.Option.{option_copied};
-ghost use Rattle.trees.specs.Node.{tree_at, Holds, Grows};
-ghost use Rattle.trees.specs.Sorts.{IsList, int_type};
-ghost use Rattle.trees.specs.Binding.{inst_types};
-ghost use Rattle.trees.specs.declared.Sort.TheVariants.{Kind};
+ghost use Rattle.term_store.specs.trees.Node.{tree_at, Holds, Grows};
+ghost use Rattle.term_store.specs.trees.Sorts.{IsList, int_type};
+ghost use Rattle.term_store.specs.trees.Binding.{inst_types};
+ghost use Rattle.term_store.specs.trees.declared.Sort.TheVariants.{Kind};
 ghost use Rattle.tasks.specs.Meaning.{trees_at};
 ghost use Rattle.tasks.specs.Equations.{cells};
 ghost use Rattle.elab_names.specs.Abstract.{type_expression_of, forms_of};
@@ -18,13 +18,11 @@ ghost use Rattle.elab_walk.specs.Drafts.{HoldsType, SymbolTyped, WorldHeld, Mean
 
 use binders::inst_types;
 use elab_names::{World, own_name, variable_named};
-use names_space::TypeName;
-use outside::{Seq, Text};
+use names_space::{Seq, Text, TypeName};
 use std::alloc::{AllocError, Global};
 use syntax_why::{TypeNode, TypeTree};
 use tasks::SymbolInfo;
-use term_store::{Grow, Store};
-use trees::{Node, TermId};
+use term_store::{Grow, Node, Store, TermId};
 
 /// The list of these types.
 pub fn list_of(store: &mut Store, ids: &[TermId]) -> Result<TermId, AllocError>

@@ -2,10 +2,10 @@
 // They depend on drafts and on types; the walk depends on them.
 ghost use Rattle.std.specs.Prelude.{◌≡◌, List, IfOk, IfSome, false, All, option_map};
 ghost use Rattle.std.specs.Option.{option_copied};
-ghost use Rattle.trees.specs.Tree.{Tree};
-ghost use Rattle.trees.specs.Node.{tree_at, Holds, Grows};
-ghost use Rattle.trees.specs.Sorts.{IsList};
-ghost use Rattle.trees.specs.declared.Sort.TheVariants.{Term};
+ghost use Rattle.term_store.specs.trees.Tree.{Tree};
+ghost use Rattle.term_store.specs.trees.Node.{tree_at, Holds, Grows};
+ghost use Rattle.term_store.specs.trees.Sorts.{IsList};
+ghost use Rattle.term_store.specs.trees.declared.Sort.TheVariants.{Term};
 ghost use Rattle.tasks.specs.Meaning.{trees_at};
 ghost use Rattle.elab_walk.specs.Patterns.{first_or_int, rest_of};
 ghost use Rattle.elab_walk.specs.Pieces.{local_piece, symbol_at_types};
@@ -15,8 +15,7 @@ use crate::draft::{Constraints, equate, make, unknowns};
 use crate::types::{int, list_of, put_types, result_type};
 use std::alloc::{AllocError, Global};
 use tasks::SymbolInfo;
-use term_store::{Grow, Store};
-use trees::{Node, TermId};
+use term_store::{Grow, Node, Store, TermId};
 
 /// A variable of a place and a type. More places than there are numbers are want of memory.
 pub fn walk_local(

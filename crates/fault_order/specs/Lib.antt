@@ -1,2 +1,3 @@
+pub use Rattle.outside.specs as outside
 pub mod Order
 pub mod Answers

@@ -7,3 +7,4 @@ mod fetching;
 
 pub use faults::{Fault, RunFault};
 pub use fetching::{fetch_short, fetch_whole};
+pub use outside::{Library, Seq};

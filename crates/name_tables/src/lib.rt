@@ -7,5 +7,6 @@ mod table;
 mod things;
 mod walk;
 
+pub use name_entries::{NameEntry, NameOf};
 pub use table::{names_of, problem_names, task_names};
 pub use things::{Things, is_interpreted};

@@ -1,2 +1,3 @@
+pub use Rattle.outside.proofs as outside
 pub mod Listed
 pub mod Inside

@@ -5,6 +5,7 @@
 ghost use Rattle.std.specs.Prelude.{◌≡◌};
 ghost use Rattle.names_space.specs.Names.{number_of};
 
+pub use outside::{Seq, Text};
 use std::alloc::{AllocError, AllocFailed};
 
 mod entries;

@@ -2,7 +2,7 @@
 use Rattle.std.proofs.Common.{◌≡◌, ◌∙◌, ◌<◌, ◌≤◌, ◌+◌, ◌++◌, ℕ, List, [], ◌∷◌, length, map, get_or, take, drop, Option, Some, None, sym, ap, subst, arith, append_assoc}
 use Rattle.std.specs.List.{flat_map}
 use Rattle.std.proofs.lemmas.List.{append-nil, length-map, map-append, get_or-map, get_or_past, take_more, drop_more, drop_all}
-use Rattle.trees.specs.Tree.{Tree}
+use Rattle.tasks.specs.trees.Tree.{Tree}
 use Rattle.tasks.specs.declared.task.Task.{Task}
 use Rattle.tasks.specs.declared.signature.SymbolInfo.{SymbolInfo}
 use Rattle.tasks.specs.Task.{SymbolTree, int_symbol, TaskTree, symbol_or}
@@ -19,7 +19,7 @@ use Rattle.part_texts.specs.declared.fault.PartFault.TheVariants as part_fault
 use Rattle.part_texts.specs.Problems.{part_fault_at, or_later, first_fault, IsPartFault, AreProblems}
 use Rattle.part_texts.specs.Texts.{part_text, texts_from}
 use Rattle.part_texts.specs.Names.{name_text, names_from}
-use Rattle.plain_laws.proofs.Lists.{drop_at as left_at}
+use Rattle.tasks.proofs.plain_laws.Lists.{drop_at as left_at}
 
 pub flat_step : {X : Type 0} (f : X → List ℕ) (xs : List X) (i : ℕ) (x : X) (old new all : List ℕ) → x ≡ get_or xs i x → i < length xs → new ≡ old ++ f x
     → old ++ flat_map f (drop i xs) ≡ all → new ++ flat_map f (drop (i + 1) xs) ≡ all

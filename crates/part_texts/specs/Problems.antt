@@ -1,6 +1,6 @@
 -- The problems of the parts of a goal, and their first fault. Parts count from 1.
 use Rattle.std.specs.Prelude.{◌≡◌, ℕ, ◌+◌, List, [], ◌∷◌, map, All, Option, Some, None}
-use Rattle.trees.specs.Tree.{Tree}
+use Rattle.tasks.specs.trees.Tree.{Tree}
 use Rattle.tasks.specs.Task.{TaskTree}
 use Rattle.driver_parts.specs.declared.driver.Driver.{Driver}
 use Rattle.printed_problems.specs.declared.fault.PrintFault.{PrintFault}

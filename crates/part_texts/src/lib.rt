@@ -10,4 +10,5 @@ mod texts;
 pub use fault::PartFault;
 pub use making::problems_of;
 pub use names::name_texts;
+pub use printed_problems::Problem;
 pub use texts::part_texts;

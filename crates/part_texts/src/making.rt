@@ -11,8 +11,7 @@ use crate::fault::{PartFault, fault_of};
 use driver_parts::Driver;
 use printed_problems::{Problem, problem};
 use std::alloc::Global;
-use tasks::Task;
-use term_store::Store;
+use tasks::{Store, Task};
 
 // The problem of a part.
 fn problem_at(

@@ -2,7 +2,7 @@
 // They depend on the problems of the parts; the program writes them.
 ghost use Rattle.std.specs.Prelude.{◌≡◌, ◌≤◌, ◌++◌, ◌-◌, take, drop, length, List, IfOk, OnOk};
 ghost use Rattle.std.specs.List.{flat_map};
-ghost use Rattle.trees.specs.Tree.{Tree};
+ghost use Rattle.tasks.specs.trees.Tree.{Tree};
 ghost use Rattle.tasks.specs.Task.{symbol_or};
 ghost use Rattle.tasks.specs.Meaning.{symbol_at, symbols_at, task_at, tasks_at, TasksHeld};
 ghost use Rattle.name_tables.specs.Spelling.{own_name};
@@ -13,8 +13,7 @@ use driver_parts::Driver;
 use name_entries::{NameEntry, NameOf};
 use printed_problems::Problem;
 use std::alloc::{AllocError, Global};
-use tasks::{Signature, SymbolInfo, SymbolKind, Task};
-use term_store::Store;
+use tasks::{Signature, Store, SymbolInfo, SymbolKind, Task};
 
 // Whether a name without scopes is an operator's.
 fn is_operator(name: &[u8]) -> bool

@@ -12,8 +12,7 @@ use driver_parts::Driver;
 use printed_problems::Problem;
 use smt_texts::smt_text;
 use std::alloc::{AllocError, Global};
-use tasks::Task;
-use term_store::Store;
+use tasks::{Store, Task};
 use tff_texts::tff_text;
 
 // The text of a part in the syntax of the driver's printer.

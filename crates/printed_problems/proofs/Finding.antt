@@ -14,7 +14,7 @@ use Rattle.printed_problems.specs.declared.fault.PrintFault.{PrintFault}
 use Rattle.printed_problems.specs.Problems.{places_from}
 use Rattle.printed_problems.specs.Faults.{is_bare, is_bare_in, place_where, at_place, syntax_fault, print_fault_or_else, first_print_fault, printed_type_fault}
 use Rattle.printed_problems.specs.Checks.{CanCheck, MeetsFault, MeetsSeen, is_seen, first_where, bare_fault, the_task}
-use Rattle.outside.proofs.Bools.{or_grouped as or_twice, or_false}
+use Rattle.tasks.proofs.outside.Bools.{or_grouped as or_twice, or_false}
 
 -- what is there with one more
 has_one : (os : List Occurrence) (p o : Occurrence) → has (with_one os p) o ≡ (has os o || is_same o p)

@@ -9,7 +9,7 @@ use Rattle.trees.specs.Node.{tree_at, assemble}
 use Rattle.driver_items.specs.declared.kinds.Syntax.{Syntax}
 use Rattle.printed_problems.specs.Faults.{has_head, has_forms}
 use Rattle.printed_problems.specs.Checks.{HaveForms, parts_have_forms}
-use Rattle.outside.proofs.Bools.{and_true}
+use Rattle.tasks.proofs.outside.Bools.{and_true}
 
 -- the operator at the top, and the children
 pub forms_of_parts : (p : Syntax) (e : Tree) → (has_head p (head_of e) && parts_have_forms p e) ≡ has_forms p e

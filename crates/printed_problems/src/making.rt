@@ -15,9 +15,8 @@ use crate::places::{Question, places_of};
 use crate::printed::Problem;
 use driver_parts::Driver;
 use name_tables::{Things, names_of};
-use outside::{Seq, Text};
 use std::alloc::{AllocError, Global};
-use tasks::{Body, Decl, Task};
+use tasks::{Body, Decl, Seq, Task, Text};
 use term_store::Store;
 use trees::TermId;
 

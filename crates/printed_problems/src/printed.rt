@@ -1,6 +1,6 @@
 // What is printed of a task.
 use name_entries::NameEntry;
-use outside::{Seq, Text};
+use tasks::{Seq, Text};
 use trees::TermId;
 
 /// What is printed of a task: its name table, the driver's preludes, the places of the types and of

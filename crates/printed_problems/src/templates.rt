@@ -5,7 +5,7 @@ ghost use Rattle.printed_problems.specs.Templates.{has_template};
 
 use driver_items::Piece;
 use driver_parts::Driver;
-use outside::Seq;
+use tasks::Seq;
 
 fn has_entry(templates: &[(usize, Seq<Piece>)], symbol: usize) -> bool
     ensures { result ≡ list_any (λ t. t.0 == symbol) templates.now }

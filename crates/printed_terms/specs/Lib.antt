@@ -1,3 +1,4 @@
+pub use Rattle.printed_problems.specs as printed_problems
 pub mod Words
 pub mod Texts
 pub mod Ranks

@@ -4,8 +4,8 @@ ghost use Rattle.std.specs.List.{flat_map};
 ghost use Rattle.printed_terms.specs.Problems.{line};
 ghost use Rattle.printed_terms.specs.Meaning.{Appends};
 
-use outside::Text;
 use std::alloc::AllocError;
+use tasks::Text;
 
 /// Appends preludes, each as a line.
 pub fn push_preludes(out: &mut Vec<u8>, preludes: &[Text]) -> Result<(), AllocError>

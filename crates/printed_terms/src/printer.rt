@@ -12,8 +12,8 @@ use driver_items::{Piece, Syntax};
 use driver_parts::Driver;
 use name_entries::NameEntry;
 use name_tables::Things;
-use outside::Seq;
 use std::alloc::{AllocError, Global};
+use tasks::Seq;
 use term_store::Store;
 use trees::TermId;
 

@@ -11,9 +11,8 @@ ghost use Rattle.printed_terms.specs.Meaning.{printing, CanPrint, Appends};
 use crate::printer::TermPrinter;
 use crate::sorts::push_sort_at;
 use name_entries::{NameEntry, NameOf};
-use outside::Seq;
 use std::alloc::{AllocError, Global};
-use tasks::SymbolInfo;
+use tasks::{Seq, SymbolInfo};
 use term_store::Store;
 use trees::{Node, TermId};
 

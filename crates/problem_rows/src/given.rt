@@ -1,6 +1,6 @@
 // What was said before a row: symbols, the place of those of int.Int, and a driver.
-use outside::MemoryLibrary;
 use std::alloc::{AllocError, Global};
+use tasks::MemoryLibrary;
 
 /// The lines of symbols, the place of the first of int.Int or 0, and the driver's text.
 #[derive(Drop)]

@@ -4,9 +4,9 @@ use Rattle.std.proofs.lemmas.List.{length-append, get_or-map, get_or_append_left
 use Rattle.std.proofs.lemmas.List.Elements.{All-append, All-cons, All-nil}
 use Rattle.std.proofs.lemmas.Bool.{cases_lt}
 use Rattle.std.proofs.Math.Seq.{get_or-append_seam}
-use Rattle.outside.specs.State.{LibraryState}
-use Rattle.trees.specs.Tree.{Tree}
-use Rattle.trees.specs.Node.{Grows}
+use Rattle.statuses.specs.outside.State.{LibraryState}
+use Rattle.tasks.specs.trees.Tree.{Tree}
+use Rattle.tasks.specs.trees.Node.{Grows}
 use Rattle.tasks.specs.declared.task.Task.{Task}
 use Rattle.tasks.specs.Task.{TaskTree}
 use Rattle.tasks.specs.Meaning.{task_at, tasks_at, TaskHeld, TasksHeld}
@@ -14,16 +14,16 @@ use Rattle.tasks.proofs.Growth.{map_agree, task_later, task_held_later}
 use Rattle.rule_rows.specs.declared.rule.Step.{Step}
 use Rattle.rule_rows.specs.Trees.{StepTree}
 use Rattle.rule_rows.specs.Meaning.{steps_at, StepsHeld}
-use Rattle.kernel.proofs.Growth.{steps_later, steps_held_later}
-use Rattle.evidence.specs.Stages.{task_or, no_task, parts_at, part_or, PartsHeld, PartsClose}
-use Rattle.kernel.specs.Right.{Closes}
+use Rattle.written_files.proofs.kernel.Growth.{steps_later, steps_held_later}
+use Rattle.stages.specs.evidence.Stages.{task_or, no_task, parts_at, part_or, PartsHeld, PartsClose}
+use Rattle.written_files.specs.kernel.Right.{Closes}
 use Rattle.driver_parts.specs.declared.driver.Driver.{Driver}
-use Rattle.fault_order.specs.Answers.{Answers}
-use Rattle.fault_order.specs.Order.{StageMeaning, Answer, After}
+use Rattle.statuses.specs.fault_order.Answers.{Answers}
+use Rattle.statuses.specs.fault_order.Order.{StageMeaning, Answer, After}
 use Rattle.program.specs.Order.{PartFile, FirstFiles, name_with_number}
-use Rattle.fault_order.specs.declared.faults.RunFault.{RunFault}
-use Rattle.fault_order.specs.declared.faults.RunFault.TheVariants as run_fault
-use Rattle.fault_order.proofs.Meeting.{answers_then, answers_stop, answers_value, still_twice}
+use Rattle.statuses.specs.fault_order.declared.faults.RunFault.{RunFault}
+use Rattle.statuses.specs.fault_order.declared.faults.RunFault.TheVariants as run_fault
+use Rattle.statuses.proofs.fault_order.Meeting.{answers_then, answers_stop, answers_value, still_twice}
 
 module _ (s s' : List Tree) (g : Grows s s') where
   -- a part, over a store that has grown

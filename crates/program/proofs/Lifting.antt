@@ -1,23 +1,23 @@
 -- The stages of `lift` after the goal's task.
 use Rattle.std.proofs.Common.{◌≡◌, ◌≢◌, ◌+◌, ◌∙◌, ◌==◌, ℕ, true, false, List, length, Result, Ok, Err, None, inl, refl, sym, ap, subst, arith}
 use Rattle.std.proofs.lemmas.Bool.Decides.{nat_tests}
-use Rattle.outside.specs.State.{LibraryState}
+use Rattle.statuses.specs.outside.State.{LibraryState}
 use Rattle.tasks.specs.Task.{TaskTree}
 use Rattle.rule_rows.specs.Trees.{StepTree}
-use Rattle.name_tables.specs.Tables.{task_names}
-use Rattle.step_files.specs.Lines.{StepsOf}
+use Rattle.written_files.specs.name_tables.Tables.{task_names}
+use Rattle.written_files.specs.step_files.Lines.{StepsOf}
 use Rattle.stages.specs.Lifted.{HandedHasSequents}
 use Rattle.program.specs.Lifted.{IsLifted}
 use Rattle.driver_parts.specs.declared.driver.Driver.{Driver}
-use Rattle.fault_order.specs.Answers.{Answers, IsStageAnswer}
-use Rattle.fault_order.specs.Order.{RunStop, refused, StageMeaning, Answer}
+use Rattle.statuses.specs.fault_order.Answers.{Answers, IsStageAnswer}
+use Rattle.statuses.specs.fault_order.Order.{RunStop, refused, StageMeaning, Answer}
 use Rattle.source_goals.specs.Order.{GoalSettingTree}
 use Rattle.program.specs.Order.{if_counted, FirstFiles, Lifts, Handed, PrintableParts, RefutationsRead, Lifting}
-use Rattle.fault_order.specs.declared.faults.Fault.TheVariants.{PartCount}
-use Rattle.fault_order.specs.declared.faults.RunFault.{RunFault}
-use Rattle.fault_order.specs.declared.faults.RunFault.TheVariants as run_fault
-use Rattle.fault_order.proofs.Meeting.{answers_then, answers_stop, answers_value, answers_refused}
-use Rattle.fault_order.proofs.Stages.{answers_stage}
+use Rattle.statuses.specs.fault_order.declared.faults.Fault.TheVariants.{PartCount}
+use Rattle.statuses.specs.fault_order.declared.faults.RunFault.{RunFault}
+use Rattle.statuses.specs.fault_order.declared.faults.RunFault.TheVariants as run_fault
+use Rattle.statuses.proofs.fault_order.Meeting.{answers_then, answers_stop, answers_value, answers_refused}
+use Rattle.statuses.proofs.fault_order.Stages.{answers_stage}
 
 counted_all : (parts : List TaskTree) (n : ℕ) → length parts ≡ n → Ok parts ≡ if_counted parts n
 counted_all parts n e =

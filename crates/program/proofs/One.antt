@@ -1,13 +1,13 @@
 -- A run has one answer: each stage has at most one. Where a derivation is lifted it is one stop, or none.
 use Rattle.std.proofs.Common.{◌≡◌, ◌⊎◌, ◌+◌, ◌++◌, ◌∷◌, [], ◌∙◌, ℕ, zero, suc, length, map, drop, List, Option, Some, None, IfSome, Result, Ok, Err, inl, inr, refl, sym, ap, subst}
-use Rattle.outside.specs.State.{Files, LibraryState}
+use Rattle.statuses.specs.outside.State.{Files, LibraryState}
 use Rattle.tasks.specs.Task.{TaskTree}
 use Rattle.rule_rows.specs.Trees.{StepTree}
-use Rattle.evidence.specs.Stages.{task_or}
-use Rattle.name_entries.specs.declared.names.NameEntry.{NameEntry}
-use Rattle.name_tables.specs.Tables.{task_names}
+use Rattle.stages.specs.evidence.Stages.{task_or}
+use Rattle.written_files.specs.name_entries.declared.names.NameEntry.{NameEntry}
+use Rattle.written_files.specs.name_tables.Tables.{task_names}
 use Rattle.driver_parts.specs.declared.driver.Driver.{Driver}
-use Rattle.printed_problems.specs.Problems.{problem_of}
+use Rattle.part_texts.specs.printed_problems.Problems.{problem_of}
 use Rattle.part_texts.specs.declared.fault.PartFault.{PartFault}
 use Rattle.part_texts.specs.declared.fault.PartFault.TheVariants as part_fault
 use Rattle.part_texts.specs.Problems.{first_fault}
@@ -16,22 +16,22 @@ use Rattle.stages.specs.Carried.{carried_task}
 use Rattle.stages.specs.Listing.{stages_of}
 use Rattle.part_texts.specs.Texts.{part_texts}
 use Rattle.part_texts.specs.Names.{name_texts}
-use Rattle.fault_order.specs.Answers.{IsWholeAnswer, EndsAs}
-use Rattle.fault_order.specs.declared.faults.RunFault.{RunFault}
-use Rattle.fault_order.specs.declared.faults.RunFault.TheVariants as run_fault
-use Rattle.fault_order.specs.Order.{RunStop, refused, absent, misused, Stage, StageMeaning, Answer, After, fetched, if_short, ShortFile, WholeFile, HasOneAnswer}
+use Rattle.statuses.specs.fault_order.Answers.{IsWholeAnswer, EndsAs}
+use Rattle.statuses.specs.fault_order.declared.faults.RunFault.{RunFault}
+use Rattle.statuses.specs.fault_order.declared.faults.RunFault.TheVariants as run_fault
+use Rattle.statuses.specs.fault_order.Order.{RunStop, refused, absent, misused, Stage, StageMeaning, Answer, After, fetched, if_short, ShortFile, WholeFile, HasOneAnswer}
 use Rattle.source_goals.specs.Order.{Goal, GoalSettingTree, GoalUnder, AreDetermined}
 use Rattle.program.specs.Order.{or_not_built, or_stage_refused, Carried, Printable, PrintableParts, ProblemTexts, ProblemTables, PrintText, NamesText, accepted, AreSteps, Checks, Derivation, CheckText, if_counted, RefutesPart, PartFile, name_with_number, FirstFiles, Lifts, Handed, RefutationsRead, Lifting, LiftText, word_with_number, TextOf, AnswerBy, AnswerOf}
-use Rattle.fault_order.proofs.OneStage.{one_answer, one_after}
+use Rattle.statuses.proofs.fault_order.OneStage.{one_answer, one_after}
 use Rattle.program.specs.Only.{IsDueAlone, IsOnlyAnswer, IsOnlyStop}
 use Rattle.source_goals.proofs.OneSource.{one_goal, one_short_file}
 use Rattle.source_goals.proofs.OneSetting.{one_setting}
 use Rattle.program.proofs.Checking.{one_outcome, one_wrong, one_list}
 use Rattle.statuses.specs.Words.{command_of}
-use Rattle.fault_order.specs.declared.faults.Fault.TheVariants.{Polymorphic, Unprintable, NoSyntax, WrongLine}
+use Rattle.statuses.specs.fault_order.declared.faults.Fault.TheVariants.{Polymorphic, Unprintable, NoSyntax, WrongLine}
 use Rattle.statuses.specs.declared.words.Command.{Command}
 use Rattle.statuses.specs.declared.words.Command.TheVariants.{Print, Names, Check, Lift}
-use Rattle.plain_laws.proofs.Options.{if_some as told}
+use Rattle.tasks.proofs.plain_laws.Options.{if_some as told}
 
 one_carried : (g : GoalSettingTree) → HasOneAnswer (Carried g)
 one_carried g = one_after (Answer (or_not_built (stages_of g.driver g.task))) (λ stages. Answer (or_stage_refused (carried_task (map equation_of stages) g.task))) (one_answer _) (λ stages. one_answer _)

@@ -2,7 +2,7 @@
 use Rattle.std.proofs.Common.{◌≡◌, ◌⊎◌, ◌∙◌, ℕ, List, None, Result, Ok, Err, inl, inr, refl, ap, sym, subst, map}
 use Rattle.tasks.specs.Task.{TaskTree}
 use Rattle.rule_rows.specs.Trees.{StepTree}
-use Rattle.evidence.specs.Stages.{PartsClose}
+use Rattle.stages.specs.evidence.Stages.{PartsClose}
 use Rattle.driver_parts.specs.declared.driver.Driver.{Driver}
 use Rattle.stages.specs.declared.fault.CarryFault.{CarryFault}
 use Rattle.stages.specs.declared.fault.CarryFault.TheVariants as of_carry
@@ -14,13 +14,13 @@ use Rattle.stages.specs.Listing.{stages_of}
 use Rattle.part_texts.specs.declared.fault.PartFault.{PartFault}
 use Rattle.part_texts.specs.declared.fault.PartFault.TheVariants as of_part
 use Rattle.part_texts.specs.Problems.{IsPartFault, first_fault}
-use Rattle.fault_order.specs.Answers.{IsStageAnswer}
-use Rattle.fault_order.specs.Order.{RunStop, Stage, Answer}
+use Rattle.statuses.specs.fault_order.Answers.{IsStageAnswer}
+use Rattle.statuses.specs.fault_order.Order.{RunStop, Stage, Answer}
 use Rattle.source_goals.specs.Order.{GoalSettingTree}
 use Rattle.program.specs.Order.{or_not_built, or_stage_refused, Carried, Printable, PrintableParts}
 use Rattle.program.specs.Lifted.{AreRefutedUnder}
 use Rattle.program.specs.Values.{carry_fault, part_fault}
-use Rattle.fault_order.proofs.Stages.{gives_then, gives_stop}
+use Rattle.statuses.proofs.fault_order.Stages.{gives_then, gives_stop}
 
 list_stopped : (said : Result (List Transformation) ℕ) (e : CarryFault) → IsListFault said e → IsStageAnswer (Answer (or_not_built said)) (Err (carry_fault e))
 list_stopped said of_carry.Memory h = tt

@@ -4,9 +4,9 @@
 -- first named fault. What the words and the files ask for, and the order of faults, is `AnswerOf`; here is which status comes of it,
 -- and what the sinks gain.
 use Rattle.std.specs.Prelude.{◌≡◌, ◌≢◌, ◌<◌, ◌⊎◌, ℕ, IfSome, List, None, Result, Ok, Err}
-use Rattle.outside.specs.State.{LibraryState, SinkState, Gains, GainsPrefix, Rose}
-use Rattle.fault_order.specs.Order.{RunStop, refused, absent, unread, misused}
-use Rattle.fault_order.specs.Answers.{Still, OneAbsent, OneFault, StopsAt}
+use Rattle.statuses.specs.outside.State.{LibraryState, SinkState, Gains, GainsPrefix, Rose}
+use Rattle.statuses.specs.fault_order.Order.{RunStop, refused, absent, unread, misused}
+use Rattle.statuses.specs.fault_order.Answers.{Still, OneAbsent, OneFault, StopsAt}
 use Rattle.statuses.specs.Words.{command_of}
 use Rattle.statuses.specs.Lines.{status_line}
 use Rattle.statuses.specs.declared.status.Status.{Status}

@@ -2,8 +2,8 @@
 use Rattle.std.specs.Prelude.{◌≡◌, ℕ, List, None, Ok}
 use Rattle.tasks.specs.Task.{TaskTree}
 use Rattle.rule_rows.specs.Trees.{StepTree}
-use Rattle.name_tables.specs.Tables.{task_names}
-use Rattle.step_files.specs.Lines.{StepsOf}
+use Rattle.written_files.specs.name_tables.Tables.{task_names}
+use Rattle.written_files.specs.step_files.Lines.{StepsOf}
 use Rattle.driver_parts.specs.declared.driver.Driver.{Driver}
 use Rattle.stages.specs.declared.transformation.Transformation.{Transformation}
 use Rattle.stages.specs.Listing.{stages_of}

@@ -1,9 +1,9 @@
 -- What a command answers is the only answer that is due.
 use Rattle.std.specs.Prelude.{◌≡◌, None, Result, Ok, Err, IfSome}
-use Rattle.outside.specs.State.{Files, LibraryState}
-use Rattle.fault_order.specs.Order.{RunStop, refused, absent, StageMeaning}
-use Rattle.fault_order.specs.declared.faults.RunFault.{RunFault}
-use Rattle.fault_order.specs.declared.faults.RunFault.TheVariants as run_fault
+use Rattle.statuses.specs.outside.State.{Files, LibraryState}
+use Rattle.statuses.specs.fault_order.Order.{RunStop, refused, absent, StageMeaning}
+use Rattle.statuses.specs.fault_order.declared.faults.RunFault.{RunFault}
+use Rattle.statuses.specs.fault_order.declared.faults.RunFault.TheVariants as run_fault
 
 -- over these files a meaning has this answer at most
 abbrev pub IsDueAlone : {A : Type 0} → StageMeaning A → Result A RunStop → Files → Type 0

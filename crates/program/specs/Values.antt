@@ -1,21 +1,21 @@
 -- What the results of a run's parts stand for over a store.
 use Rattle.std.specs.Prelude.{List, Result, Ok, Err, Vec}
 use Rattle.std.specs.declared.alloc.Global.{Global}
-use Rattle.trees.specs.Tree.{Tree}
+use Rattle.tasks.specs.trees.Tree.{Tree}
 use Rattle.tasks.specs.declared.task.Task.{Task}
 use Rattle.tasks.specs.Task.{TaskTree}
 use Rattle.tasks.specs.Meaning.{task_at, tasks_at}
 use Rattle.rule_rows.specs.declared.rule.Step.{Step}
 use Rattle.rule_rows.specs.Trees.{StepTree}
 use Rattle.rule_rows.specs.Meaning.{steps_at}
-use Rattle.evidence.specs.Stages.{parts_at}
+use Rattle.stages.specs.evidence.Stages.{parts_at}
 use Rattle.stages.specs.declared.fault.CarryFault.{CarryFault}
 use Rattle.stages.specs.declared.fault.CarryFault.TheVariants as of_carry
 use Rattle.part_texts.specs.declared.fault.PartFault.{PartFault}
 use Rattle.part_texts.specs.declared.fault.PartFault.TheVariants as of_part
-use Rattle.fault_order.specs.declared.faults.Fault.TheVariants as fault
-use Rattle.fault_order.specs.declared.faults.RunFault.{RunFault}
-use Rattle.fault_order.specs.declared.faults.RunFault.TheVariants as run_fault
+use Rattle.statuses.specs.fault_order.declared.faults.Fault.TheVariants as fault
+use Rattle.statuses.specs.fault_order.declared.faults.RunFault.{RunFault}
+use Rattle.statuses.specs.fault_order.declared.faults.RunFault.TheVariants as run_fault
 use Rattle.source_goals.specs.Order.{GoalSettingTree, setting_of}
 use Rattle.source_goals.specs.declared.setting.GoalSetting.{GoalSetting}
 use Rattle.program.specs.declared.parts.PartProblems.{PartProblems}

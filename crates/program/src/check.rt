@@ -1,18 +1,16 @@
 // The command `check`: whether a file derives a goal from the goal's own theory.
 // It depends on the goal's task and on the checker; the top call depends on it.
 ghost use Rattle.tasks.specs.Meaning.{task_at, TaskHeld};
-ghost use Rattle.fault_order.specs.Answers.{Answers, EndsAs, IsStageAnswer, result_bytes};
+ghost use Rattle.statuses.specs.fault_order.Answers.{Answers, EndsAs, IsStageAnswer, result_bytes};
 ghost use Rattle.program.specs.Only.{IsOnlyAnswer};
 ghost use Rattle.program.specs.Order.{CheckText, Checks, Derivation};
 
 use crate::steps::read_steps;
-use fault_order::{RunFault, fetch_whole};
-use name_tables::task_names;
-use outside::Library;
 use source_goals::find_task;
+use statuses::{Library, RunFault, fetch_whole};
 use std::alloc::Global;
-use tasks::Task;
-use term_store::Store;
+use tasks::{Store, Task};
+use written_files::task_names;
 
 // Reads a derivation of a task to its end.
 fn check_steps(

@@ -3,18 +3,18 @@
 ghost use Rattle.std.specs.Prelude.{Ok, IfOk};
 ghost use Rattle.tasks.specs.Meaning.{task_at, TaskHeld};
 ghost use Rattle.tasks.specs.Valid.{IsValid};
-ghost use Rattle.evidence.specs.Stages.{parts_at, PartsHeld};
+ghost use Rattle.stages.specs.evidence.Stages.{parts_at, PartsHeld};
 ghost use Rattle.stages.specs.Listing.{stages_of};
 ghost use Rattle.stages.specs.Lifted.{IsDerived};
 ghost use Rattle.tasks.specs.Words.{NamesAreWords};
 ghost use Rattle.program.specs.Lifted.{AreRefutedUnder, IsLifted};
 
-use outside::Seq;
 use rule_rows::Step;
 use source_goals::GoalSetting;
 use stages::{CarryFault, Derived, lift, stages_of};
+use statuses::Seq;
 use std::alloc::{AllocError, Global};
-use term_store::Store;
+use tasks::Store;
 use written_files::write_derivation;
 
 // A derivation of a task, from refutations of its parts.

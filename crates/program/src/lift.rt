@@ -1,13 +1,13 @@
 // The command `lift`: from refutations of a goal's problems, a derivation of the goal from its theory.
 // It depends on the parts of the goal's task, the refutations and the derivation; the top call depends on it.
 ghost use Rattle.std.specs.Prelude.{◌≡◌, ◌≢◌, ◌+◌, length, map, string_bytes, MatchResult, IfOk};
-ghost use Rattle.trees.specs.Node.{Grows};
+ghost use Rattle.tasks.specs.trees.Node.{Grows};
 ghost use Rattle.tasks.specs.Meaning.{task_at, tasks_at, TaskHeld, TasksHeld};
 ghost use Rattle.tasks.specs.Valid.{IsValid};
-ghost use Rattle.evidence.specs.Stages.{PartsClose, PartsHeld, parts_at};
+ghost use Rattle.stages.specs.evidence.Stages.{PartsClose, PartsHeld, parts_at};
 ghost use Rattle.tasks.specs.Words.{NamesAreWords};
 ghost use Rattle.part_texts.specs.Problems.{AreProblems};
-ghost use Rattle.fault_order.specs.Answers.{Answers, EndsAs, result_bytes};
+ghost use Rattle.statuses.specs.fault_order.Answers.{Answers, EndsAs, result_bytes};
 ghost use Rattle.program.specs.Order.{Handed, Lifting, LiftText, RefutationsRead};
 ghost use Rattle.program.specs.Only.{IsOnlyStop};
 ghost use Rattle.program.specs.Lifted.{AreRefutedUnder};
@@ -18,14 +18,12 @@ use crate::parts::find_parts;
 use crate::refutations::read_files;
 use crate::setting::valid_setting;
 use driver_parts::Driver;
-use fault_order::{Fault, RunFault};
-use outside::{Library, Seq};
-use printed_problems::Problem;
+use part_texts::Problem;
 use rule_rows::Step;
 use source_goals::GoalSetting;
+use statuses::{Fault, Library, RunFault, Seq};
 use std::alloc::Global;
-use tasks::Task;
-use term_store::Store;
+use tasks::{Store, Task};
 
 // Whether there are as many files as parts.
 fn count_files(parts: usize, files: usize) -> Result<(), RunFault>

@@ -1,23 +1,21 @@
 // The parts of a task: it is carried through the stages of the driver, and each part can be printed.
 // They depend on the stages and on the problems of parts; `print`, `names` and `lift` depend on them.
 ghost use Rattle.std.specs.Prelude.{◌≡◌, IfOk};
-ghost use Rattle.trees.specs.Node.{Grows};
+ghost use Rattle.tasks.specs.trees.Node.{Grows};
 ghost use Rattle.tasks.specs.Meaning.{task_at, tasks_at, TaskHeld, TasksHeld};
 ghost use Rattle.tasks.specs.Valid.{IsValid};
 ghost use Rattle.part_texts.specs.Problems.{AreProblems};
-ghost use Rattle.fault_order.specs.Answers.{IsStageAnswer};
+ghost use Rattle.statuses.specs.fault_order.Answers.{IsStageAnswer};
 ghost use Rattle.program.specs.Order.{Carried, PrintableParts, Printable};
 ghost use Rattle.program.specs.Values.{carry_fault, part_fault, parts_in, setting_at, tasks_in};
 
 use driver_parts::Driver;
-use fault_order::{Fault, RunFault};
-use part_texts::{PartFault, problems_of};
-use printed_problems::Problem;
+use part_texts::{PartFault, Problem, problems_of};
 use source_goals::GoalSetting;
 use stages::{CarryFault, carry, stages_of};
+use statuses::{Fault, RunFault};
 use std::alloc::Global;
-use tasks::Task;
-use term_store::Store;
+use tasks::{Store, Task};
 
 /// The parts of a task, with their problems.
 #[derive(Drop)]

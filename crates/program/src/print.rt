@@ -2,19 +2,18 @@
 // They depend on the parts of the goal's task and on their texts; the top call depends on them.
 ghost use Rattle.tasks.specs.Meaning.{task_at, TaskHeld};
 ghost use Rattle.tasks.specs.Valid.{IsValid};
-ghost use Rattle.fault_order.specs.Answers.{EndsAs, IsStageAnswer, result_bytes};
+ghost use Rattle.statuses.specs.fault_order.Answers.{EndsAs, IsStageAnswer, result_bytes};
 ghost use Rattle.program.specs.Order.{NamesText, ProblemTables, PrintText, ProblemTexts};
 ghost use Rattle.program.specs.Only.{IsOnlyAnswer};
 ghost use Rattle.program.specs.Values.{setting_at};
 
 use crate::parts::find_parts;
 use crate::setting::valid_setting;
-use fault_order::RunFault;
-use outside::Library;
 use part_texts::{name_texts, part_texts};
 use source_goals::GoalSetting;
+use statuses::{Library, RunFault};
 use std::alloc::Global;
-use term_store::Store;
+use tasks::Store;
 
 // The texts of the problems of a task.
 fn print_task(alloc: Global, store: &mut Store, setting: &GoalSetting) -> Result<Vec<u8>, RunFault>

@@ -1,28 +1,26 @@
 // The refutations that are given, one file for each part of a goal, read in turn.
 // They depend on the fetched files and the reader of steps; `lift` depends on them.
 ghost use Rattle.std.specs.Prelude.{◌≡◌, ◌+◌, ◌<◌, length, map, IfOk, string_bytes};
-ghost use Rattle.trees.specs.Node.{Grows};
+ghost use Rattle.tasks.specs.trees.Node.{Grows};
 ghost use Rattle.tasks.specs.Meaning.{task_at, tasks_at, TaskHeld, TasksHeld};
 ghost use Rattle.rule_rows.specs.Meaning.{steps_at, StepsHeld};
-ghost use Rattle.evidence.specs.Stages.{parts_at, PartsHeld};
-ghost use Rattle.printed_problems.specs.Problems.{problem_of};
+ghost use Rattle.stages.specs.evidence.Stages.{parts_at, PartsHeld};
+ghost use Rattle.part_texts.specs.printed_problems.Problems.{problem_of};
 ghost use Rattle.part_texts.specs.Problems.{AreProblems};
-ghost use Rattle.fault_order.specs.Answers.{Answers};
+ghost use Rattle.statuses.specs.fault_order.Answers.{Answers};
 ghost use Rattle.program.specs.Order.{PartFile, FirstFiles};
-ghost use Rattle.kernel.specs.Right.{Closes};
-ghost use Rattle.evidence.specs.Stages.{PartsClose};
+ghost use Rattle.written_files.specs.kernel.Right.{Closes};
+ghost use Rattle.stages.specs.evidence.Stages.{PartsClose};
 ghost use Rattle.program.specs.Values.{steps_in, handed_in};
 
 use crate::steps::read_steps;
 use driver_parts::Driver;
-use fault_order::{RunFault, fetch_short};
-use name_entries::NameEntry;
-use outside::{Library, Seq};
-use printed_problems::Problem;
+use part_texts::Problem;
 use rule_rows::Step;
+use statuses::{Library, RunFault, Seq, fetch_short};
 use std::alloc::Global;
-use tasks::Task;
-use term_store::Store;
+use tasks::{Store, Task};
+use written_files::NameEntry;
 
 // The greatest height of a formula in a file of refutations.
 const TALLEST: u64 = 2000;

@@ -4,15 +4,14 @@ ghost use Rattle.std.specs.Prelude.{IfOk};
 ghost use Rattle.tasks.specs.Meaning.{task_at, TaskHeld};
 ghost use Rattle.tasks.specs.Valid.{IsValid};
 ghost use Rattle.tasks.specs.Words.{NamesAreWords};
-ghost use Rattle.fault_order.specs.Answers.{Answers};
+ghost use Rattle.statuses.specs.fault_order.Answers.{Answers};
 ghost use Rattle.source_goals.specs.Order.{GoalUnder};
 ghost use Rattle.source_goals.specs.Values.{next_in, setting_in};
 
-use fault_order::RunFault;
-use outside::Library;
 use source_goals::{GoalSetting, find_setting};
+use statuses::{Library, RunFault};
 use std::alloc::Global;
-use term_store::Store;
+use tasks::Store;
 
 /// The task of a goal of the source, with the driver of a file.
 pub fn valid_setting<L: Library>(

@@ -1,21 +1,19 @@
 // The steps of a file, which is read to its end.
 // They depend on the reader of steps; `check` and the reading of refutations depend on them.
 ghost use Rattle.std.specs.Prelude.{IfOk};
-ghost use Rattle.trees.specs.Node.{Grows};
+ghost use Rattle.tasks.specs.trees.Node.{Grows};
 ghost use Rattle.tasks.specs.Meaning.{task_at, TaskHeld};
 ghost use Rattle.rule_rows.specs.Meaning.{steps_at, StepsHeld};
-ghost use Rattle.kernel.specs.Right.{Closes};
-ghost use Rattle.fault_order.specs.Answers.{IsStageAnswer};
+ghost use Rattle.written_files.specs.kernel.Right.{Closes};
+ghost use Rattle.statuses.specs.fault_order.Answers.{IsStageAnswer};
 ghost use Rattle.program.specs.Order.{AreSteps};
 ghost use Rattle.program.specs.Values.{steps_in};
 
-use fault_order::{Fault, RunFault};
-use name_entries::NameEntry;
 use rule_rows::Step;
+use statuses::{Fault, RunFault};
 use std::alloc::Global;
-use step_files::{ReadFault, StepReader};
-use tasks::Task;
-use term_store::Store;
+use tasks::{Store, Task};
+use written_files::{NameEntry, ReadFault, StepReader};
 
 /// The steps of a file's bytes, which derive a task. The first wrong line is refused (91), as one of the part with this number.
 pub(crate) fn read_steps(

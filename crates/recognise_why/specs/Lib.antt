@@ -1,3 +1,4 @@
+pub use Rattle.reading.specs as reading
 pub mod Common
 pub mod Depth
 pub mod Spans

@@ -1,1 +1,2 @@
+pub use Rattle.decl_checks.proofs as decl_checks
 mod Covered

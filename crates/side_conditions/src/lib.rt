@@ -4,4 +4,6 @@
 
 mod sides;
 
+pub use decl_checks::CheckFault;
+pub use match_cover::{ValueShape, cover};
 pub use sides::{SideFault, check_sides};

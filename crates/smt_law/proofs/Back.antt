@@ -2,24 +2,24 @@
 use Rattle.std.proofs.Common.{ℕ, ℤ, pos, negsuc, zero, suc, ◌-◌, ◌==◌, ◌&&◌, ◌||◌, not, Bool, true, false, if◌then◌else◌, List, [], ◌∷◌, ◌++◌, length, get_or, drop, slice_get, codes, Option, Some, None, bytes_eq, option_map}
 use Rattle.std.specs.List.{position_or_len}
 use Rattle.std.specs.Str.Parse.{digits_value}
-use Rattle.trees.specs.declared.Sort.{Sort}
-use Rattle.trees.specs.declared.Sort.TheVariants.{Formula}
-use Rattle.trees.specs.declared.Op.TheVariants.{And, Or, Imp, Iff}
-use Rattle.trees.specs.Tree.{Tree, Leaf, One, Two, Three, HTyRigid, HTyApp, HEnd, HBound, HParam, HNum, HFun, HPred, HEq, HTrue, HFalse, HNot, HJoin, HForall, HExists, HLet, HIf}
-use Rattle.trees.specs.Sorts.{sort_of, type_of}
-use Rattle.trees.specs.Binding.{inst_types}
+use Rattle.tasks.specs.trees.declared.Sort.{Sort}
+use Rattle.tasks.specs.trees.declared.Sort.TheVariants.{Formula}
+use Rattle.tasks.specs.trees.declared.Op.TheVariants.{And, Or, Imp, Iff}
+use Rattle.tasks.specs.trees.Tree.{Tree, Leaf, One, Two, Three, HTyRigid, HTyApp, HEnd, HBound, HParam, HNum, HFun, HPred, HEq, HTrue, HFalse, HNot, HJoin, HForall, HExists, HLet, HIf}
+use Rattle.tasks.specs.trees.Sorts.{sort_of, type_of}
+use Rattle.tasks.specs.trees.Binding.{inst_types}
 use Rattle.tasks.specs.declared.signature.SymbolKind.{SymbolKind}
 use Rattle.tasks.specs.declared.signature.SymbolKind.TheVariants.{Predicate}
 use Rattle.tasks.specs.Task.{SymbolTree, symbol_or}
 use Rattle.tasks.specs.Typing.{members, option_list}
 use Rattle.tasks.specs.Equations.{cells}
 use Rattle.linear_leaf.specs.Valuations.{same_tree}
-use Rattle.name_entries.specs.declared.names.NameOf.{NameOf}
-use Rattle.name_entries.specs.declared.names.NameOf.TheVariants.{Rigid}
-use Rattle.name_entries.specs.declared.names.NameEntry.{NameEntry}
+use Rattle.name_tables.specs.name_entries.declared.names.NameOf.{NameOf}
+use Rattle.name_tables.specs.name_entries.declared.names.NameOf.TheVariants.{Rigid}
+use Rattle.name_tables.specs.name_entries.declared.names.NameEntry.{NameEntry}
 use Rattle.name_tables.specs.Occurrences.{Occurrence, whole_occurrence}
 use Rattle.name_tables.specs.Tables.{occurrence_place}
-use Rattle.printed_problems.specs.Templates.{has_template}
+use Rattle.printed_terms.specs.printed_problems.Templates.{has_template}
 use Rattle.s_expressions.specs.Sexps.{Sexp, SexpWord, Group, Nothing, Then}
 use Rattle.smt_law.specs.Plain.{begins_number, is_local, syntax_words, is_reserved, is_type, arity}
 use Rattle.smt_law.specs.Reading.{tree_as_read}

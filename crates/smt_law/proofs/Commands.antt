@@ -1,7 +1,7 @@
 -- The commands of a problem that are after what its table makes, as S-expressions, each on a line.
 use Rattle.std.proofs.Common.{◌≡◌, ℕ, ◌+◌, List, [], ◌∷◌, ◌++◌, codes, refl, sym, ap, ◌∙◌, append_assoc, append-nil}
 use Rattle.std.specs.Fmt.{decimal}
-use Rattle.trees.specs.Tree.{Tree}
+use Rattle.tasks.specs.trees.Tree.{Tree}
 use Rattle.name_tables.specs.Tables.{thing_of}
 use Rattle.printed_terms.specs.Texts.{parameter}
 use Rattle.smt_texts.specs.Text.{smt_parameter_line}

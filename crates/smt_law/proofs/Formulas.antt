@@ -4,24 +4,24 @@ use Rattle.std.specs.Fmt.{decimal, signed_decimal}
 use Rattle.std.specs.Str.Parse.{digits_value}
 use Rattle.std.proofs.lemmas.List.{length-map}
 use Rattle.std.proofs.lemmas.Option.{get_or_from_slice_get, slice_get_within}
-use Rattle.trees.specs.declared.Op.{Op}
-use Rattle.trees.specs.declared.Op.TheVariants.{And, AndThen, Or, OrElse, Imp, Iff}
-use Rattle.trees.specs.declared.Sort.{Sort}
-use Rattle.trees.specs.declared.Sort.TheVariants.{Kind, Term, Formula, Pattern, Branch}
-use Rattle.trees.specs.declared.Sort.TheVariants as sorts
-use Rattle.trees.specs.Tree.{Tree, Leaf, One, Two, Three, Head, HEnd, HCell, HBound, HParam, HNum, HFun, HPred, HEq, HTrue, HFalse, HNot, HJoin, HForall, HExists, HLet, HIf, HCase, HArm, HPatAny, HPatVar, HPatCon, HPatAlias}
-use Rattle.trees.specs.Sorts.{yield, sort_of, type_of, IsExpression, IsList}
-use Rattle.trees.proofs.Types.{expression_yield}
+use Rattle.tasks.specs.trees.declared.Op.{Op}
+use Rattle.tasks.specs.trees.declared.Op.TheVariants.{And, AndThen, Or, OrElse, Imp, Iff}
+use Rattle.tasks.specs.trees.declared.Sort.{Sort}
+use Rattle.tasks.specs.trees.declared.Sort.TheVariants.{Kind, Term, Formula, Pattern, Branch}
+use Rattle.tasks.specs.trees.declared.Sort.TheVariants as sorts
+use Rattle.tasks.specs.trees.Tree.{Tree, Leaf, One, Two, Three, Head, HEnd, HCell, HBound, HParam, HNum, HFun, HPred, HEq, HTrue, HFalse, HNot, HJoin, HForall, HExists, HLet, HIf, HCase, HArm, HPatAny, HPatVar, HPatCon, HPatAlias}
+use Rattle.tasks.specs.trees.Sorts.{yield, sort_of, type_of, IsExpression, IsList}
+use Rattle.tasks.proofs.trees.Types.{expression_yield}
 use Rattle.tasks.specs.declared.signature.SymbolKind.TheVariants as kinds
 use Rattle.tasks.specs.Task.{symbol_or}
 use Rattle.tasks.specs.Typing.{members, option_list, bound_types, IsUse, HasResult, MakesTerms}
 use Rattle.tasks.specs.Equations.{cells}
 use Rattle.tasks.proofs.Closing.{typed_sorted}
-use Rattle.driver_items.specs.declared.kinds.Syntax.{Syntax}
-use Rattle.driver_items.specs.declared.kinds.Syntax.TheVariants.{Smt}
+use Rattle.driver_files.specs.driver_items.declared.kinds.Syntax.{Syntax}
+use Rattle.driver_files.specs.driver_items.declared.kinds.Syntax.TheVariants.{Smt}
 use Rattle.name_tables.specs.Occurrences.{occurrence, in_type, in_types_of, occurrences, of_two}
 use Rattle.name_tables.specs.Tables.{thing_of}
-use Rattle.printed_problems.specs.Problems.{is_kind}
+use Rattle.printed_terms.specs.printed_problems.Problems.{is_kind}
 use Rattle.printed_terms.specs.Words.{truth_text}
 use Rattle.printed_terms.specs.declared.words.Form.TheVariants.{Negation, Connected, Conditional}
 use Rattle.printed_terms.specs.declared.words.Binder.TheVariants.{ForAll, ThereIs, LetIn}
@@ -39,7 +39,7 @@ use Rattle.smt_law.proofs.Texts.{Writes, texts_of, symbol_is, equality_is, negat
 use Rattle.smt_law.proofs.Inputs.{Input, input_one, input_left, input_right, input_first, input_second, input_third}
 use Rattle.smt_law.proofs.Symbols.{IsUsed, used_by, term_no_type, symbol_proper, predicate_back, function_back}
 use Rattle.std.proofs.lemmas.Bool.{or_right}
-use Rattle.plain_laws.proofs.Lists.{bytes_same as its_word}
+use Rattle.tasks.proofs.plain_laws.Lists.{bytes_same as its_word}
 
 -- ---- sorts
 kind_no : {X : Type 0} → IsExpression Kind → X

@@ -4,35 +4,35 @@ use Rattle.std.specs.Option.{is_some}
 use Rattle.std.proofs.lemmas.Option.{get_or_from_slice_get, slice_get_within}
 use Rattle.std.proofs.lemmas.Bool.Decides.{Decides-eqb}
 use Rattle.std.proofs.lemmas.List.{length-map}
-use Rattle.trees.specs.declared.Sort.TheVariants.{Kind, List as ListSort}
-use Rattle.trees.specs.Tree.{Tree, Leaf, One, Two, Three, Head, HTyVar, HTyRigid, HTyApp, HEnd, HCell, HNum, HTrue, HFalse, HArm, above_ty_vars}
-use Rattle.trees.specs.Sorts.{sort_of, IsList, WellSorted, LeafFits}
-use Rattle.trees.proofs.Types.{OnlyTypes, only_types}
+use Rattle.tasks.specs.trees.declared.Sort.TheVariants.{Kind, List as ListSort}
+use Rattle.tasks.specs.trees.Tree.{Tree, Leaf, One, Two, Three, Head, HTyVar, HTyRigid, HTyApp, HEnd, HCell, HNum, HTrue, HFalse, HArm, above_ty_vars}
+use Rattle.tasks.specs.trees.Sorts.{sort_of, IsList, WellSorted, LeafFits}
+use Rattle.tasks.proofs.trees.Types.{OnlyTypes, only_types}
 use Rattle.tasks.specs.declared.signature.SymbolKind.TheVariants as kinds
 use Rattle.tasks.specs.Task.{SymbolTree, symbol_or, int_symbol}
 use Rattle.tasks.specs.Typing.{members, TypedUnder}
 use Rattle.tasks.proofs.Closing.{typed_sorted}
 use Rattle.linear_leaf.specs.Valuations.{same_tree}
 use Rattle.linear_leaf.proofs.SameTree.{same_is}
-use Rattle.driver_items.specs.declared.kinds.Piece.{Piece}
-use Rattle.driver_items.specs.Syntaxes.{syntax_of}
-use Rattle.driver_items.specs.declared.kinds.Syntax.TheVariants.{Smt}
-use Rattle.name_entries.specs.declared.names.NameEntry.{NameEntry}
+use Rattle.driver_files.specs.driver_items.declared.kinds.Piece.{Piece}
+use Rattle.driver_files.specs.driver_items.Syntaxes.{syntax_of}
+use Rattle.driver_files.specs.driver_items.declared.kinds.Syntax.TheVariants.{Smt}
+use Rattle.name_tables.specs.name_entries.declared.names.NameEntry.{NameEntry}
 use Rattle.name_tables.specs.Occurrences.{Occurrence, occurrence, whole_occurrence, in_type}
 use Rattle.name_tables.specs.Tables.{is_same, occurrence_place, thing_of}
 use Rattle.name_tables.specs.Seen.{has, AreIn}
 use Rattle.name_tables.proofs.Gathering.{same_occurrence, same_itself}
-use Rattle.printed_problems.specs.Templates.{template_of, has_template}
-use Rattle.printed_problems.specs.Problems.{is_kind}
+use Rattle.printed_terms.specs.printed_problems.Templates.{template_of, has_template}
+use Rattle.printed_terms.specs.printed_problems.Problems.{is_kind}
 use Rattle.printed_terms.specs.Texts.{printed_name, text_of_entry, sort_text, by_template, printed_sort, name_at}
 use Rattle.printed_terms.proofs.Members.{sort_members}
 use Rattle.smt_law.specs.Plain.{IsFreeWord, IsPlainWord, ArePlain, EqualityIsPlain, is_type, arity}
 use Rattle.smt_law.proofs.Forms.{Known, word_of}
 use Rattle.smt_law.proofs.Back.{first_where, at_none, is_called, is_type_called, is_symbol_called, is_rigid, type_at, type_called}
 use Rattle.smt_law.proofs.Words.{equals_free}
-use Rattle.plain_laws.proofs.Bools.{and_first as and_left, and_second as and_right}
+use Rattle.tasks.proofs.plain_laws.Bools.{and_first as and_left, and_second as and_right}
 use Rattle.std.proofs.lemmas.Bool.{or_right, and_from as and_true}
-use Rattle.plain_laws.proofs.Lists.{bytes_are as same_word, bytes_same as its_word}
+use Rattle.tasks.proofs.plain_laws.Lists.{bytes_are as same_word, bytes_same as its_word}
 
 abbrev pub IsThere : Known → Occurrence → Type 0
 IsThere c o = has c.printing.things o ≡ true

@@ -1,20 +1,20 @@
 -- What is known of a term or formula that is printed, and of its parts.
 use Rattle.std.proofs.Common.{◌≡◌, ℕ, ◌+◌, ◌≤◌, ◌^◌, ◌&&◌, Bool, true, false, List, ◌++◌, length, arith}
 use Rattle.std.proofs.lemmas.List.{length-append}
-use Rattle.trees.specs.Tree.{Tree, One, Two, Three, Head, HArm, HForall, HExists, HLet, height, above_ty_vars, binders_over}
+use Rattle.tasks.specs.trees.Tree.{Tree, One, Two, Three, Head, HArm, HForall, HExists, HLet, height, above_ty_vars, binders_over}
 use Rattle.tasks.specs.Typing.{TypedUnder, bound_types}
 use Rattle.tasks.specs.Valid.{ParametersOf}
 use Rattle.tasks.proofs.Counts.{bound_count}
 use Rattle.tasks.proofs.Closing.{typed_sorted}
-use Rattle.driver_items.specs.declared.kinds.Syntax.TheVariants.{Smt}
+use Rattle.driver_files.specs.driver_items.declared.kinds.Syntax.TheVariants.{Smt}
 use Rattle.name_tables.specs.Occurrences.{of_one, of_two, of_three, occurrences}
 use Rattle.name_tables.specs.Seen.{AreIn}
-use Rattle.printed_problems.specs.Faults.{has_head, has_forms}
+use Rattle.printed_terms.specs.printed_problems.Faults.{has_head, has_forms}
 use Rattle.printed_terms.specs.Texts.{depth_under}
 use Rattle.smt_law.specs.Law.{LiteralsFit}
 use Rattle.smt_law.proofs.Forms.{Known}
 use Rattle.smt_law.proofs.Found.{in_first, in_rest}
-use Rattle.plain_laws.proofs.Bools.{and_first as and_left, and_second as and_right}
+use Rattle.tasks.proofs.plain_laws.Bools.{and_first as and_left, and_second as and_right}
 
 pub record Input (c : Known) (d : ℕ) (types : List Tree) (e : Tree) : Type 0 where
   pub depth : d ≡ length types

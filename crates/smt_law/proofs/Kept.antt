@@ -1,8 +1,8 @@
 -- Trees as a reader takes them have the sorts, the types and the lists of the old ones.
 use Rattle.std.proofs.Common.{◌≡◌, List, [], ◌∷◌, length, Option, option_map, refl, ap, ◌∙◌, arith}
-use Rattle.trees.specs.declared.Sort.{Sort}
-use Rattle.trees.specs.Tree.{Tree, Leaf, One, Two, Three, Head, HCell, HArm, HBound, HParam, HNum, HFun, HJoin, HLet, HIf, HCase, HPatAny, HPatVar, HPatCon, HPatAlias}
-use Rattle.trees.specs.Sorts.{two_sort, three_sort, yield, top_sort, sort_of, leaf_type, one_type, two_type, three_type, yield_type, top_type, type_of}
+use Rattle.tasks.specs.trees.declared.Sort.{Sort}
+use Rattle.tasks.specs.trees.Tree.{Tree, Leaf, One, Two, Three, Head, HCell, HArm, HBound, HParam, HNum, HFun, HJoin, HLet, HIf, HCase, HPatAny, HPatVar, HPatCon, HPatAlias}
+use Rattle.tasks.specs.trees.Sorts.{two_sort, three_sort, yield, top_sort, sort_of, leaf_type, one_type, two_type, three_type, yield_type, top_type, type_of}
 use Rattle.tasks.specs.Typing.{members}
 use Rattle.tasks.specs.Equations.{cells}
 use Rattle.smt_law.specs.Reading.{read_head, tree_as_read}

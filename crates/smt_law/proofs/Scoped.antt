@@ -11,7 +11,7 @@ use Rattle.smt_law.specs.Plain.{is_decimal_digit}
 use Rattle.smt_law.specs.Law.{begins_digit, IsOrdinary, ScopedNamesAreSpelt}
 use Rattle.smt_law.proofs.Words.{or_false}
 use Rattle.smt_law.proofs.Spelt.{names_are_spelt}
-use Rattle.plain_laws.proofs.Bools.{and_both as both, negated}
+use Rattle.tasks.proofs.plain_laws.Bools.{and_both as both, negated}
 
 -- ---- bytes
 other : (c x : ℕ) → is_name_byte x ≡ false → is_name_byte c ≡ true → (c == x) ≡ false

@@ -13,7 +13,7 @@ use Rattle.s_expressions.specs.Sexps.{breaks}
 use Rattle.smt_law.specs.Plain.{is_decimal_digit, begins_number}
 use Rattle.smt_law.specs.Law.{IsEntrySpelt, begins_digit, IsOrdinary, NamesAreSpelt}
 use Rattle.smt_law.proofs.Words.{or_false, digits_whole, letter_no_number}
-use Rattle.plain_laws.proofs.Bools.{or_first as first_false, or_second as rest_false}
+use Rattle.tasks.proofs.plain_laws.Bools.{or_first as first_false, or_second as rest_false}
 
 -- ---- no byte breaks a word
 abbrev whole : List ℕ → Bool

@@ -4,10 +4,10 @@ use Rattle.std.proofs.lemmas.Bool.Decides.{Decides-eqb}
 use Rattle.std.proofs.lemmas.Option.{get_or_from_slice_get}
 use Rattle.std.proofs.lemmas.List.Elements.{Contains-append_left, Contains-append_right}
 use Rattle.std.proofs.lemmas.List.Folds.{list_any-append}
-use Rattle.trees.specs.declared.ints.Ints.{Ints}
-use Rattle.trees.specs.declared.Sort.TheVariants.{Kind}
-use Rattle.trees.specs.Tree.{Tree, Leaf, One, Two, Three, Head, HTyRigid, HTyApp, HEnd, HCell, HArm, HBound, HParam, HNum, HFun, HPred, HEq, HForall, HExists, HLet, HIf, HCase, HPatAny, HPatVar, HPatCon, HPatAlias, above_ty_vars, head_of}
-use Rattle.trees.specs.Sorts.{IsList, WellSorted, yield_type, top_type, type_of}
+use Rattle.tasks.specs.trees.declared.ints.Ints.{Ints}
+use Rattle.tasks.specs.trees.declared.Sort.TheVariants.{Kind}
+use Rattle.tasks.specs.trees.Tree.{Tree, Leaf, One, Two, Three, Head, HTyRigid, HTyApp, HEnd, HCell, HArm, HBound, HParam, HNum, HFun, HPred, HEq, HForall, HExists, HLet, HIf, HCase, HPatAny, HPatVar, HPatCon, HPatAlias, above_ty_vars, head_of}
+use Rattle.tasks.specs.trees.Sorts.{IsList, WellSorted, yield_type, top_type, type_of}
 use Rattle.tasks.specs.declared.signature.SymbolKind.TheVariants as kinds
 use Rattle.tasks.specs.Task.{SymbolTree, int_symbol, TaskTree, symbol_or, declared, made}
 use Rattle.tasks.specs.Vocabulary.{of_task}

@@ -1,17 +1,17 @@
 -- Symbols on arguments, and what a reader makes of them.
 use Rattle.std.proofs.Common.{◌≡◌, ℕ, false, if◌then◌else◌, List, [], ◌∷◌, length, codes, Some, bytes_eq, option_map, refl, sym, ap, ◌∙◌}
 use Rattle.std.proofs.lemmas.List.{length-map}
-use Rattle.trees.specs.declared.Sort.TheVariants.{Kind}
-use Rattle.trees.specs.Tree.{Tree, Two, Three, HFun, HPred}
-use Rattle.trees.specs.Sorts.{type_of, IsList, WellSorted}
-use Rattle.trees.specs.Binding.{inst_types}
+use Rattle.tasks.specs.trees.declared.Sort.TheVariants.{Kind}
+use Rattle.tasks.specs.trees.Tree.{Tree, Two, Three, HFun, HPred}
+use Rattle.tasks.specs.trees.Sorts.{type_of, IsList, WellSorted}
+use Rattle.tasks.specs.trees.Binding.{inst_types}
 use Rattle.tasks.specs.declared.signature.SymbolKind.{SymbolKind}
 use Rattle.tasks.specs.declared.signature.SymbolKind.TheVariants as kinds
 use Rattle.tasks.specs.Task.{SymbolTree, symbol_or}
 use Rattle.tasks.specs.Typing.{members, IsUse, HasResult, MakesTerms}
 use Rattle.tasks.specs.Equations.{cells}
 use Rattle.name_tables.specs.Occurrences.{Occurrence, occurrence}
-use Rattle.printed_problems.specs.Problems.{is_kind}
+use Rattle.printed_terms.specs.printed_problems.Problems.{is_kind}
 use Rattle.s_expressions.specs.Sexps.{Sexp, SexpWord, Group, Nothing, Then, IsWord, IsOne, IsProperList}
 use Rattle.smt_law.specs.Plain.{is_type, arity, arity_of}
 use Rattle.smt_law.specs.Reading.{tree_as_read}

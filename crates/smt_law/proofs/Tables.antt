@@ -5,21 +5,21 @@ use Rattle.std.proofs.lemmas.Bool.Decides.{nat_tests}
 use Rattle.std.proofs.lemmas.Option.{get_or_from_slice_get, slice_get_within}
 use Rattle.std.proofs.lemmas.List.{get_or_append_left}
 use Rattle.std.proofs.lemmas.List.Elements.{Contains-append_left}
-use Rattle.driver_items.specs.Syntaxes.{syntax_of}
-use Rattle.driver_items.specs.declared.kinds.Syntax.TheVariants.{Smt}
-use Rattle.driver_parts.specs.declared.driver.Driver.{Driver}
+use Rattle.driver_files.specs.driver_items.Syntaxes.{syntax_of}
+use Rattle.driver_files.specs.driver_items.declared.kinds.Syntax.TheVariants.{Smt}
+use Rattle.driver_files.specs.driver_parts.declared.driver.Driver.{Driver}
 use Rattle.tasks.specs.Task.{TaskTree, symbol_or, declared, made}
 use Rattle.tasks.specs.Vocabulary.{of_task}
 use Rattle.tasks.proofs.Declared.{any_iff, usable_made, contains_cases, contains_step}
-use Rattle.name_entries.specs.declared.names.NameOf.TheVariants.{Int, Rigid, Symbol}
-use Rattle.name_entries.specs.declared.names.NameEntry.{NameEntry}
+use Rattle.name_tables.specs.name_entries.declared.names.NameOf.TheVariants.{Int, Rigid, Symbol}
+use Rattle.name_tables.specs.name_entries.declared.names.NameEntry.{NameEntry}
 use Rattle.name_tables.specs.Occurrences.{Occurrence, occurrence, whole_occurrence}
 use Rattle.name_tables.specs.Spelling.{own_name, clean}
 use Rattle.name_tables.specs.Tables.{is_same, is_in, occurrence_place, named_thing, entry_at_place, entries_from, problem_things, problem_names}
 use Rattle.name_tables.specs.Seen.{has}
 use Rattle.name_tables.proofs.Gathering.{same_occurrence}
 use Rattle.name_tables.proofs.Differ.{names_differ}
-use Rattle.printed_problems.specs.Problems.{problem_of}
+use Rattle.printed_terms.specs.printed_problems.Problems.{problem_of}
 use Rattle.printed_terms.specs.Texts.{text_of_entry}
 use Rattle.printed_terms.specs.Texts as texts
 use Rattle.printed_terms.specs.Problems.{printing_of}

@@ -2,13 +2,13 @@
 use Rattle.std.proofs.Common.{◌≡◌, ℕ, true, if◌then◌else◌, List, [], ◌∷◌, ◌++◌, length, codes, Option, Some, None, refl, sym, ap, subst, ◌∙◌, append_assoc, append-nil}
 use Rattle.std.specs.Option.{is_some}
 use Rattle.std.specs.Fmt.{decimal}
-use Rattle.trees.specs.declared.Op.{Op}
-use Rattle.trees.specs.declared.Op.TheVariants.{And, AndThen, Or, OrElse, Imp, Iff}
-use Rattle.driver_items.specs.declared.kinds.Piece.{Piece}
-use Rattle.driver_items.specs.declared.kinds.Syntax.{Syntax}
-use Rattle.driver_items.specs.Syntaxes.{syntax_of}
-use Rattle.driver_items.specs.declared.kinds.Syntax.TheVariants.{Smt}
-use Rattle.printed_problems.specs.Templates.{template_of, has_template}
+use Rattle.tasks.specs.trees.declared.Op.{Op}
+use Rattle.tasks.specs.trees.declared.Op.TheVariants.{And, AndThen, Or, OrElse, Imp, Iff}
+use Rattle.driver_files.specs.driver_items.declared.kinds.Piece.{Piece}
+use Rattle.driver_files.specs.driver_items.declared.kinds.Syntax.{Syntax}
+use Rattle.driver_files.specs.driver_items.Syntaxes.{syntax_of}
+use Rattle.driver_files.specs.driver_items.declared.kinds.Syntax.TheVariants.{Smt}
+use Rattle.printed_terms.specs.printed_problems.Templates.{template_of, has_template}
 use Rattle.printed_terms.specs.declared.words.Form.TheVariants.{Negation, Connected, Equality, Conditional}
 use Rattle.printed_terms.specs.declared.words.Binder.{Binder}
 use Rattle.printed_terms.specs.declared.words.Binder.TheVariants.{ForAll, ThereIs, LetIn}

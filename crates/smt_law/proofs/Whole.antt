@@ -1,17 +1,17 @@
 -- The law of texts.
 use Rattle.std.proofs.Common.{◌≡◌, ℕ, false, subst, List, [], ◌∷◌, ◌++◌, map, drop, codes, flat_map, Option, sym, ap, ◌∙◌, append_assoc}
 use Rattle.std.proofs.lemmas.List.Concat.{flat_map-append}
-use Rattle.trees.specs.Tree.{Tree, Leaf, HEnd}
-use Rattle.trees.specs.declared.ints.Ints.{Ints}
-use Rattle.driver_items.specs.Syntaxes.{syntax_of}
-use Rattle.driver_items.specs.declared.kinds.Syntax.TheVariants.{Smt}
-use Rattle.driver_parts.specs.declared.driver.Driver.{Driver}
+use Rattle.tasks.specs.trees.Tree.{Tree, Leaf, HEnd}
+use Rattle.tasks.specs.trees.declared.ints.Ints.{Ints}
+use Rattle.driver_files.specs.driver_items.Syntaxes.{syntax_of}
+use Rattle.driver_files.specs.driver_items.declared.kinds.Syntax.TheVariants.{Smt}
+use Rattle.driver_files.specs.driver_parts.declared.driver.Driver.{Driver}
 use Rattle.tasks.specs.Task.{SymbolTree, TaskTree}
 use Rattle.tasks.specs.Vocabulary.{Vocabulary}
-use Rattle.name_entries.specs.declared.names.NameEntry.{NameEntry}
+use Rattle.name_tables.specs.name_entries.declared.names.NameEntry.{NameEntry}
 use Rattle.name_tables.specs.Occurrences.{Occurrence}
 use Rattle.name_tables.specs.Tables.{problem_things, problem_names}
-use Rattle.printed_problems.specs.Problems.{is_sort, is_declared_symbol, places_from, preludes, problem_of}
+use Rattle.printed_terms.specs.printed_problems.Problems.{is_sort, is_declared_symbol, places_from, preludes, problem_of}
 use Rattle.printed_terms.specs.Texts.{Printing}
 use Rattle.printed_terms.specs.Problems.{line, printing_of}
 use Rattle.smt_texts.specs.Text.{smt_head_line, smt_sort_line, smt_symbol_line, smt_parameter_lines, smt_goal_line, smt_text}

@@ -1,18 +1,18 @@
 -- The law of texts: what a text in SMT-LIB tells of its problem, where the templates of the driver are plain.
 use Rattle.std.specs.Prelude.{◌≡◌, ℕ, ◌<◌, ◌≤◌, ◌^◌, Bool, false, List, [], ◌∷◌, ◌++◌, map, length, All, None, ℤ, pos, negsuc}
 use Rattle.std.specs.List.{list_any}
-use Rattle.trees.specs.Tree.{Tree, Leaf, One, Two, Three, Head, HNum, height}
-use Rattle.driver_items.specs.Syntaxes.{syntax_of}
-use Rattle.driver_items.specs.declared.kinds.Syntax.TheVariants.{Smt}
-use Rattle.driver_parts.specs.declared.driver.Driver.{Driver}
+use Rattle.tasks.specs.trees.Tree.{Tree, Leaf, One, Two, Three, Head, HNum, height}
+use Rattle.driver_files.specs.driver_items.Syntaxes.{syntax_of}
+use Rattle.driver_files.specs.driver_items.declared.kinds.Syntax.TheVariants.{Smt}
+use Rattle.driver_files.specs.driver_parts.declared.driver.Driver.{Driver}
 use Rattle.tasks.specs.Task.{SymbolTree, TaskTree}
 use Rattle.tasks.specs.Valid.{IsValid}
 use Rattle.tasks.specs.Words.{NamesAreScoped}
-use Rattle.name_entries.specs.declared.names.NameEntry.{NameEntry}
+use Rattle.name_tables.specs.name_entries.declared.names.NameEntry.{NameEntry}
 use Rattle.name_tables.specs.Spelling.{own_name}
 use Rattle.name_tables.specs.Tables.{problem_things, problem_names}
-use Rattle.printed_problems.specs.Problems.{preludes, problem_of}
-use Rattle.printed_problems.specs.Faults.{print_fault}
+use Rattle.printed_terms.specs.printed_problems.Problems.{preludes, problem_of}
+use Rattle.printed_terms.specs.printed_problems.Faults.{print_fault}
 use Rattle.smt_texts.specs.Text.{smt_text}
 use Rattle.s_expressions.specs.Sexps.{breaks}
 use Rattle.smt_law.specs.Plain.{is_decimal_digit, begins_number, Words, ArePlain}

@@ -1,7 +1,7 @@
 -- Trees as a reader of SMT-LIB takes them: `&&` as `/\`, and `||` as `\/`.
-use Rattle.trees.specs.declared.Op.{Op}
-use Rattle.trees.specs.declared.Op.TheVariants.{And, AndThen, Or, OrElse}
-use Rattle.trees.specs.Tree.{Tree, Leaf, One, Two, Three, Head, HJoin}
+use Rattle.tasks.specs.trees.declared.Op.{Op}
+use Rattle.tasks.specs.trees.declared.Op.TheVariants.{And, AndThen, Or, OrElse}
+use Rattle.tasks.specs.trees.Tree.{Tree, Leaf, One, Two, Three, Head, HJoin}
 
 abbrev pub read_op : Op → Op
 read_op AndThen = And

@@ -1,16 +1,16 @@
 -- The templates of drivers/smt_syntax.drv, as they are read over the signature of a task.
 use Rattle.std.specs.Prelude.{◌≡◌, ℕ, ◌==◌, true, if◌then◌else◌, List, [], ◌∷◌, ◌++◌, codes, map, Option, Some, None, IsOkAnd}
 use Rattle.outside.specs.State.{Files}
-use Rattle.trees.specs.declared.ints.Ints.{Ints}
-use Rattle.driver_items.specs.declared.kinds.Piece.{Piece}
-use Rattle.driver_items.specs.Templates as read
-use Rattle.driver_items.specs.declared.kinds.Printer.TheVariants.{Smt}
-use Rattle.driver_items.specs.declared.symbols.Target.TheVariants.{Entry}
-use Rattle.driver_items.specs.Symbols.{NamedTheories, is_known, target_of}
-use Rattle.driver_tokens.specs.declared.terminal.NameKind.{NameKind}
-use Rattle.driver_tokens.specs.declared.terminal.NameKind.TheVariants.{Function, Predicate}
+use Rattle.tasks.specs.trees.declared.ints.Ints.{Ints}
+use Rattle.driver_files.specs.driver_items.declared.kinds.Piece.{Piece}
+use Rattle.driver_files.specs.driver_items.Templates as read
+use Rattle.driver_files.specs.driver_items.declared.kinds.Printer.TheVariants.{Smt}
+use Rattle.driver_files.specs.driver_items.declared.symbols.Target.TheVariants.{Entry}
+use Rattle.driver_files.specs.driver_items.Symbols.{NamedTheories, is_known, target_of}
+use Rattle.driver_files.specs.driver_tokens.declared.terminal.NameKind.{NameKind}
+use Rattle.driver_files.specs.driver_tokens.declared.terminal.NameKind.TheVariants.{Function, Predicate}
 use Rattle.driver_files.specs.Reading.{driver_named}
-use Rattle.driver_parts.specs.declared.driver.Driver.{Driver}
+use Rattle.driver_files.specs.driver_parts.declared.driver.Driver.{Driver}
 use Rattle.tasks.specs.declared.signature.SymbolInfo.{SymbolInfo}
 use Rattle.tasks.specs.Task.{TaskTree}
 use Rattle.tasks.specs.Valid.{IsValid}

@@ -8,7 +8,7 @@ use Rattle.trees.specs.Node.{tree_at}
 use Rattle.tasks.specs.Meaning.{trees_at}
 use Rattle.printed_terms.specs.Texts.{Printing, sort_text}
 use Rattle.smt_texts.specs.Text.{smt_parameter_line, smt_parameter_lines}
-use Rattle.plain_laws.proofs.Lists.{then_piece}
+use Rattle.trees.proofs.plain_laws.Lists.{then_piece}
 
 -- the last piece, where a fault leaves nothing to say
 pub last_piece : {X E : Type 0} (r : Result X E) (o p q a rest : List ℕ) → p ≡ o ++ a → OnOk r (q ≡ p ++ rest) → OnOk r (q ≡ o ++ (a ++ rest))

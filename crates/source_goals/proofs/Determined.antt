@@ -1,6 +1,6 @@
 -- The theories of a file, or its first fault, are one.
 use Rattle.std.proofs.Common.{Ok, Err, sym, ap, ◌∙◌}
-use Rattle.goal_tasks.specs.Theories.{TheoriesTree}
+use Rattle.theories.specs.goal_tasks.Theories.{TheoriesTree}
 use Rattle.fault_order.specs.Order.{RunStop}
 use Rattle.theories.proofs.SameSources.{one_theories, theories_apart, one_fault}
 use Rattle.source_goals.specs.Order.{AreDetermined}

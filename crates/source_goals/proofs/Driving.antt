@@ -1,18 +1,18 @@
 -- The reader of drivers, as a part of a run.
 use Rattle.std.proofs.Common.{◌≡◌, ℕ, List, Option, Some, None, Result, Ok, Err}
-use Rattle.outside.specs.State.{Files, LibraryState}
+use Rattle.fault_order.specs.outside.State.{Files, LibraryState}
 use Rattle.tasks.specs.declared.signature.SymbolInfo.{SymbolInfo}
-use Rattle.driver_items.specs.Symbols.{NamedTheories}
-use Rattle.driver_parts.specs.declared.driver.Driver.{Driver}
-use Rattle.driver_parts.specs.declared.fault.DriverFault.{DriverFault}
-use Rattle.driver_parts.specs.declared.fault.DriverFault.TheVariants as f
+use Rattle.driver_files.specs.driver_items.Symbols.{NamedTheories}
+use Rattle.driver_files.specs.driver_parts.declared.driver.Driver.{Driver}
+use Rattle.driver_files.specs.driver_parts.declared.fault.DriverFault.{DriverFault}
+use Rattle.driver_files.specs.driver_parts.declared.fault.DriverFault.TheVariants as f
 use Rattle.driver_files.specs.Reading.{ReadsAs, driver_named, ReachesReading as DriverReaches}
 use Rattle.fault_order.specs.Answers.{Answers, Reaches}
 use Rattle.fault_order.specs.declared.faults.RunFault.{RunFault}
 use Rattle.source_goals.specs.Known.{KnownByDriver, IsKnownAs}
 use Rattle.source_goals.specs.Order.{DriverOf}
 use Rattle.source_goals.specs.Values.{driver_fault, next_after_driver}
-use Rattle.plain_laws.proofs.Options.{if_some as told}
+use Rattle.tasks.proofs.plain_laws.Options.{if_some as told}
 
 abbrev pub driver_in : Result Driver DriverFault → Result Driver RunFault
 driver_in (Ok d) = Ok d

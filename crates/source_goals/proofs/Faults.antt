@@ -1,13 +1,13 @@
 -- What a refusal of a step says, at the fault that is told.
 use Rattle.std.proofs.Common.{◌≡◌, ◌≢◌, ◌↔◌, ℕ, List, Result, Err, refl, subst}
-use Rattle.trees.specs.Tree.{Tree}
+use Rattle.tasks.specs.trees.Tree.{Tree}
 use Rattle.tokens_why.specs.Tokens.{LexicalAt, BigLiteralAt, UnlessMemory}
 use Rattle.tokens_why.specs.declared.fault.LexFault.{LexFault}
 use Rattle.tokens_why.specs.declared.fault.LexFault.TheVariants.{Lexical, BigLiteral}
 use Rattle.syntax_why.specs.Declarations.{SyntaxTheory}
-use Rattle.theory_states.specs.declared.fault.SourceFault.{SourceFault}
-use Rattle.theory_states.specs.declared.fault.SourceFault.TheVariants as of_source
-use Rattle.theory_states.specs.Uses.{OrMemory}
+use Rattle.theories.specs.theory_states.declared.fault.SourceFault.{SourceFault}
+use Rattle.theories.specs.theory_states.declared.fault.SourceFault.TheVariants as of_source
+use Rattle.theories.specs.theory_states.Uses.{OrMemory}
 use Rattle.theories.specs.Files.{IsFirstSourceFault}
 use Rattle.fault_order.specs.Answers.{IsStageAnswer}
 use Rattle.fault_order.specs.Order.{RunStop, refused, misused}

@@ -3,18 +3,18 @@ use Rattle.std.proofs.Common.{◌≡◌, ◌∙◌, ◌<◌, ◌+◌, ◌++◌, 
 use Rattle.std.specs.Str.{bytes_eq}
 use Rattle.std.proofs.lemmas.List.{append_assoc, append-nil, take_more}
 use Rattle.std.proofs.lemmas.List.Concat.{flat_map-append}
-use Rattle.trees.specs.Tree.{Tree}
+use Rattle.tasks.specs.trees.Tree.{Tree}
 use Rattle.tasks.specs.declared.declaration.Body.{Body}
 use Rattle.tasks.specs.declared.declaration.Body.TheVariants as body
 use Rattle.tasks.specs.declared.declaration.Decl.{Decl}
 use Rattle.tasks.specs.declared.signature.SymbolInfo.{SymbolInfo}
 use Rattle.tasks.specs.Meaning.{symbols_at, body_at, declaration_at, declarations_at}
-use Rattle.driver_items.specs.Symbols.{NamedTheories as NamedTheories}
-use Rattle.goal_tasks.specs.declared.theories.Theories.{Theories}
-use Rattle.goal_tasks.specs.declared.theories.Theory.{Theory}
-use Rattle.goal_tasks.specs.Meaning.{placed, theory_at, theories_at}
+use Rattle.driver_files.specs.driver_items.Symbols.{NamedTheories as NamedTheories}
+use Rattle.theories.specs.goal_tasks.declared.theories.Theories.{Theories}
+use Rattle.theories.specs.goal_tasks.declared.theories.Theory.{Theory}
+use Rattle.theories.specs.goal_tasks.Meaning.{placed, theory_at, theories_at}
 use Rattle.source_goals.specs.Known.{said_name, own_proposition_name, own_names, known_theory, known_of, named_bytes, IsKnownAs, said_names, own_in, own_names_at, names_in, theory_in}
-use Rattle.goal_tasks.proofs.Placed.{placed-append, placed_more}
+use Rattle.theories.proofs.goal_tasks.Placed.{placed-append, placed_more}
 
 module _ (path : List ℕ) where
   names_at : (o : Option Decl) → names_in path (option_to_list o) ≡ own_names_at path o

@@ -1,3 +1,4 @@
+pub use Rattle.theories.proofs as theories
 pub mod Faults
 pub mod KnownNames
 pub mod Naming

@@ -3,9 +3,9 @@ use Rattle.std.proofs.Common.{◌≡◌, ℕ, List, Option, Some, None, Ok, Err,
 use Rattle.std.specs.Prelude.{IsSomeAnd, IsNone}
 use Rattle.tasks.specs.declared.task.Task.{Task}
 use Rattle.tasks.specs.Task.{TaskTree}
-use Rattle.goal_tasks.specs.declared.making.TaskFault.{TaskFault}
-use Rattle.goal_tasks.specs.Theories.{GoalTree, KnownTheoryTree, TheoriesTree, theory_named, goal_named}
-use Rattle.goal_tasks.specs.Tasks.{task_for, IsTaskOf}
+use Rattle.theories.specs.goal_tasks.declared.making.TaskFault.{TaskFault}
+use Rattle.theories.specs.goal_tasks.Theories.{GoalTree, KnownTheoryTree, TheoriesTree, theory_named, goal_named}
+use Rattle.theories.specs.goal_tasks.Tasks.{task_for, IsTaskOf}
 use Rattle.fault_order.specs.declared.faults.Fault.TheVariants.{NoTheory, NoGoal}
 use Rattle.fault_order.specs.Order.{RunStop, refused, StageMeaning}
 use Rattle.source_goals.specs.Order.{TaskOf, goal_task, theory_task}

@@ -1,9 +1,9 @@
 -- A goal has one setting, or one stop, where the theories of each file are determined.
 use Rattle.std.proofs.Common.{◌≡◌, ◌∙◌, ℕ, List, Option, Result, Ok, Err, ap, sym}
-use Rattle.outside.specs.State.{Files}
-use Rattle.driver_parts.specs.declared.driver.Driver.{Driver}
-use Rattle.goal_tasks.specs.Theories.{TheoriesTree}
-use Rattle.driver_parts.specs.declared.fault.DriverFault.TheVariants as of_driver
+use Rattle.fault_order.specs.outside.State.{Files}
+use Rattle.driver_files.specs.driver_parts.declared.driver.Driver.{Driver}
+use Rattle.theories.specs.goal_tasks.Theories.{TheoriesTree}
+use Rattle.driver_files.specs.driver_parts.declared.fault.DriverFault.TheVariants as of_driver
 use Rattle.driver_files.specs.Reading.{DriverStop, driver_named}
 use Rattle.driver_files.specs.Reading as driver
 use Rattle.fault_order.specs.declared.faults.Fault.TheVariants as fault

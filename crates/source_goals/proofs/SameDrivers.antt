@@ -4,23 +4,23 @@ use Rattle.std.specs.Option.{is_some}
 use Rattle.std.proofs.lemmas.List.{length-map}
 use Rattle.source_goals.specs.Known.{KnownByDriver, named_bytes, IsKnownAs}
 use Rattle.word_tables.specs.Words.{is_same_word}
-use Rattle.outside.specs.State.{Files}
-use Rattle.trees.specs.Tree.{Tree}
-use Rattle.trees.specs.Node.{tree_at}
+use Rattle.fault_order.specs.outside.State.{Files}
+use Rattle.tasks.specs.trees.Tree.{Tree}
+use Rattle.tasks.specs.trees.Node.{tree_at}
 use Rattle.tasks.specs.Task.{SymbolTree}
 use Rattle.tasks.specs.Meaning.{symbol_at, symbols_at}
 use Rattle.tasks.specs.declared.signature.SymbolInfo.{SymbolInfo}
 use Rattle.tasks.specs.declared.signature.SymbolKind.{SymbolKind}
 use Rattle.tasks.specs.declared.signature.SymbolKind.TheVariants as kind
-use Rattle.driver_tokens.specs.declared.terminal.NameKind.{NameKind}
-use Rattle.driver_tokens.specs.Tokens.{DriverLexeme}
-use Rattle.driver_tokens.specs.File.{driver_lines}
-use Rattle.driver_items.specs.declared.symbols.Target.{Target}
-use Rattle.driver_items.specs.declared.symbols.Target.TheVariants.{Entry}
-use Rattle.driver_items.specs.Symbols.{NamedTheories, NamedTheory, is_builtin, is_path, theory_with_path, is_known, is_named_kind, is_symbol_named, by_kind, target_or_later, entry_from, builtin_of, target_of, among, among_those, has_proposition}
-use Rattle.driver_parts.specs.declared.parts.DriverParts.{DriverParts}
-use Rattle.driver_parts.specs.Items.{DriverItem, prelude, printer, transformation, file_import, block, end_of_block, template, removal, removal_of_all, silent, item_of}
-use Rattle.driver_parts.specs.Steps.{targeted, removed, block_step, item_in_block, item_step, block_behind}
+use Rattle.driver_files.specs.driver_tokens.declared.terminal.NameKind.{NameKind}
+use Rattle.driver_files.specs.driver_tokens.Tokens.{DriverLexeme}
+use Rattle.driver_files.specs.driver_tokens.File.{driver_lines}
+use Rattle.driver_files.specs.driver_items.declared.symbols.Target.{Target}
+use Rattle.driver_files.specs.driver_items.declared.symbols.Target.TheVariants.{Entry}
+use Rattle.driver_files.specs.driver_items.Symbols.{NamedTheories, NamedTheory, is_builtin, is_path, theory_with_path, is_known, is_named_kind, is_symbol_named, by_kind, target_or_later, entry_from, builtin_of, target_of, among, among_those, has_proposition}
+use Rattle.driver_files.specs.driver_parts.declared.parts.DriverParts.{DriverParts}
+use Rattle.driver_files.specs.driver_parts.Items.{DriverItem, prelude, printer, transformation, file_import, block, end_of_block, template, removal, removal_of_all, silent, item_of}
+use Rattle.driver_files.specs.driver_parts.Steps.{targeted, removed, block_step, item_in_block, item_step, block_behind}
 use Rattle.driver_files.specs.declared.reading.Progress.{Progress}
 use Rattle.driver_files.specs.Reading.{DriverOutcome, ◌then◌, Importer, ReadingPlace, reading_place, import, with_parts, one_file_more, no_import, no_progress, driver_with_printer, short_file, or_syntax, take_item, take_lines, take_bytes, take_file, read_from, driver_named, name_from}
 

@@ -1,9 +1,9 @@
 -- A goal's task with its driver, as a part of a run.
 use Rattle.std.proofs.Common.{◌≡◌, ℕ, List, Result, Ok, Err, inl, inr, refl, ap, sym, arith}
-use Rattle.outside.specs.State.{LibraryState}
+use Rattle.fault_order.specs.outside.State.{LibraryState}
 use Rattle.tasks.specs.Task.{TaskTree}
-use Rattle.driver_parts.specs.declared.driver.Driver.{Driver}
-use Rattle.goal_tasks.specs.Theories.{TheoriesTree}
+use Rattle.driver_files.specs.driver_parts.declared.driver.Driver.{Driver}
+use Rattle.theories.specs.goal_tasks.Theories.{TheoriesTree}
 use Rattle.fault_order.specs.Answers.{Answers, IsStageAnswer}
 use Rattle.fault_order.specs.Order.{Stage, StageMeaning, Answer}
 use Rattle.fault_order.specs.declared.faults.RunFault.{RunFault}

@@ -3,17 +3,17 @@ use Rattle.std.specs.Prelude.{◌≡◌, ℕ, List, [], ◌∷◌, Option, Some,
 use Rattle.std.specs.List.{flat_map}
 use Rattle.std.specs.Str.{bytes_eq}
 use Rattle.std.specs.Str.Lossy.{utf8_lossy}
-use Rattle.trees.specs.Tree.{Tree}
+use Rattle.tasks.specs.trees.Tree.{Tree}
 use Rattle.tasks.specs.Task.{SymbolTree, DeclarationTree, BodyTree, Says}
 use Rattle.tasks.specs.Meaning.{symbols_at}
 use Rattle.tasks.specs.declared.declaration.Body.{Body}
 use Rattle.tasks.specs.declared.declaration.Body.TheVariants.{Prop}
 use Rattle.tasks.specs.declared.declaration.Decl.{Decl}
 use Rattle.tasks.specs.declared.signature.SymbolInfo.{SymbolInfo}
-use Rattle.driver_items.specs.Symbols.{NamedTheories as NamedTheories, NamedTheory as NamedTheory}
-use Rattle.goal_tasks.specs.declared.theories.Theory.{Theory}
-use Rattle.goal_tasks.specs.Theories.{KnownTheoryTree, TheoriesTree}
-use Rattle.goal_tasks.specs.Meaning.{placed}
+use Rattle.driver_files.specs.driver_items.Symbols.{NamedTheories as NamedTheories, NamedTheory as NamedTheory}
+use Rattle.theories.specs.goal_tasks.declared.theories.Theory.{Theory}
+use Rattle.theories.specs.goal_tasks.Theories.{KnownTheoryTree, TheoriesTree}
+use Rattle.theories.specs.goal_tasks.Meaning.{placed}
 
 -- the symbols that a driver may name, and the known theories, each with the names of its propositions
 pub record KnownByDriver : Type 0 where

@@ -1,24 +1,24 @@
 -- From a source's bytes to the task of a goal and the driver that it goes through, or what is first in the way: the bytes'
 -- tokens, their file, its theories; the driver; then the theory and the goal by their names.
 use Rattle.std.specs.Prelude.{◌≡◌, ℕ, List, Option, Some, None, Result, Ok, Err}
-use Rattle.trees.specs.Tree.{Tree}
+use Rattle.tasks.specs.trees.Tree.{Tree}
 use Rattle.tasks.specs.Task.{TaskTree}
 use Rattle.tasks.specs.declared.signature.SymbolInfo.{SymbolInfo}
 use Rattle.tokens_why.specs.declared.token.Token.{Token}
 use Rattle.tokens_why.specs.Tokens.{AreTokens, LexicalAt, BigLiteralAt}
 use Rattle.syntax_why.specs.Lexeme.{Lexeme, rest, terminals}
 use Rattle.syntax_why.specs.Declarations.{SyntaxTheory}
-use Rattle.recognise_why.specs.Depth.{IsTooDeep, IsShallow}
-use Rattle.recognise_why.specs.Sources.{IsFileFault, IsOnlyFile, IsProgramDecl}
-use Rattle.driver_items.specs.Symbols.{NamedTheories as NamedTheories}
-use Rattle.driver_parts.specs.declared.driver.Driver.{Driver}
-use Rattle.driver_parts.specs.declared.fault.DriverFault.TheVariants as driver_fault
+use Rattle.std_theories.specs.recognise_why.Depth.{IsTooDeep, IsShallow}
+use Rattle.std_theories.specs.recognise_why.Sources.{IsFileFault, IsOnlyFile, IsProgramDecl}
+use Rattle.driver_files.specs.driver_items.Symbols.{NamedTheories as NamedTheories}
+use Rattle.driver_files.specs.driver_parts.declared.driver.Driver.{Driver}
+use Rattle.driver_files.specs.driver_parts.declared.fault.DriverFault.TheVariants as driver_fault
 use Rattle.driver_files.specs.Reading.{DriverStop, driver_named}
 use Rattle.driver_files.specs.Reading as driver
-use Rattle.goal_tasks.specs.Theories.{GoalTree, KnownTheoryTree, TheoriesTree, theory_named, goal_named}
-use Rattle.goal_tasks.specs.Tasks.{task_for}
-use Rattle.theory_states.specs.declared.fault.SourceFault.{SourceFault}
-use Rattle.theory_states.specs.declared.fault.SourceFault.TheVariants as source_fault
+use Rattle.theories.specs.goal_tasks.Theories.{GoalTree, KnownTheoryTree, TheoriesTree, theory_named, goal_named}
+use Rattle.theories.specs.goal_tasks.Tasks.{task_for}
+use Rattle.theories.specs.theory_states.declared.fault.SourceFault.{SourceFault}
+use Rattle.theories.specs.theory_states.declared.fault.SourceFault.TheVariants as source_fault
 use Rattle.theories.specs.Files.{TheoriesOf, IsFirstSourceFault}
 use Rattle.fault_order.specs.declared.faults.Fault.TheVariants as fault
 use Rattle.fault_order.specs.Order.{RunStop, refused, absent, unread, Stage, Answer, After, HasOneAnswer, StageMeaning, ShortFile}

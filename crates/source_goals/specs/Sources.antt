@@ -1,14 +1,14 @@
 -- Theories and tasks that come from a source.
 use Rattle.std.specs.Prelude.{ℕ, List}
-use Rattle.trees.specs.Tree.{Tree}
+use Rattle.tasks.specs.trees.Tree.{Tree}
 use Rattle.tasks.specs.Task.{TaskTree}
 use Rattle.tokens_why.specs.declared.token.Token.{Token}
 use Rattle.tokens_why.specs.Tokens.{AreTokens}
 use Rattle.syntax_why.specs.Lexeme.{rest}
 use Rattle.syntax_why.specs.Declarations.{SyntaxTheory}
-use Rattle.recognise_why.specs.Sources.{IsOnlyFile}
-use Rattle.goal_tasks.specs.Theories.{TheoriesTree}
-use Rattle.goal_tasks.specs.Tasks.{IsTaskOf}
+use Rattle.std_theories.specs.recognise_why.Sources.{IsOnlyFile}
+use Rattle.theories.specs.goal_tasks.Theories.{TheoriesTree}
+use Rattle.theories.specs.goal_tasks.Tasks.{IsTaskOf}
 use Rattle.theories.specs.Sound.{SoundTheoriesOf}
 
 -- some text has these theories

@@ -1,7 +1,7 @@
 -- What the results of the parts stand for over a store, and the faults of a run that the parts' faults are.
 use Rattle.std.specs.Prelude.{ℕ, List, Result, Ok, Err, Vec}
 use Rattle.std.specs.declared.alloc.Global.{Global}
-use Rattle.trees.specs.Tree.{Tree}
+use Rattle.tasks.specs.trees.Tree.{Tree}
 use Rattle.tasks.specs.declared.task.Task.{Task}
 use Rattle.tasks.specs.Task.{TaskTree}
 use Rattle.tasks.specs.Meaning.{task_at}
@@ -9,14 +9,14 @@ use Rattle.tokens_why.specs.declared.token.Token.{Token}
 use Rattle.syntax_why.specs.declared.declarations.File.{File}
 use Rattle.syntax_why.specs.Declarations.{SyntaxTheory as Surface}
 use Rattle.syntax_why.specs.SurfaceDeclarations.{file_of}
-use Rattle.driver_parts.specs.declared.driver.Driver.{Driver}
-use Rattle.driver_parts.specs.declared.fault.DriverFault.{DriverFault}
-use Rattle.driver_parts.specs.declared.fault.DriverFault.TheVariants as of_driver
-use Rattle.goal_tasks.specs.declared.theories.Theories.{Theories}
-use Rattle.goal_tasks.specs.Theories.{TheoriesTree}
-use Rattle.goal_tasks.specs.Meaning.{theories_at}
-use Rattle.theory_states.specs.declared.fault.SourceFault.{SourceFault}
-use Rattle.theory_states.specs.declared.fault.SourceFault.TheVariants as of_source
+use Rattle.driver_files.specs.driver_parts.declared.driver.Driver.{Driver}
+use Rattle.driver_files.specs.driver_parts.declared.fault.DriverFault.{DriverFault}
+use Rattle.driver_files.specs.driver_parts.declared.fault.DriverFault.TheVariants as of_driver
+use Rattle.theories.specs.goal_tasks.declared.theories.Theories.{Theories}
+use Rattle.theories.specs.goal_tasks.Theories.{TheoriesTree}
+use Rattle.theories.specs.goal_tasks.Meaning.{theories_at}
+use Rattle.theories.specs.theory_states.declared.fault.SourceFault.{SourceFault}
+use Rattle.theories.specs.theory_states.declared.fault.SourceFault.TheVariants as of_source
 use Rattle.fault_order.specs.declared.faults.Fault.TheVariants as fault
 use Rattle.fault_order.specs.declared.faults.RunFault.{RunFault}
 use Rattle.fault_order.specs.declared.faults.RunFault.TheVariants as run_fault

@@ -7,8 +7,7 @@ ghost use Rattle.source_goals.specs.Order.{DriverOf};
 ghost use Rattle.source_goals.specs.Values.{driver_fault, next_after_driver};
 
 use driver_files::{Driver, DriverFault, read_driver};
-use fault_order::{Fault, RunFault};
-use outside::Library;
+use fault_order::{Fault, Library, RunFault};
 use std::alloc::Global;
 use tasks::Signature;
 

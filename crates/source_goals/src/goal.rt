@@ -2,19 +2,17 @@
 // It depends on the reader of sources; goals under a driver depend on it.
 ghost use Rattle.std.specs.Prelude.{IfOk};
 ghost use Rattle.tasks.specs.Meaning.{symbols_at, task_at, TaskHeld};
-ghost use Rattle.goal_tasks.specs.Meaning.{theories_at, AllTheoriesHeld, AreTuples};
+ghost use Rattle.theories.specs.goal_tasks.Meaning.{theories_at, AllTheoriesHeld, AreTuples};
 ghost use Rattle.fault_order.specs.Answers.{Answers, IsStageAnswer};
 ghost use Rattle.source_goals.specs.Order.{SourceTheoriesOf, Goal, TaskOf};
 ghost use Rattle.source_goals.specs.Sources.{AreSourceTheories, IsSourceTask};
 ghost use Rattle.source_goals.specs.Values.{theories_in, task_in};
 
 use crate::source::read_source;
-use fault_order::{Fault, RunFault, fetch_short};
-use goal_tasks::{TaskFault, Theories, task_of};
-use outside::Library;
+use fault_order::{Fault, Library, RunFault, fetch_short};
 use std::alloc::Global;
-use tasks::Task;
-use term_store::Store;
+use tasks::{Store, Task};
+use theories::{TaskFault, Theories, task_of};
 
 /// The theories of the source, which is the first file.
 pub fn fetch_theories<L: Library>(

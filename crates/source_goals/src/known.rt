@@ -1,8 +1,8 @@
 // What the theories of a source tell the reader of a driver.
 // It depends on the theories and on the reader; a goal under a driver depends on it.
 ghost use Rattle.std.specs.Prelude.{◌≡◌, ◌++◌, List, IfOk, OnOk, map, slice_get, string_bytes};
-ghost use Rattle.trees.specs.Tree.{Tree};
-ghost use Rattle.goal_tasks.specs.Meaning.{placed, theories_at};
+ghost use Rattle.tasks.specs.trees.Tree.{Tree};
+ghost use Rattle.theories.specs.goal_tasks.Meaning.{placed, theories_at};
 ghost use Rattle.fault_order.specs.Answers.{Answers};
 ghost use Rattle.source_goals.specs.Known.{said_names, own_in, own_names_at, names_in, theory_in, known_of, named_bytes};
 ghost use Rattle.source_goals.specs.Order.{DriverOf};
@@ -10,11 +10,10 @@ ghost use Rattle.source_goals.specs.Values.{next_after_driver};
 
 use crate::driver::fetch_driver;
 use driver_files::Driver;
-use fault_order::RunFault;
-use goal_tasks::{Theories, Theory};
-use outside::{Library, Seq};
+use fault_order::{Library, RunFault, Seq};
 use std::alloc::{AllocError, Global};
 use tasks::{Body, Decl};
+use theories::{Theories, Theory};
 
 // Puts the name of a declaration after others, where it says a proposition.
 fn push_said(alloc: Global, names: &mut Vec<String>, decl: &Decl) -> Result<(), AllocError>

@@ -2,7 +2,7 @@
 // It depends on the theories of a source and on the driver; `print`, `names` and `lift` depend on it.
 ghost use Rattle.std.specs.Prelude.{IfOk};
 ghost use Rattle.tasks.specs.Meaning.{symbols_at, task_at, TaskHeld};
-ghost use Rattle.goal_tasks.specs.Meaning.{theories_at, AllTheoriesHeld, AreTuples};
+ghost use Rattle.theories.specs.goal_tasks.Meaning.{theories_at, AllTheoriesHeld, AreTuples};
 ghost use Rattle.fault_order.specs.Answers.{Answers, IsStageAnswer};
 ghost use Rattle.source_goals.specs.Order.{Driven, GoalUnder, TaskUnder};
 ghost use Rattle.source_goals.specs.Sources.{AreSourceTheories, IsSourceTask};
@@ -11,12 +11,10 @@ ghost use Rattle.source_goals.specs.Values.{next_in, setting_in};
 use crate::goal::{fetch_theories, task_in};
 use crate::known::driver_over;
 use driver_files::Driver;
-use fault_order::RunFault;
-use goal_tasks::Theories;
-use outside::Library;
+use fault_order::{Library, RunFault};
 use std::alloc::Global;
-use tasks::Task;
-use term_store::Store;
+use tasks::{Store, Task};
+use theories::Theories;
 
 /// A goal's task with a driver.
 #[derive(Drop)]

@@ -5,8 +5,8 @@ ghost use Rattle.tasks.specs.Meaning.{symbols_at};
 ghost use Rattle.tokens_why.specs.Tokens.{AreTokens};
 ghost use Rattle.syntax_why.specs.Lexeme.{rest};
 ghost use Rattle.syntax_why.specs.SurfaceDeclarations.{file_of};
-ghost use Rattle.recognise_why.specs.Sources.{IsOnlyFile};
-ghost use Rattle.goal_tasks.specs.Meaning.{theories_at, AllTheoriesHeld, AreTuples};
+ghost use Rattle.std_theories.specs.recognise_why.Sources.{IsOnlyFile};
+ghost use Rattle.theories.specs.goal_tasks.Meaning.{theories_at, AllTheoriesHeld, AreTuples};
 ghost use Rattle.theories.specs.Sound.{SoundTheoriesOf};
 ghost use Rattle.fault_order.specs.Answers.{IsStageAnswer};
 ghost use Rattle.source_goals.specs.Order.{Lexes, Parses, Declares, SourceTheories};
@@ -14,14 +14,11 @@ ghost use Rattle.source_goals.specs.Sources.{AreSourceTheories};
 ghost use Rattle.source_goals.specs.Values.{tokens_in, file_in, theories_in, source_fault};
 
 use fault_order::{Fault, RunFault};
-use goal_tasks::Theories;
-use parse_decls::{SyntaxFault, parse};
 use std::alloc::Global;
-use std_theories::drop_file;
+use std_theories::{SyntaxFault, drop_file, parse};
 use syntax_why::File;
-use term_store::Store;
-use theories::type_file;
-use theory_states::SourceFault;
+use tasks::Store;
+use theories::{SourceFault, Theories, type_file};
 use tokens_why::{LexFault, Token, lex};
 
 // The tokens of a text.

@@ -2,16 +2,16 @@
 use Rattle.std.proofs.Common.{ℕ, Bool, List, [], ◌∷◌, length, IfSome, Option, Some, None}
 use Rattle.std.specs.List.{All}
 use Rattle.std.proofs.lemmas.List.Elements.{All-nil, All-cons, All-append, All-weaker}
-use Rattle.trees.specs.Tree.{Tree}
-use Rattle.trees.specs.Node.{Holds}
-use Rattle.trees.specs.declared.TermId.{TermId}
+use Rattle.tasks.specs.trees.Tree.{Tree}
+use Rattle.tasks.specs.trees.Node.{Holds}
+use Rattle.tasks.specs.trees.declared.TermId.{TermId}
 use Rattle.tasks.specs.Meaning.{SymbolHeld}
 use Rattle.tasks.specs.declared.signature.SymbolInfo.{SymbolInfo}
-use Rattle.names_space.specs.declared.Table.TheVariants.{Scopes}
-use Rattle.names_space.specs.declared.TypeName.TheVariants as stands
-use Rattle.names_space.specs.Names.{ScopeNames, ScopeEntry, with_entry, with_scope}
+use Rattle.elab_parts.specs.names_space.declared.Table.TheVariants.{Scopes}
+use Rattle.elab_parts.specs.names_space.declared.TypeName.TheVariants as stands
+use Rattle.elab_parts.specs.names_space.Names.{ScopeNames, ScopeEntry, with_entry, with_scope}
 use Rattle.syntax_why.specs.Lexeme.{Word}
-use Rattle.elab_walk.specs.Drafts.{HoldsType, SymbolTyped}
+use Rattle.elab_parts.specs.elab_walk.Drafts.{HoldsType, SymbolTyped}
 use Rattle.elab_parts.specs.Entries.{IsEntry, AreScopes}
 use Rattle.elab_parts.proofs.Scopes.{scopes_more}
 

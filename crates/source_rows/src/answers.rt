@@ -3,15 +3,12 @@ ghost use Rattle.tasks.specs.Meaning.{symbols_at};
 ghost use Rattle.goal_tasks.specs.Meaning.{AllTheoriesHeld, AreTuples};
 
 use goal_tasks::{TaskFault, Theories, task_of};
-use parse_decls::parse;
 use row_texts::{put_declaration, put_number, put_numbered, put_tree};
 use std::alloc::{AllocError, Global};
-use std_theories::drop_file;
-use syntax_why::File;
-use tasks::Task;
-use term_store::Store;
+use std_theories::{drop_file, parse};
+use syntax_why::{File, lex};
+use tasks::{Store, Task};
 use theories::{SourceFault, type_file};
-use tokens_why::lex;
 
 // The code of a fault, its declaration, and its place there, if it has one.
 #[derive(Clone, Copy)]

@@ -5,16 +5,13 @@ ghost use Rattle.elab_parts.specs.Entries.{IsSignature, AreScopes};
 
 use crate::made::put_made;
 use crate::sides::{put_covers, put_sides};
+use elab_parts::Scope;
 use elab_terms::{ElabFault, Elaborated, begin, elaborate, is_logical, no_names};
-use names_space::Scope;
-use parse_decls::parse;
 use row_texts::{put_entries, put_numbered};
 use std::alloc::{AllocError, Global};
-use std_theories::drop_file;
-use syntax_why::{DeclNode, DeclTree, File};
-use tasks::Signature;
-use term_store::Store;
-use tokens_why::lex;
+use std_theories::{drop_file, parse};
+use syntax_why::{DeclNode, DeclTree, File, lex};
+use tasks::{Signature, Store};
 
 // A fault by its name, its declaration and its token or equation.
 fn put_fault(

@@ -2,7 +2,7 @@
 use elab_terms::Elaborated;
 use row_texts::{put_declaration, put_numbered, put_trees};
 use std::alloc::{AllocError, Global};
-use term_store::Store;
+use tasks::Store;
 
 /// The declarations, the rigid type variables and the matches of what is made.
 pub(crate) fn put_made(

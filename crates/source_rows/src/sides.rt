@@ -1,20 +1,16 @@
 // The side conditions of what a declaration becomes, as text: what its matches leave, and the first fault.
 ghost use Rattle.std.specs.Prelude.{◌∷◌, [], All, IsTrue, IfSome};
-ghost use Rattle.trees.specs.Node.{Holds, tree_at};
+ghost use Rattle.tasks.specs.trees.Node.{Holds, tree_at};
 ghost use Rattle.tasks.specs.Meaning.{symbols_at, trees_at, SymbolHeld, DeclHeld};
-ghost use Rattle.match_cover.specs.Shapes.{IsPattern, HaveType};
+ghost use Rattle.side_conditions.specs.match_cover.Shapes.{IsPattern, HaveType};
 ghost use Rattle.side_conditions.specs.Sides.{IsMatch};
 
-use decl_checks::CheckFault;
+use elab_parts::MatchAt;
 use elab_terms::Elaborated;
-use elab_walk::MatchAt;
-use match_cover::{ValueShape, cover};
 use row_texts::put_numbered;
-use side_conditions::{SideFault, check_sides};
+use side_conditions::{CheckFault, SideFault, ValueShape, check_sides, cover};
 use std::alloc::{AllocError, Global};
-use tasks::Signature;
-use term_store::Store;
-use trees::{Sort, TermId};
+use tasks::{Signature, Sort, Store, TermId};
 use typing::{Vocabulary, is_typed_over};
 
 // Whether a tree is a well-typed pattern of a type.

@@ -5,7 +5,7 @@ use Rattle.std.proofs.lemmas.List.Elements.{All-nil}
 use Rattle.std.proofs.lemmas.Bool.{cases_lt}
 use Rattle.std.proofs.Math.Seq.{get_or-append_seam}
 use Rattle.tasks.specs.Task.{TaskTree}
-use Rattle.rule_rows.specs.Trees.{StepTree}
+use Rattle.kernel.specs.rule_rows.Trees.{StepTree}
 use Rattle.kernel.specs.Right.{Closes}
 use Rattle.evidence.specs.Stages.{Refusal, TaskEquation, PartsClose, task_or, part_or, no_task}
 use Rattle.stage_limits.specs.Limits.{limited}

@@ -1,7 +1,7 @@
 -- The list of a driver's stages, name by name.
 use Rattle.std.proofs.Common.{◌≡◌, ◌∙◌, ◌<◌, ◌+◌, ℕ, List, [], ◌∷◌, ◌++◌, length, get_or, drop, Option, Some, Result, Ok, Err, ap, sym, refl, append_assoc}
 use Rattle.std.proofs.lemmas.List.{drop_more}
-use Rattle.trees.specs.Tree.{Tree}
+use Rattle.tasks.specs.trees.Tree.{Tree}
 use Rattle.tasks.specs.declared.declaration.Decl.{Decl}
 use Rattle.tasks.specs.Meaning.{declaration_at, declarations_at}
 use Rattle.driver_items.specs.declared.kinds.Trans.{Trans}
@@ -9,7 +9,7 @@ use Rattle.stages.specs.declared.fault.CarryFault.{CarryFault}
 use Rattle.stages.specs.declared.fault.CarryFault.TheVariants as fault
 use Rattle.stages.specs.declared.transformation.Transformation.{Transformation}
 use Rattle.stages.specs.Listing.{name_if, removed_of, with_built_stage, built_from, after_stages, AreStagesPushed, IsPushedOne}
-use Rattle.plain_laws.proofs.Lists.{drop_at as left_at}
+use Rattle.tasks.proofs.plain_laws.Lists.{drop_at as left_at}
 
 pub removed_step : (s : List Tree) (paths : List (List ℕ)) (decls : List Decl) (i : ℕ) (d : Decl) (old new all : List (List ℕ × List ℕ)) → d ≡ get_or decls i d → i < length decls
     → new ≡ old ++ name_if paths (declaration_at s d) → old ++ removed_of paths (declarations_at s (drop i decls)) ≡ all

@@ -1,8 +1,8 @@
 -- What is lifted on the way from the tasks that stages give back to the task that they were made from.
 use Rattle.std.specs.Prelude.{◌≡◌, ℕ, ◌≤◌, List, drop, length, take, Ok}
-use Rattle.trees.specs.Tree.{Tree}
+use Rattle.tasks.specs.trees.Tree.{Tree}
 use Rattle.tasks.specs.Task.{TaskTree}
-use Rattle.rule_rows.specs.Trees.{StepTree}
+use Rattle.kernel.specs.rule_rows.Trees.{StepTree}
 use Rattle.evidence.specs.Stages.{TaskEquation, Gives, PartsClose}
 use Rattle.stages.specs.Carried.{all_tasks}
 use Rattle.stages.specs.declared.lifting.Derived.{Derived}

@@ -1,3 +1,4 @@
+pub use Rattle.evidence.specs as evidence
 pub mod Transformations
 pub mod Kept
 pub mod Carried

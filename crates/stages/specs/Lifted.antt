@@ -1,10 +1,10 @@
 -- What is lifted: refutations of the tasks that a task becomes, and the derivation that is made of them.
 use Rattle.std.specs.Prelude.{◌≡◌, ℕ, ◌<◌, List, length, map, All, Ok}
-use Rattle.trees.specs.Tree.{Tree}
-use Rattle.trees.specs.Node.{Grows}
+use Rattle.tasks.specs.trees.Tree.{Tree}
+use Rattle.tasks.specs.trees.Node.{Grows}
 use Rattle.tasks.specs.Task.{TaskTree}
-use Rattle.rule_rows.specs.Trees.{StepTree, step_or}
-use Rattle.rule_rows.specs.Meaning.{steps_at, StepsHeld}
+use Rattle.kernel.specs.rule_rows.Trees.{StepTree, step_or}
+use Rattle.kernel.specs.rule_rows.Meaning.{steps_at, StepsHeld}
 use Rattle.kernel.specs.Right.{Closes}
 use Rattle.evidence.specs.Stages.{PartsClose, PartsHeld, parts_at, part_or}
 use Rattle.stages.specs.declared.transformation.Transformation.{Transformation}

@@ -1,7 +1,7 @@
 // Tasks carried through stages.
 // It depends on the transformations that are built; the program depends on it.
 ghost use Rattle.std.specs.Prelude.{map, Ok, IfOk, IfErr};
-ghost use Rattle.trees.specs.Node.{Grows};
+ghost use Rattle.tasks.specs.trees.Node.{Grows};
 ghost use Rattle.tasks.specs.Meaning.{task_at, tasks_at, TaskHeld};
 ghost use Rattle.tasks.specs.Valid.{IsValid};
 ghost use Rattle.stage_limits.specs.Limits.{limited};
@@ -15,8 +15,7 @@ use crate::transformation::Transformation;
 use evidence::Transform;
 use stage_limits::limit_tasks;
 use std::alloc::{AllocError, Global};
-use tasks::Task;
-use term_store::Store;
+use tasks::{Store, Task};
 
 // Puts the tasks that a task becomes after the others.
 fn push_tasks(

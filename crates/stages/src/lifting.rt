@@ -1,7 +1,7 @@
 // Refutations of the tasks that a task becomes, brought back through the stages to a derivation of the task.
 // It depends on the laws of the transformations that are built; the program depends on it.
 ghost use Rattle.std.specs.Prelude.{◌∷◌, IfOk, map};
-ghost use Rattle.trees.specs.Node.{Grows};
+ghost use Rattle.tasks.specs.trees.Node.{Grows};
 ghost use Rattle.tasks.specs.Meaning.{task_at, tasks_at, TaskHeld, TasksHeld};
 ghost use Rattle.tasks.specs.Valid.{IsValid};
 ghost use Rattle.kernel.specs.Right.{last_starts};
@@ -16,12 +16,10 @@ ghost use Rattle.stages.specs.Levels.{IsDerivedFirst, AreDerivedFirst};
 
 use crate::transformation::Transformation;
 use evidence::{Draft, StageFault, Transform, finish, lift_stage};
-use outside::Seq;
-use rule_rows::Step;
+use kernel::Step;
 use std::alloc::{AllocError, Global};
 use std::rc::Rc;
-use tasks::Task;
-use term_store::Store;
+use tasks::{Seq, Store, Task};
 
 /// Steps, with the store that holds their trees.
 #[derive(Drop)]

@@ -3,7 +3,7 @@
 ghost use Rattle.std.specs.List.{list_any};
 ghost use Rattle.std.specs.Str.{bytes_eq};
 ghost use Rattle.std.specs.Prelude.{◌≡◌, ◌+◌, ◌++◌, List, Ok, Err, IfOk, MatchResult, OnOk};
-ghost use Rattle.trees.specs.Tree.{Tree};
+ghost use Rattle.tasks.specs.trees.Tree.{Tree};
 ghost use Rattle.tasks.specs.Meaning.{declaration_at, declarations_at, task_at};
 ghost use Rattle.stages.specs.Listing.{AreStagesPushed, IsPushedOne, built_stage, is_removed_of, name_if, removed_names, removed_of, stages_of};
 ghost use Rattle.stages.specs.Faults.{IsListFault};
@@ -12,9 +12,8 @@ use crate::fault::CarryFault;
 use crate::transformation::Transformation;
 use driver_items::Trans;
 use driver_parts::Driver;
-use outside::{Seq, Text};
 use std::alloc::{AllocError, Global};
-use tasks::{Body, Decl, Task};
+use tasks::{Body, Decl, Seq, Task, Text};
 use tr_introduce::{Introduce, Remove};
 use tr_split_goals::Split;
 

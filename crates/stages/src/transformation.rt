@@ -5,11 +5,9 @@ ghost use Rattle.stages.specs.Kept.{keeps_of};
 
 use evidence::{Draft, StageFault, Transform};
 use std::alloc::{AllocError, Global};
-use tasks::{Fact, Task};
-use term_store::Store;
+use tasks::{Fact, Store, Task, TermId};
 use tr_introduce::{Introduce, Remove};
 use tr_split_goals::Split;
-use trees::TermId;
 
 /// A transformation that is built.
 #[derive(Drop)]

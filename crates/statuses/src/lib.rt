@@ -8,6 +8,8 @@ mod sinks;
 mod status;
 mod words;
 
+pub use fault_order::{Fault, RunFault, fetch_short, fetch_whole};
+pub use outside::{Library, Seq, Sink};
 pub use sinks::{finish, report};
 pub use status::Status;
 pub use words::{Command, read_command};

@@ -1,1 +1,3 @@
+pub use Rattle.recognise_why.specs.reading as reading
+pub use Rattle.recognise_why.specs as recognise_why
 pub mod Library

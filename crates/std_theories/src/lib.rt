@@ -6,3 +6,4 @@ mod library;
 mod texts;
 
 pub use library::{drop_file, drop_files, library_files, texts_are_sources};
+pub use parse_decls::{SyntaxFault, parse};

@@ -1,9 +1,9 @@
 -- Marks by number, and what is marked as a store grows.
 use Rattle.std.proofs.Common.{◌≡◌, ◌⊎◌, ℕ, zero, suc, Bool, true, false, IsTrue, List, [], ◌∷◌, ◌++◌, get_or, inl, inr, refl, sym, ap, subst, arith}
 use Rattle.std.proofs.Math.ListN.{set}
-use Rattle.trees.specs.declared.TermId.{TermId}
-use Rattle.trees.specs.Tree.{Tree, Leaf, HEnd}
-use Rattle.trees.specs.Node.{tree_at, Holds, Grows}
+use Rattle.tasks.specs.trees.declared.TermId.{TermId}
+use Rattle.tasks.specs.trees.Tree.{Tree, Leaf, HEnd}
+use Rattle.tasks.specs.trees.Node.{tree_at, Holds, Grows}
 use Rattle.tasks.specs.Task.{TaskTree}
 use Rattle.tasks.specs.Vocabulary.{of_task}
 use Rattle.tasks.specs.Open.{OpenTyped}

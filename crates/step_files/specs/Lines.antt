@@ -1,7 +1,7 @@
 -- What the lines of a step file mean, and its first wrong line.
 use Rattle.std.specs.Prelude.{◌≡◌, ℕ, ◌≤◌, ◌+◌, zero, suc, List, [], ◌∷◌, ◌++◌, Option, IsSomeAnd}
 use Rattle.std.specs.Option.{ForSome}
-use Rattle.trees.specs.Tree.{Tree, height}
+use Rattle.tasks.specs.trees.Tree.{Tree, height}
 use Rattle.tasks.specs.Task.{TaskTree}
 use Rattle.rule_rows.specs.Trees.{StepTree}
 use Rattle.kernel.specs.Right.{IsRight, last_starts}

@@ -1,6 +1,6 @@
 -- Trees that are known to be typed as far as they go, by marks at their numbers.
 use Rattle.std.specs.Prelude.{ℕ, ◌<◌, Bool, false, List, length, get_or, IsTrue}
-use Rattle.trees.specs.Tree.{Tree, Leaf, HEnd}
+use Rattle.tasks.specs.trees.Tree.{Tree, Leaf, HEnd}
 use Rattle.tasks.specs.Task.{TaskTree}
 use Rattle.kernel.specs.Open.{OpenIn}
 

@@ -1,7 +1,7 @@
 -- What code holds of a step file: trees and steps by their numbers in a store.
 use Rattle.std.specs.Prelude.{◌≡◌, ℕ, List, ◌∷◌, [], ◌++◌, Option, Some, All}
-use Rattle.trees.specs.Tree.{Tree}
-use Rattle.trees.specs.Node.{Holds}
+use Rattle.tasks.specs.trees.Tree.{Tree}
+use Rattle.tasks.specs.trees.Node.{Holds}
 use Rattle.binders.specs.Visits.{HoldTypes}
 use Rattle.tasks.specs.Task.{TaskTree}
 use Rattle.tasks.specs.Meaning.{trees_at, TaskHeld}

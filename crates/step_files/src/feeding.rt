@@ -1,7 +1,7 @@
 // A reader that is fed a step file in pieces.
 // It depends on the reader of lines.
 ghost use Rattle.std.specs.Prelude.{◌≡◌, List, ◌++◌, [], true, false, Err, IfOk, IfErr, OnOk, OnErr};
-ghost use Rattle.trees.specs.Node.{Grows};
+ghost use Rattle.tasks.specs.trees.Node.{Grows};
 ghost use Rattle.tasks.specs.Meaning.{task_at, TaskHeld};
 ghost use Rattle.rule_rows.specs.Trees.{StepTree};
 ghost use Rattle.kernel.specs.Right.{Closes};
@@ -16,8 +16,7 @@ use name_entries::NameEntry;
 use rule_rows::Step;
 use std::alloc::Global;
 use std::marker::Model;
-use tasks::Task;
-use term_store::Store;
+use tasks::{Store, Task};
 
 /// A reader of one step file. It collects the pieces, and reads the whole at its end.
 #[derive(Drop)]

@@ -2,9 +2,9 @@
 // They depend on what a line makes and on the kernel's conditions; the reader of lines depends on them.
 ghost use Rattle.std.specs.Prelude.{◌≡◌, ◌≤◌, ◌↔◌, IsTrue, IfOk, OnOk, IfSome, IfNone};
 ghost use Rattle.std.specs.Option.{ForSome};
-ghost use Rattle.trees.specs.Tree.{height};
-ghost use Rattle.trees.specs.Node.{tree_at, Holds, Grows};
-ghost use Rattle.trees.specs.Facts.{Each};
+ghost use Rattle.tasks.specs.trees.Tree.{height};
+ghost use Rattle.tasks.specs.trees.Node.{tree_at, Holds, Grows};
+ghost use Rattle.tasks.specs.trees.Facts.{Each};
 ghost use Rattle.tasks.specs.Meaning.{task_at};
 ghost use Rattle.rule_rows.specs.Trees.{rule_trees};
 ghost use Rattle.rule_rows.specs.Meaning.{rule_at, step_at, steps_at, StepHeld, StepsHeld};
@@ -23,10 +23,8 @@ use name_entries::NameEntry;
 use rule_rows::{Rule, Step};
 use std::alloc::{AllocError, Global};
 use step_lines::{MadeThing, made_by_line};
-use tasks::{Index, Lookup, Task};
-use term_store::Store;
+use tasks::{Index, Lookup, Parts, Store, Task, TermId};
 use tree_lines::{EarlierLines, TableNames};
-use trees::{Parts, TermId};
 
 /// What lines are read with: a task with its index, a table with its names, and the height that no tree may pass.
 #[derive(Clone, Copy)]

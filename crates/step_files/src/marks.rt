@@ -1,7 +1,7 @@
 // Which trees of a file are known to be typed as far as they go: each is asked about once.
 // It depends on typing; the reader of lines depends on it.
 ghost use Rattle.std.specs.Prelude.{◌≡◌, ◌<◌, ◌⊎◌, ◌↔◌, ℕ, length, All, IsTrue, OnOk, IfOk};
-ghost use Rattle.trees.specs.Node.{tree_at, Holds};
+ghost use Rattle.tasks.specs.trees.Node.{tree_at, Holds};
 ghost use Rattle.tasks.specs.Meaning.{task_at, TaskHeld};
 ghost use Rattle.tasks.specs.Looking.{IsIndexOf};
 ghost use Rattle.tasks.specs.Open.{PartsAreOpen};
@@ -10,9 +10,7 @@ ghost use Rattle.kernel.specs.Open.{OpenIn, IsOpen};
 ghost use Rattle.step_files.specs.Marks.{has_mark, AreMarkedTyped};
 
 use std::alloc::AllocError;
-use tasks::{Index, Lookup, Task};
-use term_store::Store;
-use trees::{Parts, TermId};
+use tasks::{Index, Lookup, Parts, Store, Task, TermId};
 use typing::{Vocabulary, is_open_typed};
 
 /// Whether a tree is marked, and so typed as far as it goes.

@@ -6,7 +6,7 @@ ghost use Rattle.step_files.specs.Reading.{IsReadKept};
 use rule_rows::Step;
 use std::alloc::AllocError;
 use step_lines::MadeThing;
-use trees::TermId;
+use tasks::TermId;
 
 /// What the lines so far have made, each kind counted from 0.
 #[derive(Drop)]

@@ -1,7 +1,7 @@
 // A step file read line by line.
 // It depends on right lines and what they make; the reader in pieces depends on it.
 ghost use Rattle.std.specs.Prelude.{◌≡◌, ◌+◌, ◌<◌, [], length, get_or, IfOk, IfErr};
-ghost use Rattle.trees.specs.Node.{Grows};
+ghost use Rattle.tasks.specs.trees.Node.{Grows};
 ghost use Rattle.tasks.specs.Meaning.{task_at, TaskHeld};
 ghost use Rattle.kernel.specs.Right.{Closes};
 ghost use Rattle.rule_rows.specs.Meaning.{steps_at, StepsHeld};
@@ -18,8 +18,7 @@ use kernel::ends_in_start;
 use name_entries::NameEntry;
 use rule_rows::Step;
 use std::alloc::{AllocError, Global};
-use tasks::{Index, Task};
-use term_store::Store;
+use tasks::{Index, Store, Task};
 use tree_lines::TableNames;
 
 // The line after so many is wrong.

@@ -2,7 +2,7 @@
 // They depend on known things and on the words of rules; the steps of lines depend on them.
 ghost use Rattle.std.specs.Prelude.{◌≡◌, ◌++◌, ◌∷◌, map, All, IfOk, IfSome};
 ghost use Rattle.std.specs.Option.{option_map, option_and_then};
-ghost use Rattle.trees.specs.Node.{Grows};
+ghost use Rattle.term_store.specs.trees.Node.{Grows};
 ghost use Rattle.binders.specs.Visits.{HoldTypes};
 ghost use Rattle.tasks.specs.Meaning.{task_at, trees_at};
 ghost use Rattle.rule_words.specs.Arguments.{AType, argument_at, arguments_at, ArgumentHeld};
@@ -16,9 +16,8 @@ use integer_words::integer;
 use name_entries::NameOf;
 use rule_words::{Argument, ArgumentKind};
 use std::alloc::{AllocError, Global};
-use term_store::Store;
+use term_store::{Store, TermId};
 use tree_lines::{EarlierLines, meaning_of, number_of_word, thing};
-use trees::TermId;
 
 // The symbol that a name stands for.
 fn symbol_named(x: &EarlierLines<'_>, word: &[u8]) -> Option<usize>

@@ -8,5 +8,7 @@ mod steps;
 mod thing;
 mod words;
 
+pub use integer_words::{integer, integer_word};
 pub use line::made_by_line;
+pub use rule_words::{Argument, word_of, written_rule};
 pub use thing::MadeThing;

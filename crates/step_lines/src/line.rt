@@ -1,7 +1,7 @@
 // What a line makes.
 // It depends on the lines of trees and of steps.
 ghost use Rattle.std.specs.Prelude.{IfOk};
-ghost use Rattle.trees.specs.Node.{Grows};
+ghost use Rattle.term_store.specs.trees.Node.{Grows};
 ghost use Rattle.tasks.specs.Meaning.{task_at};
 ghost use Rattle.tree_lines.specs.Words.{texts};
 ghost use Rattle.tree_lines.specs.Made.{KnownHeld, earlier_at};

@@ -2,7 +2,7 @@
 // They depend on arguments and on the words of rules; what a line makes depends on them.
 ghost use Rattle.std.specs.Prelude.{◌≡◌, ◌++◌, All, IfOk, IfSome};
 ghost use Rattle.std.specs.Option.{option_map};
-ghost use Rattle.trees.specs.Node.{Holds, Grows};
+ghost use Rattle.term_store.specs.trees.Node.{Holds, Grows};
 ghost use Rattle.tasks.specs.Meaning.{task_at, trees_at};
 ghost use Rattle.rule_rows.specs.Meaning.{rule_at, step_at, RuleHeld, StepHeld};
 ghost use Rattle.rule_words.specs.Arguments.{arguments_at, ArgumentHeld};
@@ -14,13 +14,12 @@ ghost use Rattle.step_lines.specs.Steps.{rule_arguments, rule_named, rule_of_wor
 
 use crate::arguments::{types_of_first, word_arguments};
 use crate::words::{colon, numbers};
-use outside::Seq;
 use rule_rows::{Rule, Step};
 use rule_words::{Argument, RuleName, kinds_of, name_of_word, rule_of};
 use std::alloc::{AllocError, Global};
-use term_store::Store;
+use tasks::Seq;
+use term_store::{Store, TermId};
 use tree_lines::{EarlierLines, things_at};
-use trees::TermId;
 
 // Three lists of arguments as one.
 fn join_arguments(

@@ -1,10 +1,10 @@
 -- What lines make, on a list at int, by a table of whole symbols and by one of the same symbols at int.
 use Rattle.std.specs.Prelude.{◌≡◌, pos, List, [], ◌∷◌, codes, refl, Some, None}
-use Rattle.trees.specs.Tree.{Tree, Leaf, One, Two, Three, HTyVar, HTyApp, HEnd, HFun, HPred, HNum, HPatVar, HPatCon, HCase, HArm}
+use Rattle.tasks.specs.trees.Tree.{Tree, Leaf, One, Two, Three, HTyVar, HTyApp, HEnd, HFun, HPred, HNum, HPatVar, HPatCon, HCase, HArm}
 use Rattle.tasks.specs.declared.signature.SymbolKind.TheVariants.{Kind, Constructor, Predicate}
 use Rattle.tasks.specs.Task.{SymbolTree, int_symbol, TaskTree}
-use Rattle.name_entries.specs.declared.names.NameOf.TheVariants.{Int, Symbol}
-use Rattle.name_entries.specs.declared.names.NameEntry.{NameEntry}
+use Rattle.written_files.specs.name_entries.declared.names.NameOf.TheVariants.{Int, Symbol}
+use Rattle.written_files.specs.name_entries.declared.names.NameEntry.{NameEntry}
 use Rattle.tree_lines.specs.Named.{cells, meaning}
 use Rattle.tree_lines.specs.Lines.{Earlier, type_of_line, pattern_of_line, expression_of_line}
 

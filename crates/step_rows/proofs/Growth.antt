@@ -2,17 +2,17 @@
 use Rattle.std.proofs.Common.{List, ◌++◌, All, IfSome, Option, Some, None, sym, subst}
 use Rattle.std.specs.Prelude.{Result, Ok, Err, OnOk}
 use Rattle.std.proofs.lemmas.List.Elements.{All-push, All-append, All-weaker}
-use Rattle.trees.specs.declared.TermId.{TermId}
-use Rattle.trees.specs.Tree.{Tree}
-use Rattle.trees.specs.Node.{Holds, Grows}
-use Rattle.binders.specs.Visits.{HoldTypes, typing_stays_ready}
+use Rattle.tasks.specs.trees.declared.TermId.{TermId}
+use Rattle.tasks.specs.trees.Tree.{Tree}
+use Rattle.tasks.specs.trees.Node.{Holds, Grows}
+use Rattle.elab_parts.specs.binders.Visits.{HoldTypes, typing_stays_ready}
 use Rattle.tasks.specs.declared.declaration.Decl.{Decl}
 use Rattle.tasks.specs.declared.signature.SymbolInfo.{SymbolInfo}
 use Rattle.tasks.specs.Meaning.{SymbolHeld, DeclHeld}
-use Rattle.elab_walk.specs.Drafts.{HoldsType, SymbolTyped}
+use Rattle.elab_parts.specs.elab_walk.Drafts.{HoldsType, SymbolTyped}
 use Rattle.tasks.proofs.Growth.{all_held_later, decl_held_later}
 use Rattle.rule_rows.specs.Meaning.{StepHeld, StepsHeld}
-use Rattle.kernel.proofs.Growth.{steps_held_later}
+use Rattle.written_files.proofs.kernel.Growth.{steps_held_later}
 use Rattle.tree_lines.proofs.Growing.{types_pushed}
 use Rattle.step_lines.specs.declared.thing.MadeThing.{MadeThing}
 use Rattle.step_lines.specs.declared.thing.MadeThing.TheVariants as made

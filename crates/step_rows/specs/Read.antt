@@ -1,8 +1,8 @@
 -- What the lines of a block have made so far is held.
 use Rattle.std.specs.Prelude.{◌≡◌, List, [], ◌∷◌, ◌++◌, All}
-use Rattle.trees.specs.Tree.{Tree}
-use Rattle.trees.specs.Node.{Holds}
-use Rattle.binders.specs.Visits.{HoldTypes}
+use Rattle.tasks.specs.trees.Tree.{Tree}
+use Rattle.tasks.specs.trees.Node.{Holds}
+use Rattle.elab_parts.specs.binders.Visits.{HoldTypes}
 use Rattle.rule_rows.specs.Meaning.{StepsHeld}
 use Rattle.step_lines.specs.declared.thing.MadeThing.{MadeThing}
 use Rattle.step_lines.specs.declared.thing.MadeThing.TheVariants as made

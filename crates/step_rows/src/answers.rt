@@ -1,5 +1,5 @@
 // The answer to a block: what each line makes, and then whether its steps close the task.
-ghost use Rattle.trees.specs.Node.{Grows};
+ghost use Rattle.tasks.specs.trees.Node.{Grows};
 ghost use Rattle.tasks.specs.Meaning.{TaskHeld};
 ghost use Rattle.rule_rows.specs.Meaning.{StepsHeld};
 
@@ -8,15 +8,12 @@ use crate::given::read_task;
 use crate::lines::put_line;
 use crate::read::Read;
 use crate::words::number_of;
-use kernel::{closes, ends_in_start, first_wrong};
-use name_entries::{NameEntry, NameOf};
-use outside::{Seq, Text};
 use row_texts::put_number;
 use rule_rows::Step;
 use std::alloc::{AllocError, Global};
-use tasks::Task;
-use term_store::Store;
+use tasks::{Seq, Store, Task, Text};
 use tree_lines::TableNames;
+use written_files::{NameEntry, NameOf, closes, ends_in_start, first_wrong};
 
 // What a name stands for: `int` for the number 0, a type variable of the goal for a number after `!`, else a symbol.
 fn meaning_of(word: &str) -> NameOf {

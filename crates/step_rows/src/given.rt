@@ -1,21 +1,17 @@
 // The task of a theory, whose last declaration is its goal.
 // It depends on the reader and on elaboration; the answers depend on it.
 ghost use Rattle.std.specs.Prelude.{◌≡◌, length, All, OnOk, IfOk};
-ghost use Rattle.trees.specs.Node.{Holds};
+ghost use Rattle.tasks.specs.trees.Node.{Holds};
 ghost use Rattle.tasks.specs.Meaning.{SymbolHeld, DeclHeld, TaskHeld};
 ghost use Rattle.elab_parts.specs.Entries.{IsSignature, AreScopes};
 
+use elab_parts::Scope;
 use elab_terms::{ElabFault, Elaborated, begin, elaborate, is_logical, no_names};
-use names_space::Scope;
-use outside::Seq;
 use parse_decls::parse;
 use std::alloc::{AllocError, Global};
 use std::rc::Rc;
-use syntax_why::DeclTree;
-use tasks::{Body, Decl, Signature, SymbolInfo, Task};
-use term_store::Store;
-use tokens_why::lex;
-use trees::{Ints, TermId};
+use syntax_why::{DeclTree, lex};
+use tasks::{Body, Decl, Ints, Seq, Signature, Store, SymbolInfo, Task, TermId};
 
 // The declarations of what is made.
 fn decls_of(made: Elaborated) -> Seq<Decl>

@@ -1,7 +1,7 @@
 // What a line makes, as text, and whether a step is right.
 // It depends on the lines of steps and on the kernel; the answers depend on it.
 ghost use Rattle.std.specs.Prelude.{IfOk, IfSome, OnOk};
-ghost use Rattle.trees.specs.Node.{Grows};
+ghost use Rattle.tasks.specs.trees.Node.{Grows};
 ghost use Rattle.tasks.specs.Meaning.{TaskHeld};
 ghost use Rattle.rule_rows.specs.Meaning.{StepHeld, StepsHeld};
 ghost use Rattle.tree_lines.specs.Made.{IsNamesOf};
@@ -9,17 +9,13 @@ ghost use Rattle.step_lines.specs.Made.{ThingHeld};
 ghost use Rattle.step_rows.specs.Read.{RowReadHeld};
 
 use crate::read::{Read, keep};
-use integer_words::integer_word;
-use kernel::right_step;
-use name_entries::NameEntry;
 use row_texts::{put_number, put_tree, put_trees};
 use rule_rows::{Rule, Step};
-use rule_words::{Argument, word_of, written_rule};
 use std::alloc::{AllocError, Global};
-use step_lines::{MadeThing, made_by_line};
-use tasks::Task;
-use term_store::Store;
+use step_lines::{Argument, MadeThing, integer_word, made_by_line, word_of, written_rule};
+use tasks::{Store, Task};
 use tree_lines::{EarlierLines, TableNames};
+use written_files::{NameEntry, right_step};
 
 // An argument of a rule: the letter of its kind, and its number or its tree.
 fn put_argument(

@@ -1,5 +1,5 @@
 // The numbers that words write.
-use integer_words::integer;
+use step_lines::integer;
 
 /// The number of a word, or 0.
 pub(crate) fn number_of(word: &str) -> usize {

@@ -1,3 +1,4 @@
+pub use Rattle.tokens_why.specs as tokens_why
 pub mod Common
 pub mod Lexeme
 pub mod Forms

@@ -15,4 +15,5 @@ pub use declarations::{
 pub use expressions::{BinderTree, BranchTree, Expr, ExprNode, TriggerTree};
 pub use names::{At, Name, OpName, Path, QName, Style};
 pub use patterns::{Pat, PatNode};
+pub use tokens_why::lex;
 pub use types::{TypeNode, TypeTree};

@@ -1,11 +1,11 @@
 -- A sound state stays sound where a theory is cloned.
 use Rattle.std.proofs.Common.{◌≡◌, ◌⊎◌, inl, inr, ℕ, ◌<◌, ◌==◌, if◌then◌else◌, suc, Bool, true, false, List, [], ◌∷◌, ◌++◌, map, length, slice_get, All, Contains, Option, Some, None, option_to_list, refl, sym, ap, subst, ◌∙◌, arith, append_assoc}
 use Rattle.std.proofs.lemmas.List.Elements.{All-head, All-tail, All-contains}
-use Rattle.trees.specs.Tree.{Tree}
-use Rattle.trees.specs.Node.{Grows}
-use Rattle.tasks.specs.Task.{SymbolTree, BodyTree, MakesType, Makes, Defines, Induces, Constructs, Says, DeclarationTree}
-use Rattle.tasks.specs.Rigid.{rigid_symbol}
-use Rattle.clones.specs.Mapped.{Map}
+use Rattle.elab_parts.specs.trees.Tree.{Tree}
+use Rattle.elab_parts.specs.trees.Node.{Grows}
+use Rattle.elab_parts.specs.tasks.Task.{SymbolTree, BodyTree, MakesType, Makes, Defines, Induces, Constructs, Says, DeclarationTree}
+use Rattle.elab_parts.specs.tasks.Rigid.{rigid_symbol}
+use Rattle.valid_tasks.specs.clones.Mapped.{Map}
 use Rattle.syntax_why.specs.Lexeme.{Word}
 use Rattle.syntax_why.specs.declared.names.Name.{Name}
 use Rattle.syntax_why.specs.declared.names.Path.{Path}
@@ -13,7 +13,7 @@ use Rattle.syntax_why.specs.declared.declarations.Link.{Link}
 use Rattle.syntax_why.specs.Declarations.{Element}
 use Rattle.theory_states.specs.declared.moves.Move.{Move}
 use Rattle.theory_states.specs.Moves.{brought, handed}
-use Rattle.elab_walk.specs.Scoped.{IsScopedEntry}
+use Rattle.elab_parts.specs.elab_walk.Scoped.{IsScopedEntry}
 use Rattle.valid_tasks.specs.Scopes.{IsSubvocabulary}
 use Rattle.valid_tasks.specs.Moves.{AreTypedMoves}
 use Rattle.valid_tasks.proofs.MovedScopes.{moves_more}
@@ -30,13 +30,13 @@ use Rattle.valid_tasks.specs.Steps.{CopyStep, declarations_of, made_from}
 use Rattle.valid_tasks.proofs.CloneSteps.{clone_sound}
 use Rattle.valid_tasks.specs.Cloned.{IsAfterClone, IsSoundClone}
 use Rattle.valid_tasks.proofs.Cloned.{state_cloned}
-use Rattle.clone_elements.specs.Left.{no_declaration, decl_or}
-use Rattle.clone_elements.specs.Rights.{rights_tuples, rights_fault}
-use Rattle.clone_elements.specs.Plans.{fates_of, kept}
-use Rattle.clone_copies.specs.Origins.{Axioms, no_axioms, with_axioms, axioms_at, origin_of}
-use Rattle.clone_copies.specs.Entries.{entries_copied}
-use Rattle.clone_copies.specs.Moves.{AreMovesMapped}
-use Rattle.clone_copies.specs.Places.{Copying, with_places}
+use Rattle.valid_tasks.specs.clone_elements.Left.{no_declaration, decl_or}
+use Rattle.valid_tasks.specs.clone_elements.Rights.{rights_tuples, rights_fault}
+use Rattle.valid_tasks.specs.clone_elements.Plans.{fates_of, kept}
+use Rattle.valid_tasks.specs.clone_copies.Origins.{Axioms, no_axioms, with_axioms, axioms_at, origin_of}
+use Rattle.valid_tasks.specs.clone_copies.Entries.{entries_copied}
+use Rattle.valid_tasks.specs.clone_copies.Moves.{AreMovesMapped}
+use Rattle.valid_tasks.specs.clone_copies.Places.{Copying, with_places}
 use Rattle.valid_tasks.specs.Placed.{ArePlaced}
 use Rattle.clone_theories.specs.Cloned.{symbols_tupled, sides_in, map_in, AreTold, within_of, copying_in, with_copied_entries, with_names, IsCloned}
 use Rattle.valid_tasks.specs.PlaceSteps.{copy_steps_at}
@@ -49,9 +49,9 @@ use Rattle.theories.proofs.Plain.{handed_plain, moves_mapped, known_more, opened
 use Rattle.theories.proofs.Goals.{IsSaidAt, IsReached, all_reached, built, scoped, is_clone}
 use Rattle.std.proofs.lemmas.Option.{slice_get-get_or as some_at}
 use Rattle.valid_tasks.proofs.Numbers.{later}
-use Rattle.plain_laws.proofs.Lists.{All-left as front_all}
+use Rattle.elab_parts.proofs.plain_laws.Lists.{All-left as front_all}
 use Rattle.valid_tasks.proofs.Scoped.{found_in}
-use Rattle.plain_laws.proofs.Bools.{same_number}
+use Rattle.elab_parts.proofs.plain_laws.Bools.{same_number}
 
 -- ---- lists
 count_places : (ds : List DeclarationTree) (ks : List ℕ) → All (λ (k : ℕ). k < length ds) ks → length (at_places ds ks) ≡ length ks

@@ -1,18 +1,18 @@
 -- The copies of a clone make states that are alike of states that are alike.
 use Rattle.std.proofs.Common.{◌≡◌, ℕ, Bool, true, false, if◌then◌else◌, List, [], ◌∷◌, ◌++◌, map, length, Option, Some, None, refl, ap, ap₂, subst}
-use Rattle.trees.specs.Tree.{Tree}
-use Rattle.tasks.specs.Task.{SymbolTree, BodyTree, MakesType, Makes, Defines, Induces, Constructs, Says, DeclarationTree}
-use Rattle.tasks.specs.Rigid.{rigid_symbol}
+use Rattle.elab_parts.specs.trees.Tree.{Tree}
+use Rattle.elab_parts.specs.tasks.Task.{SymbolTree, BodyTree, MakesType, Makes, Defines, Induces, Constructs, Says, DeclarationTree}
+use Rattle.elab_parts.specs.tasks.Rigid.{rigid_symbol}
 use Rattle.syntax_why.specs.Lexeme.{Word}
 use Rattle.syntax_why.specs.declared.declarations.PropKind.{PropKind}
 use Rattle.syntax_why.specs.declared.declarations.PropKind.TheVariants as kind
-use Rattle.clones.specs.Copies.{declaration_copied}
+use Rattle.valid_tasks.specs.clones.Copies.{declaration_copied}
 use Rattle.theory_states.specs.declared.states.AxiomAt.{AxiomAt}
 use Rattle.theory_states.specs.States.{StateTree, joined_places, with_declaration}
-use Rattle.clone_elements.specs.Left.{decl_or}
-use Rattle.clone_elements.specs.Plans.{is_replaced, kind_or}
-use Rattle.clone_copies.specs.Origins.{is_own}
-use Rattle.clone_copies.specs.Places.{Copying, axiom_at, with_copied_axiom, next_numbers, goal_of, goal_with, with_copied_goal, with_kind, with_copy, copy_of, with_joined, with_own, with_place, with_places}
+use Rattle.valid_tasks.specs.clone_elements.Left.{decl_or}
+use Rattle.valid_tasks.specs.clone_elements.Plans.{is_replaced, kind_or}
+use Rattle.valid_tasks.specs.clone_copies.Origins.{is_own}
+use Rattle.valid_tasks.specs.clone_copies.Places.{Copying, axiom_at, with_copied_axiom, next_numbers, goal_of, goal_with, with_copied_goal, with_kind, with_copy, copy_of, with_joined, with_own, with_place, with_places}
 use Rattle.theories.specs.StateSame.{IsSameOver}
 use Rattle.theories.proofs.SameDeclared.{declaration_same, goals_same}
 

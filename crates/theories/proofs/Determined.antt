@@ -1,16 +1,16 @@
 -- The elaboration of a declaration is determined by where it is, up to the numbers of aliases.
 use Rattle.std.proofs.Common.{◌≡◌, ◌≢◌, ℕ, List, Option, None, sym, ap, subst, ◌∙◌}
-use Rattle.trees.specs.Tree.{Tree}
-use Rattle.trees.specs.Node.{Grows}
-use Rattle.tasks.specs.Task.{SymbolTree}
+use Rattle.elab_parts.specs.trees.Tree.{Tree}
+use Rattle.elab_parts.specs.trees.Node.{Grows}
+use Rattle.elab_parts.specs.tasks.Task.{SymbolTree}
 use Rattle.syntax_why.specs.Lexeme.{Word}
-use Rattle.elab_names.specs.declared.NamingFault.{NamingFault}
-use Rattle.elab_walk.specs.Patterns.{Notes}
+use Rattle.elab_parts.specs.elab_names.declared.NamingFault.{NamingFault}
+use Rattle.elab_parts.specs.elab_walk.Patterns.{Notes}
 use Rattle.elab_parts.specs.declared.ElabFault.{ElabFault}
 use Rattle.elab_parts.specs.declared.ElabFault.TheVariants as elab
 use Rattle.elab_parts.specs.Declarations.{Declaration}
 use Rattle.elab_parts.specs.Outcomes.{Setting, Outcome, IsRefusalFor}
-use Rattle.elab_terms.specs.Outcomes.{IsOutcome, names_fault, notes_of, rigid_of, IsRefusal}
+use Rattle.valid_tasks.specs.elab_terms.Outcomes.{IsOutcome, names_fault, notes_of, rigid_of, IsRefusal}
 use Rattle.theories.specs.OutcomeSame.{IsSameSetting, IsSameOutcome}
 use Rattle.theories.proofs.Settings.{other_place, names_are_same, notes_same, rigid_same}
 use Rattle.theories.proofs.SameOutcomes.{outcome_same}

@@ -3,27 +3,27 @@
 use Rattle.std.proofs.Common.{◌≡◌, ◌⊎◌, inl, inr, ℕ, ◌==◌, ◌&&◌, ◌||◌, not, if◌then◌else◌, Bool, true, false, List, [], ◌∷◌, ◌++◌, length, Contains, All, Option, Some, None, refl, sym, ap, subst, ◌∙◌}
 use Rattle.std.specs.Option.{is_some, is_none}
 use Rattle.std.proofs.lemmas.List.Elements.{All-head, All-tail, Contains-append_left, Contains-append_right, Contains-append_cases}
-use Rattle.trees.specs.Tree.{Tree}
-use Rattle.tasks.specs.Task.{SymbolTree, symbol_or, MakesType, Makes}
-use Rattle.tasks.specs.Vocabulary.{Vocabulary}
-use Rattle.tasks.specs.Valid.{IsTypeIn}
-use Rattle.clones.specs.Mapped.{Map}
+use Rattle.elab_parts.specs.trees.Tree.{Tree}
+use Rattle.elab_parts.specs.tasks.Task.{SymbolTree, symbol_or, MakesType, Makes}
+use Rattle.elab_parts.specs.tasks.Vocabulary.{Vocabulary}
+use Rattle.elab_parts.specs.tasks.Valid.{IsTypeIn}
+use Rattle.valid_tasks.specs.clones.Mapped.{Map}
 use Rattle.syntax_why.specs.declared.declarations.SymbolWord.{SymbolWord}
 use Rattle.syntax_why.specs.declared.declarations.PropKind.{PropKind}
 use Rattle.syntax_why.specs.Declarations.{Element, type_element, symbol_element, prop_element, all_axioms}
 use Rattle.valid_tasks.proofs.Places.{none_here, cases_of, here}
-use Rattle.clone_elements.specs.declared.plans.Fate.{Fate}
-use Rattle.clone_elements.specs.declared.plans.Fate.TheVariants.{Replaced, Becomes}
-use Rattle.clone_elements.specs.Left.{Origin, decl_or, abstract_symbol, symbol_at_place}
-use Rattle.clone_elements.specs.Rights.{RightTree, type_right, symbol_right, no_right}
-use Rattle.clone_elements.specs.Plans.{SideTree, PlacedFates, element_fate, with_fate, with_side, with_sides, is_replaced, type_with, type_for, replaced_types, symbol_for, symbols_replaced}
-use Rattle.clone_elements.specs.Elements.{has_vars, is_wrong, is_kind_of_word, IsSameSignature, IsRightSide, SideTold, SidesTold}
+use Rattle.valid_tasks.specs.clone_elements.declared.plans.Fate.{Fate}
+use Rattle.valid_tasks.specs.clone_elements.declared.plans.Fate.TheVariants.{Replaced, Becomes}
+use Rattle.valid_tasks.specs.clone_elements.Left.{Origin, decl_or, abstract_symbol, symbol_at_place}
+use Rattle.valid_tasks.specs.clone_elements.Rights.{RightTree, type_right, symbol_right, no_right}
+use Rattle.valid_tasks.specs.clone_elements.Plans.{SideTree, PlacedFates, element_fate, with_fate, with_side, with_sides, is_replaced, type_with, type_for, replaced_types, symbol_for, symbols_replaced}
+use Rattle.valid_tasks.specs.clone_elements.Elements.{has_vars, is_wrong, is_kind_of_word, IsSameSignature, IsRightSide, SideTold, SidesTold}
 use Rattle.valid_tasks.specs.Sides.{IsTypedRight, IsTypedSide}
 use Rattle.theories.proofs.Lefts.{IsKindOf, IsLeftType, IsLeftSymbol, IsLeft, IsFormed, IsRead}
 use Rattle.std.proofs.lemmas.Bool.{or_parts as right_both}
-use Rattle.elab_walk.proofs.Walking.{not_not as not_false}
+use Rattle.elab_parts.proofs.elab_walk.Walking.{not_not as not_false}
 use Rattle.valid_tasks.proofs.Mapped.{only_here}
-use Rattle.plain_laws.proofs.Bools.{same_number}
+use Rattle.elab_parts.proofs.plain_laws.Bools.{same_number}
 use Rattle.valid_tasks.proofs.Widths.{same_width as itself}
 
 pub is_replaced_as : (o : Option Fate) → is_replaced o ≡ true → o ≡ Some Replaced

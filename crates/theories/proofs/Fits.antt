@@ -4,19 +4,19 @@ use Rattle.std.proofs.Common.{◌≡◌, ◌≢◌, ◌⊎◌, inl, inr, ℕ, �
 use Rattle.std.specs.Str.{bytes_eq}
 use Rattle.std.proofs.lemmas.List.{get_or_append_left}
 use Rattle.std.proofs.lemmas.List.Elements.{All-nil, All-cons, All-contains, Contains-get_or}
-use Rattle.trees.specs.Tree.{Tree}
-use Rattle.tasks.specs.declared.signature.SymbolKind.TheVariants.{Kind}
-use Rattle.tasks.specs.Task.{SymbolTree, symbol_or, int_symbol, BodyTree, MakesType, Makes, Defines, Induces, Constructs, Says, DeclarationTree, made, made_by}
-use Rattle.tasks.specs.Roles.{is_constructor, role_in}
-use Rattle.tasks.specs.Vocabulary.{Vocabulary, of_signature}
-use Rattle.tasks.specs.Typing.{entry}
-use Rattle.tasks.specs.Valid.{IsTypeIn, HasTypes, IsTypeEntry, IsSignatureOf, IsValidBody, IsValidDecl}
-use Rattle.clones.specs.Mapped.{Map}
+use Rattle.elab_parts.specs.trees.Tree.{Tree}
+use Rattle.elab_parts.specs.tasks.declared.signature.SymbolKind.TheVariants.{Kind}
+use Rattle.elab_parts.specs.tasks.Task.{SymbolTree, symbol_or, int_symbol, BodyTree, MakesType, Makes, Defines, Induces, Constructs, Says, DeclarationTree, made, made_by}
+use Rattle.elab_parts.specs.tasks.Roles.{is_constructor, role_in}
+use Rattle.elab_parts.specs.tasks.Vocabulary.{Vocabulary, of_signature}
+use Rattle.elab_parts.specs.tasks.Typing.{entry}
+use Rattle.elab_parts.specs.tasks.Valid.{IsTypeIn, HasTypes, IsTypeEntry, IsSignatureOf, IsValidBody, IsValidDecl}
+use Rattle.valid_tasks.specs.clones.Mapped.{Map}
 use Rattle.syntax_why.specs.Lexeme.{Word}
 use Rattle.syntax_why.specs.Declarations.{Element}
 use Rattle.syntax_why.specs.declared.declarations.PropKind.{PropKind}
 use Rattle.syntax_why.specs.declared.declarations.PropKind.TheVariants as kind
-use Rattle.clones.specs.Copies.{entry_copied}
+use Rattle.valid_tasks.specs.clones.Copies.{entry_copied}
 use Rattle.elab_parts.specs.Entries.{builtin}
 use Rattle.valid_tasks.specs.Scopes.{is_projection_kind, IsSubvocabulary, IsSymbolNumber}
 use Rattle.valid_tasks.proofs.Extended.{further}
@@ -36,12 +36,12 @@ use Rattle.valid_tasks.specs.Cloning.{IsImage, BecomesNew, IsFixed, KeepsBuilt}
 use Rattle.valid_tasks.specs.Steps.{copies, leaves, joins, StepFits}
 use Rattle.valid_tasks.proofs.Vocabularies.{made_below}
 use Rattle.valid_tasks.proofs.Trials.{signatures_agree}
-use Rattle.clone_elements.specs.Left.{Origin, no_declaration, decl_or, last_place}
-use Rattle.clone_elements.specs.Rights.{rights_tuples, rights_fault}
-use Rattle.clone_elements.specs.Plans.{SideTree, PlacedFates, no_fates, fates_of, is_replaced, kind_or, has_all, types_replaced, symbols_replaced, kept}
-use Rattle.clone_copies.specs.Origins.{is_own, axioms_at, origin_of}
-use Rattle.clone_copies.specs.Entries.{entries_copied}
-use Rattle.clone_copies.specs.Places.{Copying}
+use Rattle.valid_tasks.specs.clone_elements.Left.{Origin, no_declaration, decl_or, last_place}
+use Rattle.valid_tasks.specs.clone_elements.Rights.{rights_tuples, rights_fault}
+use Rattle.valid_tasks.specs.clone_elements.Plans.{SideTree, PlacedFates, no_fates, fates_of, is_replaced, kind_or, has_all, types_replaced, symbols_replaced, kept}
+use Rattle.valid_tasks.specs.clone_copies.Origins.{is_own, axioms_at, origin_of}
+use Rattle.valid_tasks.specs.clone_copies.Entries.{entries_copied}
+use Rattle.valid_tasks.specs.clone_copies.Places.{Copying}
 use Rattle.valid_tasks.specs.Placed.{ArePlaced}
 use Rattle.valid_tasks.specs.Sides.{IsTypedSide, with_rights}
 use Rattle.valid_tasks.proofs.Rights.{all_typed, rights_typed, rights_built}

@@ -3,21 +3,21 @@ use Rattle.std.proofs.Common.{◌≡◌, ℕ, ◌+◌, ◌<◌, if◌then◌else
 use Rattle.std.proofs.lemmas.List.Elements.{All-nil, All-cons, All-append, All-filter, All-map, All-contains, Contains-append_right}
 use Rattle.std.proofs.lemmas.List.{map-append}
 use Rattle.std.proofs.Math.Seq.{take-append_seam}
-use Rattle.trees.specs.Tree.{Tree}
-use Rattle.trees.specs.Facts.{TyVarsBelow}
-use Rattle.trees.specs.Binding.{inst_types}
-use Rattle.tasks.specs.Task.{SymbolTree, symbol_or, BodyTree, Says, DeclarationTree, made_by}
-use Rattle.tasks.specs.Rigid.{rigid_symbol}
-use Rattle.tasks.specs.Vocabulary.{of_signature}
-use Rattle.tasks.specs.Valid.{IsQuoted, IsFormulaOver, IsValidBody, IsValidDecl}
-use Rattle.clones.specs.Mapped.{Map, mapped}
+use Rattle.elab_parts.specs.trees.Tree.{Tree}
+use Rattle.elab_parts.specs.trees.Facts.{TyVarsBelow}
+use Rattle.elab_parts.specs.trees.Binding.{inst_types}
+use Rattle.elab_parts.specs.tasks.Task.{SymbolTree, symbol_or, BodyTree, Says, DeclarationTree, made_by}
+use Rattle.elab_parts.specs.tasks.Rigid.{rigid_symbol}
+use Rattle.elab_parts.specs.tasks.Vocabulary.{of_signature}
+use Rattle.elab_parts.specs.tasks.Valid.{IsQuoted, IsFormulaOver, IsValidBody, IsValidDecl}
+use Rattle.valid_tasks.specs.clones.Mapped.{Map, mapped}
 use Rattle.syntax_why.specs.Lexeme.{Word}
 use Rattle.syntax_why.specs.Declarations.{Element}
 use Rattle.syntax_why.specs.declared.declarations.PropKind.{PropKind}
 use Rattle.syntax_why.specs.declared.declarations.PropKind.TheVariants as kind
-use Rattle.clones.specs.Copies.{body_mapped, entry_copied}
-use Rattle.elab_walk.specs.Scoped.{IsScopedEntry}
-use Rattle.elab_terms.specs.Outcomes.{entry_numbers, rigid_types}
+use Rattle.valid_tasks.specs.clones.Copies.{body_mapped, entry_copied}
+use Rattle.elab_parts.specs.elab_walk.Scoped.{IsScopedEntry}
+use Rattle.valid_tasks.specs.elab_terms.Outcomes.{entry_numbers, rigid_types}
 use Rattle.valid_tasks.specs.Scopes.{IsTypedEntry}
 use Rattle.valid_tasks.specs.Lists.{after}
 use Rattle.valid_tasks.proofs.Lists.{list_valid}
@@ -27,7 +27,7 @@ use Rattle.valid_tasks.specs.Tasks.{AreSound, IsSoundAfter}
 use Rattle.valid_tasks.proofs.Grown.{sound_more, behind_more, front_sound}
 use Rattle.valid_tasks.proofs.Kept.{IsOfSource, source_kept}
 use Rattle.valid_tasks.proofs.Trees.{formula_mapped}
-use Rattle.goal_tasks.specs.Theories.{GoalTree}
+use Rattle.theory_states.specs.goal_tasks.Theories.{GoalTree}
 use Rattle.theory_states.specs.declared.states.AxiomAt.{AxiomAt}
 use Rattle.theory_states.specs.States.{KnownTree, StateTree, visible_in, visible_now, with_declaration}
 use Rattle.valid_tasks.specs.TypedStates.{state_setting, IsTypedState}
@@ -43,12 +43,12 @@ use Rattle.valid_tasks.proofs.ClonedGoals.{right_more, goal_sound}
 use Rattle.valid_tasks.proofs.CloneSteps.{clone_sound, clone_front}
 use Rattle.valid_tasks.specs.Entries.{IsGrounded}
 use Rattle.valid_tasks.proofs.Entries.{further_typed, variables_built}
-use Rattle.clone_elements.specs.Left.{Origin, decl_or}
-use Rattle.clone_elements.specs.Rights.{rights_tuples, rights_fault}
-use Rattle.clone_elements.specs.Plans.{fates_of, is_replaced, kind_or, kept}
-use Rattle.clone_copies.specs.Origins.{is_own, axioms_at, origin_of}
-use Rattle.clone_copies.specs.Entries.{entries_copied}
-use Rattle.clone_copies.specs.Places.{Copying, axiom_at, with_copied_axiom, next_numbers, goal_of, goal_with, with_kind, with_copy, copy_of, with_joined, with_place, with_places}
+use Rattle.valid_tasks.specs.clone_elements.Left.{Origin, decl_or}
+use Rattle.valid_tasks.specs.clone_elements.Rights.{rights_tuples, rights_fault}
+use Rattle.valid_tasks.specs.clone_elements.Plans.{fates_of, is_replaced, kind_or, kept}
+use Rattle.valid_tasks.specs.clone_copies.Origins.{is_own, axioms_at, origin_of}
+use Rattle.valid_tasks.specs.clone_copies.Entries.{entries_copied}
+use Rattle.valid_tasks.specs.clone_copies.Places.{Copying, axiom_at, with_copied_axiom, next_numbers, goal_of, goal_with, with_kind, with_copy, copy_of, with_joined, with_place, with_places}
 use Rattle.valid_tasks.specs.Placed.{ArePlaced}
 use Rattle.valid_tasks.proofs.Copies.{all_copies_typed}
 use Rattle.clone_theories.specs.Cloned.{symbols_tupled, sides_in, map_in, AreTold, copying_in, with_copied_entries}
@@ -58,7 +58,7 @@ use Rattle.theories.proofs.KnownLists.{last_at, plain_more}
 use Rattle.theories.proofs.Steps.{step_is, steps_declarations, steps_taken, steps_both, right_after, made_both}
 use Rattle.theories.proofs.Fits.{says_nothing, source_sound, tupled_built, tupled_setting, keeps, steps_fit}
 use Rattle.valid_tasks.proofs.Further.{axiom_more as axiom_grown}
-use Rattle.plain_laws.proofs.Lists.{All-left as front_all}
+use Rattle.elab_parts.proofs.plain_laws.Lists.{All-left as front_all}
 
 -- ---- lists
 

@@ -1,8 +1,8 @@
 -- What is typed only adds entries, so that those of int.Int stay where they are.
 use Rattle.std.proofs.Common.{◌≡◌, ℕ, zero, suc, Bool, true, false, if◌then◌else◌, List, [], ◌∷◌, ◌++◌, map, Option, Some, None, slice_get, sym, subst}
-use Rattle.tasks.specs.Task.{SymbolTree, BodyTree, MakesType, Makes, Defines, Induces, Constructs, Says, DeclarationTree}
-use Rattle.tasks.specs.Rigid.{rigid_symbol}
-use Rattle.tasks.specs.Valid.{AreInts}
+use Rattle.elab_parts.specs.tasks.Task.{SymbolTree, BodyTree, MakesType, Makes, Defines, Induces, Constructs, Says, DeclarationTree}
+use Rattle.elab_parts.specs.tasks.Rigid.{rigid_symbol}
+use Rattle.elab_parts.specs.tasks.Valid.{AreInts}
 use Rattle.syntax_why.specs.Lexeme.{Word}
 use Rattle.syntax_why.specs.Declarations.{Element, SyntaxDeclaration, SyntaxDeclarations, SyntaxTheory, use_decl, clone_decl, scope_decl, no_decls, more_decls}
 use Rattle.syntax_why.specs.declared.names.Name.{Name}
@@ -12,16 +12,16 @@ use Rattle.syntax_why.specs.declared.declarations.Link.{Link}
 use Rattle.syntax_why.specs.declared.declarations.PropKind.{PropKind}
 use Rattle.syntax_why.specs.declared.declarations.PropKind.TheVariants as kind
 use Rattle.syntax_why.specs.SurfaceDeclarations.{file_of}
-use Rattle.elab_names.specs.Abstract.{Expression}
-use Rattle.elab_terms.specs.Outcomes.{proposition_seen}
+use Rattle.elab_parts.specs.elab_names.Abstract.{Expression}
+use Rattle.valid_tasks.specs.elab_terms.Outcomes.{proposition_seen}
 use Rattle.theory_states.specs.States.{StateTree, with_declaration, with_declarations}
 use Rattle.theory_states.specs.Uses.{last_part, alias_text}
 use Rattle.theory_declarations.specs.Declared.{with_proposed, proposition_in, known_by, with_named, IsDeclared}
-use Rattle.clone_elements.specs.Rights.{rights_tuples}
-use Rattle.clone_elements.specs.Plans.{fates_of, kept, kind_or, is_replaced}
-use Rattle.clone_copies.specs.Origins.{origin_of, is_own}
-use Rattle.clone_copies.specs.Entries.{entries_copied}
-use Rattle.clone_copies.specs.Places.{Copying, goal_with, with_kind, with_copy, copy_of, with_joined, with_own, with_place, with_places}
+use Rattle.valid_tasks.specs.clone_elements.Rights.{rights_tuples}
+use Rattle.valid_tasks.specs.clone_elements.Plans.{fates_of, kept, kind_or, is_replaced}
+use Rattle.valid_tasks.specs.clone_copies.Origins.{origin_of, is_own}
+use Rattle.valid_tasks.specs.clone_copies.Entries.{entries_copied}
+use Rattle.valid_tasks.specs.clone_copies.Places.{Copying, goal_with, with_kind, with_copy, copy_of, with_joined, with_own, with_place, with_places}
 use Rattle.clone_theories.specs.Cloned.{symbols_tupled, sides_in, map_in, within_of, copying_in, with_copied_entries, IsCloned}
 use Rattle.theories.specs.Ints.{int_entries}
 use Rattle.theories.specs.Typing.{IsDeclarationTyped, AreDeclarationsTyped}

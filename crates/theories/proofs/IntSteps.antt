@@ -1,14 +1,14 @@
 -- A declaration of a function or predicate without a body gives its own entry, where the theory int.Int is typed.
 use Rattle.std.proofs.Common.{◌≡◌, ℕ, List, [], ◌∷◌, ◌++◌, codes, Some, None, sym, ap, subst, ◌∙◌}
-use Rattle.trees.specs.Tree.{Tree}
-use Rattle.tasks.specs.Task.{SymbolTree, DeclarationTree}
-use Rattle.names_space.specs.Names.{ScopeNames}
+use Rattle.elab_parts.specs.trees.Tree.{Tree}
+use Rattle.elab_parts.specs.tasks.Task.{SymbolTree, DeclarationTree}
+use Rattle.elab_parts.specs.names_space.Names.{ScopeNames}
 use Rattle.syntax_why.specs.Declarations.{SyntaxDeclaration}
 use Rattle.elab_parts.specs.Declarations.{GroupMember, Declaration, member_group, declaration}
 use Rattle.elab_parts.specs.Outcomes.{Setting}
-use Rattle.elab_groups.specs.Groups.{group_tuples, before_group, group_scope, IsGroup}
-use Rattle.elab_members.specs.Members.{member_entries}
-use Rattle.elab_terms.specs.Outcomes.{IsOutcome}
+use Rattle.valid_tasks.specs.elab_groups.Groups.{group_tuples, before_group, group_scope, IsGroup}
+use Rattle.valid_tasks.specs.elab_members.Members.{member_entries}
+use Rattle.valid_tasks.specs.elab_terms.Outcomes.{IsOutcome}
 use Rattle.theory_states.specs.States.{StateTree, with_declaration, with_declarations}
 use Rattle.valid_tasks.specs.TypedStates.{state_setting}
 use Rattle.theory_declarations.specs.Declared.{proposition_in, known_by, with_named, IsDeclared}

@@ -1,12 +1,12 @@
 -- What the left side of an element names: an own declaration of a theory that makes a type, or a symbol of the element's kind.
 use Rattle.std.proofs.Common.{◌≡◌, ◌≢◌, ℕ, if◌then◌else◌, Bool, true, false, List, [], ◌∷◌, ◌++◌, Contains, All, Option, Some, None, IfSome, refl, sym, ap, ◌∙◌, arith}
 use Rattle.std.proofs.lemmas.List.Elements.{All-nil, All-cons}
-use Rattle.trees.specs.Tree.{Tree}
-use Rattle.tasks.specs.declared.signature.SymbolKind.{SymbolKind}
-use Rattle.tasks.specs.declared.signature.SymbolKind.TheVariants as symbol
-use Rattle.tasks.specs.Task.{SymbolTree, symbol_or, BodyTree, MakesType, Makes, Defines, Induces, Constructs, Says}
-use Rattle.tasks.specs.Typing.{MakesTerms}
-use Rattle.names_space.specs.Names.{ScopeNames}
+use Rattle.elab_parts.specs.trees.Tree.{Tree}
+use Rattle.elab_parts.specs.tasks.declared.signature.SymbolKind.{SymbolKind}
+use Rattle.elab_parts.specs.tasks.declared.signature.SymbolKind.TheVariants as symbol
+use Rattle.elab_parts.specs.tasks.Task.{SymbolTree, symbol_or, BodyTree, MakesType, Makes, Defines, Induces, Constructs, Says}
+use Rattle.elab_parts.specs.tasks.Typing.{MakesTerms}
+use Rattle.elab_parts.specs.names_space.Names.{ScopeNames}
 use Rattle.syntax_why.specs.Lexeme.{Word}
 use Rattle.syntax_why.specs.declared.declarations.SymbolWord.{SymbolWord}
 use Rattle.syntax_why.specs.declared.declarations.SymbolWord.TheVariants as word
@@ -14,12 +14,12 @@ use Rattle.syntax_why.specs.Declarations.{Element, type_element, symbol_element,
 use Rattle.valid_tasks.proofs.Words.{same_word}
 use Rattle.valid_tasks.specs.Morphisms.{KindBecomes}
 use Rattle.valid_tasks.proofs.Places.{here}
-use Rattle.clone_elements.specs.declared.left.Abstract.{Abstract}
-use Rattle.clone_elements.specs.declared.left.Abstract.TheVariants as abstract
-use Rattle.clone_elements.specs.Left.{Origin, decl_or, called_text, kind_of_symbol, kind_of_word, kind_of_proposition, kind_of_body, kind_letter, key, key_with, left_key, element_key, is_key, place_after, last_place, place_by}
-use Rattle.clone_elements.specs.Rights.{RightTree, type_right, symbol_right, no_right, right_made, right_tuples}
-use Rattle.clone_elements.specs.Plans.{SideTree, sides_made}
-use Rattle.clone_elements.specs.Elements.{is_kind_of_word}
+use Rattle.valid_tasks.specs.clone_elements.declared.left.Abstract.{Abstract}
+use Rattle.valid_tasks.specs.clone_elements.declared.left.Abstract.TheVariants as abstract
+use Rattle.valid_tasks.specs.clone_elements.Left.{Origin, decl_or, called_text, kind_of_symbol, kind_of_word, kind_of_proposition, kind_of_body, kind_letter, key, key_with, left_key, element_key, is_key, place_after, last_place, place_by}
+use Rattle.valid_tasks.specs.clone_elements.Rights.{RightTree, type_right, symbol_right, no_right, right_made, right_tuples}
+use Rattle.valid_tasks.specs.clone_elements.Plans.{SideTree, sides_made}
+use Rattle.valid_tasks.specs.clone_elements.Elements.{is_kind_of_word}
 use Rattle.valid_tasks.proofs.Lefts.{keyed, not_axiom, not_type}
 use Rattle.valid_tasks.proofs.Numbers.{later}
 

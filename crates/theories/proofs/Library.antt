@@ -1,11 +1,11 @@
 -- The files of the library are those of its texts, so that there is one tree for each.
 use Rattle.std.proofs.Common.{◌≡◌, ℕ, List, [], ◌∷◌, sym, subst, subst₂, ◌∙◌, inl, inr}
-use Rattle.tokens_why.specs.declared.token.Token.{Token}
+use Rattle.syntax_why.specs.tokens_why.declared.token.Token.{Token}
 use Rattle.syntax_why.specs.Lexeme.{rest}
 use Rattle.syntax_why.specs.Declarations.{SyntaxTheory}
 use Rattle.syntax_why.specs.declared.declarations.File.{File}
 use Rattle.syntax_why.specs.SurfaceDeclarations.{file_of}
-use Rattle.recognise_why.specs.Sources.{IsOnlyFile}
+use Rattle.std_theories.specs.recognise_why.Sources.{IsOnlyFile}
 use Rattle.std_theories.specs.Library.{LibraryEntry, IsFileOfText, AreFilesOf}
 use Rattle.std_theories.proofs.Readings.{one_tokens}
 use Rattle.theory_states.specs.declared.fault.SourceFault.{SourceFault}

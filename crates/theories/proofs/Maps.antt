@@ -1,19 +1,19 @@
 -- The map of a clone by what the theory's own declarations make: what isn't made by them stays, what is copied becomes new, each
 -- another, and what is replaced becomes what replaces it.
 use Rattle.std.proofs.Common.{◌≡◌, ◌⊎◌, inl, inr, ℕ, ◌+◌, ◌<◌, true, false, List, [], length, slice_get, Contains, All, Some, None, refl, sym, ap, subst, ◌∙◌, arith}
-use Rattle.trees.specs.Tree.{Tree}
-use Rattle.tasks.specs.Task.{SymbolTree, BodyTree, MakesType, Makes, DeclarationTree, made_by}
-use Rattle.clones.specs.Mapped.{Map}
+use Rattle.elab_parts.specs.trees.Tree.{Tree}
+use Rattle.elab_parts.specs.tasks.Task.{SymbolTree, BodyTree, MakesType, Makes, DeclarationTree, made_by}
+use Rattle.valid_tasks.specs.clones.Mapped.{Map}
 use Rattle.valid_tasks.specs.Tasks.{AreSound}
 use Rattle.theory_states.specs.States.{KnownTree, at_places}
 use Rattle.valid_tasks.proofs.Places.{none_here, here}
 use Rattle.valid_tasks.specs.Cloning.{IsFixed}
 use Rattle.valid_tasks.specs.Trials.{AgreeOn}
-use Rattle.clone_elements.specs.declared.plans.Fate.TheVariants.{Replaced}
-use Rattle.clone_elements.specs.Left.{Origin, decl_or}
-use Rattle.clone_elements.specs.Plans.{SideTree, PlacedFates, no_fates, fates_of, is_replaced, types_replaced, symbols_replaced, kept, clone_map, tried_map}
-use Rattle.clone_elements.specs.Elements.{SidesTold}
-use Rattle.clone_copies.specs.Origins.{origin_of}
+use Rattle.valid_tasks.specs.clone_elements.declared.plans.Fate.TheVariants.{Replaced}
+use Rattle.valid_tasks.specs.clone_elements.Left.{Origin, decl_or}
+use Rattle.valid_tasks.specs.clone_elements.Plans.{SideTree, PlacedFates, no_fates, fates_of, is_replaced, types_replaced, symbols_replaced, kept, clone_map, tried_map}
+use Rattle.valid_tasks.specs.clone_elements.Elements.{SidesTold}
+use Rattle.valid_tasks.specs.clone_copies.Origins.{origin_of}
 use Rattle.theories.proofs.Numbers.{IsAt, contained, IsReplacedBy, IsOther, symbol_cases, type_cases, types_alike}
 use Rattle.theories.proofs.Lefts.{IsRead}
 use Rattle.theories.proofs.Elements.{IsTypeReplaced, IsSymbolReplaced, HasType, HasSymbol, is_replaced_as, types_from, symbols_from, pair_there}

@@ -1,16 +1,16 @@
 -- Moves that are mapped alike over two stores mean the same.
 use Rattle.std.proofs.Common.{◌≡◌, ℕ, suc, List, [], ◌∷◌, length, Option, Some, None, refl, sym, ap, subst, subst₂, ◌∙◌, arith}
-use Rattle.trees.specs.Tree.{Tree}
-use Rattle.trees.specs.Node.{tree_at}
-use Rattle.tasks.specs.Task.{SymbolTree, symbol_or}
-use Rattle.names_space.specs.declared.Table.{Table}
-use Rattle.names_space.specs.declared.Table.TheVariants.{Types, Symbols, Propositions, Scopes}
-use Rattle.names_space.specs.declared.TypeName.{TypeName}
-use Rattle.names_space.specs.declared.TypeName.TheVariants as stands
+use Rattle.elab_parts.specs.trees.Tree.{Tree}
+use Rattle.elab_parts.specs.trees.Node.{tree_at}
+use Rattle.elab_parts.specs.tasks.Task.{SymbolTree, symbol_or}
+use Rattle.elab_parts.specs.names_space.declared.Table.{Table}
+use Rattle.elab_parts.specs.names_space.declared.Table.TheVariants.{Types, Symbols, Propositions, Scopes}
+use Rattle.elab_parts.specs.names_space.declared.TypeName.{TypeName}
+use Rattle.elab_parts.specs.names_space.declared.TypeName.TheVariants as stands
 use Rattle.theory_states.specs.declared.moves.Move.{Move}
 use Rattle.theory_states.specs.declared.moves.Move.TheVariants.{Brings, Opens, Closes}
-use Rattle.clones.specs.Mapped.{Map, mapped}
-use Rattle.clone_copies.specs.Moves.{IsAliasOf, IsTypeMapped, IsThingMapped, IsMoveMapped, AreMovesMapped}
+use Rattle.valid_tasks.specs.clones.Mapped.{Map, mapped}
+use Rattle.valid_tasks.specs.clone_copies.Moves.{IsAliasOf, IsTypeMapped, IsThingMapped, IsMoveMapped, AreMovesMapped}
 use Rattle.theories.specs.Same.{IsSameMeaning, IsSameThing, IsSameMove, AreSameMoves}
 
 module _ (s t : List Tree) (symbols : List SymbolTree) (m : Map) where

@@ -1,13 +1,13 @@
 -- Theories stay plain as a theory begins and ends, is used, has scopes and is declared further.
 use Rattle.std.proofs.Common.{◌≡◌, ℕ, ◌<◌, List, [], ◌∷◌, ◌++◌, length, get_or, All, Contains, Option, Some, None, option_map, sym, subst, arith, length-append}
 use Rattle.std.proofs.lemmas.List.Elements.{All-nil, All-cons, All-append, All-contains}
-use Rattle.trees.specs.Tree.{Tree}
-use Rattle.tasks.specs.Task.{SymbolTree, DeclarationTree}
-use Rattle.names_space.specs.Names.{ScopeNames, find_number, find_name}
-use Rattle.names_space.specs.declared.Table.{Table}
-use Rattle.names_space.specs.declared.Table.TheVariants.{Types, Symbols, Propositions, Scopes}
-use Rattle.names_space.specs.declared.TypeName.{TypeName}
-use Rattle.names_space.specs.declared.TypeName.TheVariants as stands
+use Rattle.elab_parts.specs.trees.Tree.{Tree}
+use Rattle.elab_parts.specs.tasks.Task.{SymbolTree, DeclarationTree}
+use Rattle.elab_parts.specs.names_space.Names.{ScopeNames, find_number, find_name}
+use Rattle.elab_parts.specs.names_space.declared.Table.{Table}
+use Rattle.elab_parts.specs.names_space.declared.Table.TheVariants.{Types, Symbols, Propositions, Scopes}
+use Rattle.elab_parts.specs.names_space.declared.TypeName.{TypeName}
+use Rattle.elab_parts.specs.names_space.declared.TypeName.TheVariants as stands
 use Rattle.theory_states.specs.declared.moves.Move.{Move}
 use Rattle.theory_states.specs.declared.moves.Move.TheVariants.{Brings, Opens, Closes}
 use Rattle.theory_states.specs.Moves.{handed}
@@ -19,18 +19,18 @@ use Rattle.syntax_why.specs.declared.declarations.Link.TheVariants.{Bare, Import
 use Rattle.syntax_why.specs.declared.declarations.PropKind.{PropKind}
 use Rattle.syntax_why.specs.declared.declarations.PropKind.TheVariants as kind
 use Rattle.syntax_why.specs.Declarations as source
-use Rattle.clones.specs.Mapped.{Map}
-use Rattle.elab_names.specs.Abstract.{Expression, expression}
+use Rattle.valid_tasks.specs.clones.Mapped.{Map}
+use Rattle.elab_parts.specs.elab_names.Abstract.{Expression, expression}
 use Rattle.elab_parts.specs.Declarations.{Declaration, proposition_declaration, declaration, symbol, Made, makes, binds_names, made_names}
 use Rattle.elab_parts.specs.Outcomes.{Setting, Outcome}
-use Rattle.elab_terms.specs.Outcomes.{proposition_seen, IsOutcome}
+use Rattle.valid_tasks.specs.elab_terms.Outcomes.{proposition_seen, IsOutcome}
 use Rattle.theory_declarations.specs.Made.{thing_named, brought_as, moves_made, moves_of, moves_declared}
 use Rattle.theory_states.specs.declared.states.AxiomAt.{AxiomAt}
 use Rattle.theory_states.specs.States.{KnownTree, StateTree, opened_empty, known_as, with_declaration, with_declarations}
 use Rattle.theory_states.specs.Uses.{path_text, IsTheoryUsed}
 use Rattle.valid_tasks.specs.TypedStates.{state_setting}
 use Rattle.theory_declarations.specs.Declared.{with_declared_goal, with_axiom, with_proposition, proposition_in, known_by, with_named, IsDeclared}
-use Rattle.clone_copies.specs.Moves.{IsThingMapped, IsMoveMapped, AreMovesMapped}
+use Rattle.valid_tasks.specs.clone_copies.Moves.{IsThingMapped, IsMoveMapped, AreMovesMapped}
 use Rattle.valid_tasks.specs.Unaliased.{IsPlainThing, IsPlainMove}
 use Rattle.theories.specs.Plain.{IsSaid, IsPlainAxiom, IsPlainTheory, IsPlainKnown, ArePlainTheories, IsPlainState}
 use Rattle.theories.proofs.KnownLists.{last_at, plain_more}

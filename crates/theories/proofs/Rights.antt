@@ -3,24 +3,24 @@ use Rattle.std.proofs.Common.{◌≡◌, ◌⊎◌, inl, inr, ℕ, ◌-◌, ◌<
 use Rattle.std.specs.Option.{is_some}
 use Rattle.std.specs.Str.{bytes_eq}
 use Rattle.std.proofs.lemmas.List.Elements.{All-nil, All-cons, All-head, All-tail, Contains-append_cases}
-use Rattle.trees.specs.Tree.{Tree}
-use Rattle.tasks.specs.declared.signature.SymbolKind.{SymbolKind}
-use Rattle.tasks.specs.declared.signature.SymbolKind.TheVariants.{Constructor}
-use Rattle.tasks.specs.Task.{SymbolTree, int_symbol, DeclarationTree}
-use Rattle.tasks.specs.Roles.{is_constructor, maker, role_by}
-use Rattle.tasks.specs.Vocabulary.{Vocabulary, passes, is_empty, is_constructor_kind}
-use Rattle.tasks.specs.Valid.{IsTypeIn}
-use Rattle.names_space.specs.Names.{ScopeNames, find_name, number_of}
-use Rattle.names_space.specs.declared.Table.TheVariants.{Symbols}
-use Rattle.names_space.specs.declared.TypeName.{TypeName}
+use Rattle.elab_parts.specs.trees.Tree.{Tree}
+use Rattle.elab_parts.specs.tasks.declared.signature.SymbolKind.{SymbolKind}
+use Rattle.elab_parts.specs.tasks.declared.signature.SymbolKind.TheVariants.{Constructor}
+use Rattle.elab_parts.specs.tasks.Task.{SymbolTree, int_symbol, DeclarationTree}
+use Rattle.elab_parts.specs.tasks.Roles.{is_constructor, maker, role_by}
+use Rattle.elab_parts.specs.tasks.Vocabulary.{Vocabulary, passes, is_empty, is_constructor_kind}
+use Rattle.elab_parts.specs.tasks.Valid.{IsTypeIn}
+use Rattle.elab_parts.specs.names_space.Names.{ScopeNames, find_name, number_of}
+use Rattle.elab_parts.specs.names_space.declared.Table.TheVariants.{Symbols}
+use Rattle.elab_parts.specs.names_space.declared.TypeName.{TypeName}
 use Rattle.syntax_why.specs.Lexeme.{Word}
 use Rattle.syntax_why.specs.declared.names.Name.{Name}
 use Rattle.syntax_why.specs.Declarations.{Element, type_element, symbol_element, prop_element, all_axioms}
-use Rattle.elab_names.specs.Abstract.{texts_of_names, type_expression, text_of_own}
-use Rattle.elab_names.specs.Faults.{first_of}
-use Rattle.elab_names.specs.declared.NamingFault.{NamingFault}
-use Rattle.elab_variables.specs.Seen.{form_seen}
-use Rattle.elab_walk.specs.Pieces.{type_at}
+use Rattle.elab_parts.specs.elab_names.Abstract.{texts_of_names, type_expression, text_of_own}
+use Rattle.elab_parts.specs.elab_names.Faults.{first_of}
+use Rattle.elab_parts.specs.elab_names.declared.NamingFault.{NamingFault}
+use Rattle.elab_parts.specs.elab_variables.Seen.{form_seen}
+use Rattle.elab_parts.specs.elab_walk.Pieces.{type_at}
 use Rattle.elab_parts.specs.Elaborated.{unseen}
 use Rattle.elab_parts.specs.Entries.{builtin, wanting_tuples}
 use Rattle.elab_parts.specs.Outcomes.{Setting, over}
@@ -35,9 +35,9 @@ use Rattle.valid_tasks.proofs.Made.{tuples_built}
 use Rattle.valid_tasks.proofs.Joined.{matched_usable}
 use Rattle.valid_tasks.proofs.Places.{none_here}
 use Rattle.valid_tasks.proofs.CopiedRights.{right_typed}
-use Rattle.clone_elements.specs.Left.{Origin, symbol_at_place}
-use Rattle.clone_elements.specs.Rights.{RightTree, type_right, symbol_right, no_right, symbol_missing, called_symbol, right_made, right_fault, right_tuples, rights_tuples, rights_fault}
-use Rattle.clone_elements.specs.Plans.{SideTree, sides_made, symbol_for, symbols_replaced}
+use Rattle.valid_tasks.specs.clone_elements.Left.{Origin, symbol_at_place}
+use Rattle.valid_tasks.specs.clone_elements.Rights.{RightTree, type_right, symbol_right, no_right, symbol_missing, called_symbol, right_made, right_fault, right_tuples, rights_tuples, rights_fault}
+use Rattle.valid_tasks.specs.clone_elements.Plans.{SideTree, sides_made, symbol_for, symbols_replaced}
 use Rattle.valid_tasks.specs.Sides.{IsTypedRight, IsTypedSide}
 use Rattle.valid_tasks.proofs.Rights.{right_more, texts_count}
 use Rattle.std.proofs.lemmas.Option.{slice_get-get_or as some_at}

@@ -1,7 +1,7 @@
 -- A theory is cloned in one way, or the clone has one first fault.
 use Rattle.std.proofs.Common.{◌≡◌, ℕ, List, ◌++◌, Option, Some, None, refl, sym, ap, ap₂, subst, subst₂, ◌∙◌}
-use Rattle.trees.specs.Tree.{Tree}
-use Rattle.tasks.specs.Task.{SymbolTree, DeclarationTree}
+use Rattle.elab_parts.specs.trees.Tree.{Tree}
+use Rattle.elab_parts.specs.tasks.Task.{SymbolTree, DeclarationTree}
 use Rattle.theory_states.specs.declared.moves.Move.{Move}
 use Rattle.theory_states.specs.Moves.{handed}
 use Rattle.syntax_why.specs.Lexeme.{Word}
@@ -9,20 +9,20 @@ use Rattle.syntax_why.specs.Declarations.{Element}
 use Rattle.syntax_why.specs.declared.names.Name.{Name}
 use Rattle.syntax_why.specs.declared.names.Path.{Path}
 use Rattle.syntax_why.specs.declared.declarations.Link.{Link}
-use Rattle.elab_names.specs.declared.NamingFault.{NamingFault}
-use Rattle.clones.specs.Mapped.{Map}
+use Rattle.elab_parts.specs.elab_names.declared.NamingFault.{NamingFault}
+use Rattle.valid_tasks.specs.clones.Mapped.{Map}
 use Rattle.theory_states.specs.declared.fault.SourceFault.{SourceFault}
 use Rattle.theory_states.specs.declared.fault.SourceFault.TheVariants as fault
 use Rattle.theory_states.specs.States.{KnownTree, StateTree, known_named}
 use Rattle.theory_states.specs.Uses.{path_text, last_part, alias_text}
-use Rattle.clone_elements.specs.Left.{Origin, last_place}
-use Rattle.clone_elements.specs.Rights.{all_variables_fault, rights_fault, rights_tuples}
-use Rattle.clone_elements.specs.Plans.{SideTree, fates_of, has_all, no_fates, kept, clone_map, tried_map}
-use Rattle.clone_elements.specs.Elements.{SidesTold}
-use Rattle.clone_copies.specs.Origins.{axioms_at, origin_of}
-use Rattle.clone_copies.specs.Entries.{entries_copied}
-use Rattle.clone_copies.specs.Places.{Copying, with_places}
-use Rattle.clone_copies.specs.Moves.{AreMovesMapped}
+use Rattle.valid_tasks.specs.clone_elements.Left.{Origin, last_place}
+use Rattle.valid_tasks.specs.clone_elements.Rights.{all_variables_fault, rights_fault, rights_tuples}
+use Rattle.valid_tasks.specs.clone_elements.Plans.{SideTree, fates_of, has_all, no_fates, kept, clone_map, tried_map}
+use Rattle.valid_tasks.specs.clone_elements.Elements.{SidesTold}
+use Rattle.valid_tasks.specs.clone_copies.Origins.{axioms_at, origin_of}
+use Rattle.valid_tasks.specs.clone_copies.Entries.{entries_copied}
+use Rattle.valid_tasks.specs.clone_copies.Places.{Copying, with_places}
+use Rattle.valid_tasks.specs.clone_copies.Moves.{AreMovesMapped}
 use Rattle.clone_theories.specs.Cloned.{symbols_tupled, sides_over, sides_in, map_in, AreTold, within_of, copying_in, with_copied_entries, with_names, state_cloned, IsCloned, naming, IsNamesFault, IsCloneFault, of_variables, of_path, of_clone_names, of_elements}
 use Rattle.theories.specs.Same.{IsSameMove, AreSameMoves}
 use Rattle.theories.proofs.AlikeLists.{alike_append}

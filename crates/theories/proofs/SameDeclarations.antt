@@ -1,17 +1,17 @@
 -- A declaration is typed in one way, or has one first fault.
 use Rattle.std.proofs.Common.{◌≡◌, ◌≢◌, ℕ, List, ◌++◌, Option, Some, sym, ap, ap₂, subst, subst₂, ◌∙◌}
-use Rattle.trees.specs.Tree.{Tree}
-use Rattle.trees.specs.Node.{Grows}
-use Rattle.tasks.specs.Task.{SymbolTree, DeclarationTree}
+use Rattle.elab_parts.specs.trees.Tree.{Tree}
+use Rattle.elab_parts.specs.trees.Node.{Grows}
+use Rattle.elab_parts.specs.tasks.Task.{SymbolTree, DeclarationTree}
 use Rattle.syntax_why.specs.Declarations as source
 use Rattle.elab_parts.specs.declared.ElabFault.{ElabFault}
 use Rattle.elab_parts.specs.declared.ElabFault.TheVariants as elab
 use Rattle.elab_parts.specs.Declarations.{Declaration, declaration}
 use Rattle.elab_parts.specs.Outcomes.{Outcome}
-use Rattle.elab_terms.specs.Outcomes.{IsOutcome, IsRefusal}
-use Rattle.side_conditions.specs.declared.sides.SideFault.{SideFault}
-use Rattle.side_conditions.specs.declared.sides.SideFault.TheVariants as side
-use Rattle.side_conditions.specs.Sides.{IsSideFault, bodies}
+use Rattle.valid_tasks.specs.elab_terms.Outcomes.{IsOutcome, IsRefusal}
+use Rattle.theory_declarations.specs.side_conditions.declared.sides.SideFault.{SideFault}
+use Rattle.theory_declarations.specs.side_conditions.declared.sides.SideFault.TheVariants as side
+use Rattle.theory_declarations.specs.side_conditions.Sides.{IsSideFault, bodies}
 use Rattle.theory_states.specs.declared.fault.SourceFault.{SourceFault}
 use Rattle.theory_states.specs.declared.fault.SourceFault.TheVariants.{Memory}
 use Rattle.theory_states.specs.States.{StateTree}

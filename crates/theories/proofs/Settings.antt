@@ -1,24 +1,24 @@
 -- Where a declaration stands alike over two stores, names mean the same in it, and so its first fault of names and its type equations
 -- are the same.
 use Rattle.std.proofs.Common.{◌≡◌, Bool, true, false, List, [], ◌++◌, map, length, None, refl, ap, ap₂, ◌∙◌}
-use Rattle.trees.specs.Tree.{Tree}
-use Rattle.tasks.specs.Task.{SymbolTree}
-use Rattle.names_space.specs.Names.{ScopeNames}
-use Rattle.names_space.specs.declared.Table.{Table}
+use Rattle.elab_parts.specs.trees.Tree.{Tree}
+use Rattle.elab_parts.specs.tasks.Task.{SymbolTree}
+use Rattle.elab_parts.specs.names_space.Names.{ScopeNames}
+use Rattle.elab_parts.specs.names_space.declared.Table.{Table}
 use Rattle.syntax_why.specs.Lexeme.{Word}
-use Rattle.elab_names.specs.Faults.{first_of, fault, form_fault}
-use Rattle.elab_names.specs.Where.{Where}
-use Rattle.elab_variables.specs.Seen.{SeenTree}
-use Rattle.elab_walk.specs.Pieces.{NotedTree, piece}
+use Rattle.elab_parts.specs.elab_names.Faults.{first_of, fault, form_fault}
+use Rattle.elab_parts.specs.elab_names.Where.{Where}
+use Rattle.elab_parts.specs.elab_variables.Seen.{SeenTree}
+use Rattle.elab_parts.specs.elab_walk.Pieces.{NotedTree, piece}
 use Rattle.elab_parts.specs.Declarations.{Declaration, abstract_type, alias, algebraic, member_group, inductive, proposition_declaration, AlgebraicType, GroupMember, InductivePredicate, words, made_names, made_fault, types_fault, inductives_fault}
-use Rattle.elab_names.specs.Abstract.{Expression}
+use Rattle.elab_parts.specs.elab_names.Abstract.{Expression}
 use Rattle.elab_parts.specs.Outcomes.{Setting, over, around, where_tuples_are, tuples_wanting, declared_in}
-use Rattle.elab_types.specs.Algebraics as types
-use Rattle.elab_types.specs.Algebraics.{first_type, first_constructor, algebraic_trees, group_trees, group_names}
-use Rattle.elab_members.specs.Members.{SignatureTree, signature_of, signature_trees, signed_entries, member_entries, inside_group, members_fault}
-use Rattle.elab_groups.specs.Groups.{most_variables, bodies_pieces, pieces_notes, before_group, group_signatures, group_scope, within_group}
-use Rattle.elab_inductives.specs.Inductives.{as_members, formula_members, clause_signatures, before_inductives, inductives_scope, within_inductives}
-use Rattle.elab_terms.specs.Outcomes.{proposition_seen, proposition_piece, used_fault, names_fault, notes_of, rigid_of}
+use Rattle.valid_tasks.specs.elab_types.Algebraics as types
+use Rattle.valid_tasks.specs.elab_types.Algebraics.{first_type, first_constructor, algebraic_trees, group_trees, group_names}
+use Rattle.valid_tasks.specs.elab_members.Members.{SignatureTree, signature_of, signature_trees, signed_entries, member_entries, inside_group, members_fault}
+use Rattle.valid_tasks.specs.elab_groups.Groups.{most_variables, bodies_pieces, pieces_notes, before_group, group_signatures, group_scope, within_group}
+use Rattle.valid_tasks.specs.elab_inductives.Inductives.{as_members, formula_members, clause_signatures, before_inductives, inductives_scope, within_inductives}
+use Rattle.valid_tasks.specs.elab_terms.Outcomes.{proposition_seen, proposition_piece, used_fault, names_fault, notes_of, rigid_of}
 use Rattle.theories.specs.Same.{AreSameNames}
 use Rattle.theories.proofs.Overs.{over_same, declared_in_is}
 use Rattle.theories.proofs.Made.{types_made_same, members_made_same, inductives_made_same}

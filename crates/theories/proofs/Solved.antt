@@ -2,14 +2,14 @@
 use Rattle.std.proofs.Common.{◌≡◌, ◌≢◌, ℕ, zero, suc, ◌+◌, ◌<◌, ◌≤◌, List, [], ◌∷◌, take, slice_get, Some, refl, sym, ap, subst, ◌∙◌, arith, ◌⊎◌, inl, inr}
 use Rattle.std.proofs.lemmas.Bool.{cases_order}
 use Rattle.std.proofs.lemmas.Option.{slice_get_within}
-use Rattle.trees.specs.Tree.{Tree}
-use Rattle.unify_types.specs.Pairs.{SolvesAll, IsSolution, IsSolvable, IsUnsolvable}
-use Rattle.elab_walk.specs.Patterns.{Notes}
-use Rattle.elab_walk.specs.Pieces.{NotedTree}
+use Rattle.elab_parts.specs.trees.Tree.{Tree}
+use Rattle.elab_parts.specs.unify_types.Pairs.{SolvesAll, IsSolution, IsSolvable, IsUnsolvable}
+use Rattle.elab_parts.specs.elab_walk.Patterns.{Notes}
+use Rattle.elab_parts.specs.elab_walk.Pieces.{NotedTree}
 use Rattle.elab_parts.specs.declared.solution.TypingFault.{TypingFault}
 use Rattle.elab_parts.specs.declared.solution.TypingFault.TheVariants.{Memory, Clash, Undetermined}
 use Rattle.elab_parts.specs.Elaborated.{IsDetermined, AreMatches, IsSolved, IsTypingFault}
-use Rattle.elab_groups.specs.Groups.{AreSolved}
+use Rattle.valid_tasks.specs.elab_groups.Groups.{AreSolved}
 
 -- ---- what is made
 one_matches : (rigid : ℕ) (ns : Notes) (ms other : List (ℕ × List Tree)) → IsDetermined rigid ns → AreMatches rigid ns ms → AreMatches rigid ns other → ms ≡ other

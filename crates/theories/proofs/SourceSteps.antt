@@ -1,9 +1,9 @@
 -- What is known stays typed and sound, one declaration after another.
 use Rattle.std.proofs.Common.{ℕ, ◌+◌, suc, true, List, [], ◌∷◌, ◌++◌, All, refl, sym, subst, arith}
 use Rattle.std.proofs.lemmas.List.Elements.{All-nil, All-cons, All-push}
-use Rattle.tasks.specs.Vocabulary.{of_signature}
-use Rattle.names_space.specs.Names.{with_scope}
-use Rattle.tokens_why.specs.declared.terminal.Terminal.TheVariants as t
+use Rattle.elab_parts.specs.tasks.Vocabulary.{of_signature}
+use Rattle.elab_parts.specs.names_space.Names.{with_scope}
+use Rattle.syntax_why.specs.tokens_why.declared.terminal.Terminal.TheVariants as t
 use Rattle.theory_states.specs.declared.moves.Move.TheVariants.{Opens, Closes}
 use Rattle.theory_states.specs.Moves.{left}
 use Rattle.syntax_why.specs.Lexeme.{Lexeme, mark, lx}

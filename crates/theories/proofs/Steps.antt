@@ -1,8 +1,8 @@
 -- The steps of a clone by places: their declarations are those at the places, and those that are joined are the ones of other theories.
 use Rattle.std.proofs.Common.{◌≡◌, ℕ, ◌<◌, not, if◌then◌else◌, cond, Bool, true, false, List, [], ◌∷◌, ◌++◌, length, get_or, slice_get, All, Option, Some, None, option_to_list, append_assoc, refl, sym, ap, ◌∙◌}
 use Rattle.std.proofs.lemmas.List.Elements.{All-head, All-tail, All-append, Contains-get_or}
-use Rattle.tasks.specs.Task.{SymbolTree, DeclarationTree, made_by}
-use Rattle.clones.specs.Mapped.{Map}
+use Rattle.elab_parts.specs.tasks.Task.{SymbolTree, DeclarationTree, made_by}
+use Rattle.valid_tasks.specs.clones.Mapped.{Map}
 use Rattle.syntax_why.specs.Lexeme.{Word}
 use Rattle.syntax_why.specs.declared.declarations.PropKind.{PropKind}
 use Rattle.syntax_why.specs.declared.declarations.PropKind.TheVariants as kind
@@ -13,10 +13,10 @@ use Rattle.valid_tasks.specs.Steps.{CopyStep, leaves, joins, declaration_of, dec
 use Rattle.valid_tasks.proofs.Vocabularies.{made_below}
 use Rattle.valid_tasks.proofs.ClonedGoals.{right_more}
 use Rattle.valid_tasks.proofs.StateOthers.{made_right_of}
-use Rattle.clone_elements.specs.Left.{no_declaration, decl_or}
-use Rattle.clone_elements.specs.Plans.{is_replaced, kind_or}
-use Rattle.clone_copies.specs.Origins.{is_own}
-use Rattle.clone_copies.specs.Places.{Copying}
+use Rattle.valid_tasks.specs.clone_elements.Left.{no_declaration, decl_or}
+use Rattle.valid_tasks.specs.clone_elements.Plans.{is_replaced, kind_or}
+use Rattle.valid_tasks.specs.clone_copies.Origins.{is_own}
+use Rattle.valid_tasks.specs.clone_copies.Places.{Copying}
 use Rattle.valid_tasks.specs.PlaceSteps.{step_as, step_of, copy_step_at, copy_steps_at}
 use Rattle.std.proofs.lemmas.Option.{slice_get-get_or as some_at}
 use Rattle.valid_tasks.proofs.Joined.{into_made}

@@ -4,23 +4,23 @@ use Rattle.std.specs.List.{list_all}
 use Rattle.std.proofs.lemmas.Bool.{eqb-true, and_from as joins}
 use Rattle.std.proofs.lemmas.Bool.Decides.{nat_tests}
 use Rattle.std.proofs.lemmas.List.Elements.{All-nil, All-cons, All-map, All-drop}
-use Rattle.tokens_why.specs.declared.token.Token.{Token}
-use Rattle.tokens_why.specs.declared.token.TokenKind.{TokenKind}
-use Rattle.tokens_why.specs.declared.token.TokenKind.TheVariants as k
-use Rattle.tokens_why.specs.declared.terminal.Terminal.{Terminal}
-use Rattle.tokens_why.specs.declared.terminal.Terminal.TheVariants as t
-use Rattle.tokens_why.specs.declared.longest.Lead.{Lead}
-use Rattle.tokens_why.specs.declared.longest.Lead.TheVariants.{Letter, Quote, Digit, Sign, Mark}
-use Rattle.tokens_why.specs.Bytes.{is_digit, is_letter, is_lower, is_word_byte, is_operator_byte, is_one_of}
-use Rattle.tokens_why.specs.Literal.{is_literal}
-use Rattle.tokens_why.specs.Strings.{word_kind, run_kind, mark_kind, marks_kind, is_variable_name, only, lead_of, string_kind_by, kind_of}
-use Rattle.tokens_why.specs.Terminals.{terminal_of}
-use Rattle.tokens_why.specs.Tokens.{text_of, Stop, whole, Reads, AreTokens}
+use Rattle.syntax_why.specs.tokens_why.declared.token.Token.{Token}
+use Rattle.syntax_why.specs.tokens_why.declared.token.TokenKind.{TokenKind}
+use Rattle.syntax_why.specs.tokens_why.declared.token.TokenKind.TheVariants as k
+use Rattle.syntax_why.specs.tokens_why.declared.terminal.Terminal.{Terminal}
+use Rattle.syntax_why.specs.tokens_why.declared.terminal.Terminal.TheVariants as t
+use Rattle.syntax_why.specs.tokens_why.declared.longest.Lead.{Lead}
+use Rattle.syntax_why.specs.tokens_why.declared.longest.Lead.TheVariants.{Letter, Quote, Digit, Sign, Mark}
+use Rattle.syntax_why.specs.tokens_why.Bytes.{is_digit, is_letter, is_lower, is_word_byte, is_operator_byte, is_one_of}
+use Rattle.syntax_why.specs.tokens_why.Literal.{is_literal}
+use Rattle.syntax_why.specs.tokens_why.Strings.{word_kind, run_kind, mark_kind, marks_kind, is_variable_name, only, lead_of, string_kind_by, kind_of}
+use Rattle.syntax_why.specs.tokens_why.Terminals.{terminal_of}
+use Rattle.syntax_why.specs.tokens_why.Tokens.{text_of, Stop, whole, Reads, AreTokens}
 use Rattle.syntax_why.specs.Lexeme.{Word, said, lexeme, rest}
-use Rattle.tasks.specs.Words.{IsScopedName}
+use Rattle.elab_parts.specs.tasks.Words.{IsScopedName}
 use Rattle.theories.specs.Lexemes.{SaysWord, IsWordLexeme, AreWordLexemes}
 use Rattle.theories.proofs.Words.{all_to, implied, is_number_byte, is_part_byte, empty_name, part}
-use Rattle.plain_laws.proofs.Bools.{and_both as both, negated}
+use Rattle.elab_parts.proofs.plain_laws.Bools.{and_both as both, negated}
 
 -- ---- bytes of words and operators
 letter_low : (c : ℕ) → is_letter c ≡ true → c < 128

@@ -2,7 +2,7 @@
 use Rattle.std.proofs.Common.{ℕ, ◌-◌, zero, suc, codes, List, [], ◌∷◌, ◌++◌, length, All, Option, Some, None, slice_get, refl, sym, subst, arith}
 use Rattle.std.specs.Option.{IfSome, unwrap_or}
 use Rattle.std.proofs.lemmas.List.Elements.{All-nil, All-cons}
-use Rattle.tokens_why.specs.declared.terminal.Terminal.TheVariants as t
+use Rattle.syntax_why.specs.tokens_why.declared.terminal.Terminal.TheVariants as t
 use Rattle.syntax_why.specs.Lexeme.{Word, Lexeme, mark, lx}
 use Rattle.syntax_why.specs.declared.names.Name.{Name}
 use Rattle.syntax_why.specs.declared.names.Path.{Path}
@@ -11,7 +11,7 @@ use Rattle.syntax_why.specs.Declarations.{SyntaxDeclaration, SyntaxDeclarations,
 use Rattle.theory_states.specs.States.{StateTree}
 use Rattle.theory_states.specs.Uses.{last_part, alias_text, IsTheoryUsed}
 use Rattle.theories.specs.Typing.{IsPassed, IsOpened, IsDeclarationTyped, AreDeclarationsTyped}
-use Rattle.tasks.specs.Words.{IsScopedName}
+use Rattle.elab_parts.specs.tasks.Words.{IsScopedName}
 use Rattle.theories.specs.Lexemes.{IsWordLexeme, AreWordLexemes}
 use Rattle.theories.specs.Names.{HasWordNames}
 use Rattle.theories.proofs.Words.{written_name, joined}

@@ -4,7 +4,7 @@ use Rattle.std.proofs.lemmas.List.{drop_all}
 use Rattle.syntax_why.specs.declared.declarations.DeclTree.{DeclTree}
 use Rattle.syntax_why.specs.Declarations.{SyntaxDeclaration, SyntaxDeclarations, type_decl, algebraic_decl, function_decl, predicate_decl, constant_decl, inductive_decl, prop_decl, use_decl, clone_decl, scope_decl, more_decls}
 use Rattle.syntax_why.specs.SurfaceDeclarations.{decl_of, decls}
-use Rattle.elab_terms.specs.Outcomes.{IsLogical}
+use Rattle.valid_tasks.specs.elab_terms.Outcomes.{IsLogical}
 use Rattle.theory_states.specs.declared.fault.SourceFault.{SourceFault}
 use Rattle.theory_states.specs.declared.fault.SourceFault.TheVariants.{Memory, Unknown, Duplicate, WrongKind, Arity, Clash, Undetermined, NotExhaustive, BadClause, NotPositive, NotStructural, GroupTooWide, Uninhabited, BadSubstitution}
 use Rattle.theory_states.specs.States.{StateTree}

@@ -3,8 +3,8 @@ use Rattle.std.proofs.Common.{◌≡◌, ℕ, ◌==◌, Bool, true, false, cond,
 use Rattle.std.specs.List.{find}
 use Rattle.std.specs.Option.{IfSome}
 use Rattle.std.proofs.lemmas.List.Elements.{All-nil, All-cons, All-append, All-push, All-head, All-tail}
-use Rattle.tasks.specs.Task.{SymbolTree, BodyTree, MakesType, Makes, Defines, Induces, Constructs, Says, DeclarationTree, symbol_or}
-use Rattle.tasks.specs.Rigid.{rigid_symbol}
+use Rattle.elab_parts.specs.tasks.Task.{SymbolTree, BodyTree, MakesType, Makes, Defines, Induces, Constructs, Says, DeclarationTree, symbol_or}
+use Rattle.elab_parts.specs.tasks.Rigid.{rigid_symbol}
 use Rattle.syntax_why.specs.Lexeme.{Word}
 use Rattle.syntax_why.specs.Declarations.{Element, type_element, symbol_element, prop_element, all_axioms}
 use Rattle.syntax_why.specs.declared.names.Name.{Name}
@@ -14,21 +14,21 @@ use Rattle.syntax_why.specs.declared.declarations.Link.TheVariants as link
 use Rattle.syntax_why.specs.declared.declarations.PropKind.{PropKind}
 use Rattle.syntax_why.specs.declared.declarations.PropKind.TheVariants as kind
 use Rattle.theory_states.specs.Moves.{name_or}
-use Rattle.clones.specs.Mapped.{Map}
-use Rattle.clones.specs.Copies.{entry_copied}
-use Rattle.elab_names.specs.Abstract.{type_expression}
-use Rattle.elab_variables.specs.Seen.{form_seen}
+use Rattle.valid_tasks.specs.clones.Mapped.{Map}
+use Rattle.valid_tasks.specs.clones.Copies.{entry_copied}
+use Rattle.elab_parts.specs.elab_names.Abstract.{type_expression}
+use Rattle.elab_parts.specs.elab_variables.Seen.{form_seen}
 use Rattle.elab_parts.specs.Elaborated.{unseen}
-use Rattle.clone_elements.specs.Rights.{right_tuples, rights_tuples}
-use Rattle.clone_elements.specs.Plans.{fates_of, kept, kind_or, is_replaced}
+use Rattle.valid_tasks.specs.clone_elements.Rights.{right_tuples, rights_tuples}
+use Rattle.valid_tasks.specs.clone_elements.Plans.{fates_of, kept, kind_or, is_replaced}
 use Rattle.theory_states.specs.declared.states.AxiomAt.{AxiomAt}
 use Rattle.theory_states.specs.States.{KnownTree, StateTree, known_has_path, with_declaration}
 use Rattle.theory_states.specs.Uses.{path_text, last_part, alias_text}
-use Rattle.clone_copies.specs.Origins.{Axioms, no_axioms, with_axioms, origin_of, is_own}
-use Rattle.clone_copies.specs.Entries.{entries_copied}
-use Rattle.clone_copies.specs.Places.{Copying, goal_with, with_copied_goal, with_kind, with_copy, copy_of, with_joined, with_own, with_place, with_places}
+use Rattle.valid_tasks.specs.clone_copies.Origins.{Axioms, no_axioms, with_axioms, origin_of, is_own}
+use Rattle.valid_tasks.specs.clone_copies.Entries.{entries_copied}
+use Rattle.valid_tasks.specs.clone_copies.Places.{Copying, goal_with, with_copied_goal, with_kind, with_copy, copy_of, with_joined, with_own, with_place, with_places}
 use Rattle.clone_theories.specs.Cloned.{symbols_tupled, sides_in, map_in, within_of, copying_in, with_copied_entries, IsCloned}
-use Rattle.tasks.specs.Words.{IsScopedName}
+use Rattle.elab_parts.specs.tasks.Words.{IsScopedName}
 use Rattle.theories.specs.Names.{HaveWords, HaveWordVariables, HasWordNames}
 use Rattle.theories.proofs.Words.{written_name, joined}
 use Rattle.theories.proofs.Tuples.{HasWord, tuples_words, symbol_word}

@@ -1,3 +1,5 @@
+pub use Rattle.theory_states.specs.goal_tasks as goal_tasks
+pub use Rattle.theory_states.specs as theory_states
 pub mod Ints
 pub mod Typing
 pub mod Files

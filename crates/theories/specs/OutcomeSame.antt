@@ -1,6 +1,6 @@
 -- Places at which a declaration stands alike over two stores, and outcomes that are alike: all but the numbers of aliases is one.
 use Rattle.std.specs.Prelude.{◌≡◌, List}
-use Rattle.trees.specs.Tree.{Tree}
+use Rattle.elab_parts.specs.trees.Tree.{Tree}
 use Rattle.elab_parts.specs.Outcomes.{Setting, Outcome}
 use Rattle.theories.specs.Same.{AreSameNames}
 

@@ -1,9 +1,9 @@
 // The declarations of a theory, one after another.
 // They depend on the typing of one declaration, on use and on clone; theories are typed by them.
 ghost use Rattle.std.specs.Prelude.{◌≡◌, ◌+◌, map, IfErr, OnOk};
-ghost use Rattle.trees.specs.Node.{Grows};
+ghost use Rattle.elab_parts.specs.trees.Node.{Grows};
 ghost use Rattle.syntax_why.specs.SurfaceDeclarations.{decl_of, decls, element_of};
-ghost use Rattle.elab_terms.specs.Outcomes.{IsLogical};
+ghost use Rattle.valid_tasks.specs.elab_terms.Outcomes.{IsLogical};
 ghost use Rattle.theory_states.specs.declared.fault.SourceFault.TheVariants.{Memory};
 ghost use Rattle.theory_states.specs.Meaning.{known_at, state_at};
 ghost use Rattle.theory_states.specs.Uses.{OrMemory, IsTheoryUsed, IsUnknownTheory};
@@ -14,13 +14,12 @@ ghost use Rattle.theories.specs.Sound.{IsSoundlyDeclared, IsSoundlyTyped, AreSou
 ghost use Rattle.theories.specs.Right.{IsStateRight};
 
 use clone_theories::clone_theory;
-use elab_terms::is_logical;
-use names_space::NameFault;
+use elab_parts::{NameFault, Store};
 use std::alloc::Global;
 use syntax_why::{DeclNode, DeclTree, ElemTree, Link, Name, Path};
-use term_store::Store;
 use theory_declarations::type_declaration;
 use theory_states::{Move, Opened, SourceFault, Typed, leave, use_theory};
+use valid_tasks::is_logical;
 
 // The next declaration has the next number.
 fn pass(open: &mut Opened) -> Result<(), SourceFault>

@@ -22,5 +22,5 @@ pub use names_laws::{finds_same, names_stay_same, same_later};
 pub use outcomes_laws::{outcomes_same, refusals_same};
 pub use sound_laws::{source_tasks_valid, theories_sound};
 pub use states_laws::{declaration_determined, states_turned, use_determined};
-pub use theory_states::SourceFault;
+pub use theory_states::{SourceFault, TaskFault, Theories, Theory, task_of};
 pub use words_laws::names_words;

@@ -1,12 +1,12 @@
 // The elaboration of a declaration is determined: where it is alike over two stores, it has at most one outcome and one first fault.
 ghost use Rattle.std.specs.Prelude.{◌≡◌, ◌≢◌, List, None};
-ghost use Rattle.trees.specs.Tree.{Tree};
-ghost use Rattle.trees.specs.Node.{Grows};
+ghost use Rattle.elab_parts.specs.trees.Tree.{Tree};
+ghost use Rattle.elab_parts.specs.trees.Node.{Grows};
 ghost use Rattle.elab_parts.specs.declared.ElabFault.{ElabFault};
 ghost use Rattle.elab_parts.specs.declared.ElabFault.TheVariants.{Memory};
 ghost use Rattle.elab_parts.specs.Declarations.{Declaration};
 ghost use Rattle.elab_parts.specs.Outcomes.{Setting, Outcome};
-ghost use Rattle.elab_terms.specs.Outcomes.{IsOutcome, names_fault, IsRefusal};
+ghost use Rattle.valid_tasks.specs.elab_terms.Outcomes.{IsOutcome, names_fault, IsRefusal};
 ghost use Rattle.theories.specs.OutcomeSame.{IsSameSetting, IsSameOutcome};
 
 /// A law: where a declaration stands alike, it has the same first fault of names, and its outcomes

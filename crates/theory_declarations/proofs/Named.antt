@@ -1,20 +1,20 @@
 -- What is known once a declaration is elaborated and its names are passed on.
 use Rattle.std.proofs.Common.{◌≡◌, ℕ, List, [], ◌∷◌, ◌++◌, length, get_or, All, sym, ap, subst, ◌∙◌}
 use Rattle.std.proofs.lemmas.List.Elements.{All-nil, All-cons, All-append, All-head, All-tail}
-use Rattle.trees.specs.Tree.{Tree}
-use Rattle.trees.specs.Node.{tree_at, Holds, Grows}
-use Rattle.trees.specs.Sorts.{WellSorted}
-use Rattle.trees.specs.declared.TermId.{TermId}
-use Rattle.trees.proofs.Nodes.{Grows_trans}
+use Rattle.tasks.specs.trees.Tree.{Tree}
+use Rattle.tasks.specs.trees.Node.{tree_at, Holds, Grows}
+use Rattle.tasks.specs.trees.Sorts.{WellSorted}
+use Rattle.tasks.specs.trees.declared.TermId.{TermId}
+use Rattle.tasks.proofs.trees.Nodes.{Grows_trans}
 use Rattle.tasks.specs.Task.{SymbolTree, DeclarationTree}
 use Rattle.tasks.specs.Meaning.{symbols_at, declarations_at}
 use Rattle.tasks.specs.Vocabulary.{of_signature}
 use Rattle.tasks.proofs.Growth.{tree_later}
-use Rattle.names_space.specs.Names.{ScopeNames}
+use Rattle.elab_parts.specs.names_space.Names.{ScopeNames}
 use Rattle.syntax_why.specs.Declarations as source
 use Rattle.theory_states.specs.declared.moves.Move.{Move}
-use Rattle.decl_checks.specs.Checks.{HasNoFault}
-use Rattle.elab_walk.proofs.Growing.{type_grows}
+use Rattle.side_conditions.specs.decl_checks.Checks.{HasNoFault}
+use Rattle.elab_parts.proofs.elab_walk.Growing.{type_grows}
 use Rattle.elab_parts.specs.declared.made.Elaborated.{Elaborated}
 use Rattle.elab_parts.specs.Declarations.{Declaration, abstract_type, alias, algebraic, member_group, inductive, proposition_declaration}
 use Rattle.elab_parts.specs.Outcomes.{Setting, Outcome}

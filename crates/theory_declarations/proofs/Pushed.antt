@@ -2,11 +2,11 @@
 use Rattle.std.proofs.Common.{◌≡◌, ◌<◌, List, [], ◌∷◌, ◌++◌, map, length, slice_get, remove, Some, refl, sym, ap, subst, ◌∙◌, append-nil, arith}
 use Rattle.std.proofs.lemmas.List.{map-append}
 use Rattle.std.proofs.lemmas.List.Elements.{All-push}
-use Rattle.trees.specs.Tree.{Tree}
-use Rattle.trees.specs.Node.{Grows}
-use Rattle.goal_tasks.specs.declared.theories.GoalAt.{GoalAt}
-use Rattle.goal_tasks.specs.Theories.{GoalTree}
-use Rattle.goal_tasks.specs.Meaning.{goal_at, GoalHeld}
+use Rattle.tasks.specs.trees.Tree.{Tree}
+use Rattle.tasks.specs.trees.Node.{Grows}
+use Rattle.theory_states.specs.goal_tasks.declared.theories.GoalAt.{GoalAt}
+use Rattle.theory_states.specs.goal_tasks.Theories.{GoalTree}
+use Rattle.theory_states.specs.goal_tasks.Meaning.{goal_at, GoalHeld}
 use Rattle.theory_states.specs.declared.states.Opened.{Opened}
 use Rattle.theory_states.specs.declared.states.Typed.{Typed}
 use Rattle.theory_states.specs.States.{StateTree}

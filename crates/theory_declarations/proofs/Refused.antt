@@ -1,11 +1,11 @@
 -- Faults of a declaration.
 use Rattle.std.proofs.Common.{◌≡◌, List, [], ◌∷◌, map, All, Option, Some, None, IfSome, refl, subst}
 use Rattle.std.proofs.lemmas.List.Elements.{All-nil, All-cons, All-head, All-tail}
-use Rattle.trees.specs.Tree.{Tree}
+use Rattle.tasks.specs.trees.Tree.{Tree}
 use Rattle.tasks.specs.Task.{SymbolTree}
 use Rattle.syntax_why.specs.Declarations as source
-use Rattle.elab_walk.specs.declared.draft.MatchAt.{MatchAt}
-use Rattle.elab_walk.specs.Drafts.{MatchHeld, match_at}
+use Rattle.elab_parts.specs.elab_walk.declared.draft.MatchAt.{MatchAt}
+use Rattle.elab_parts.specs.elab_walk.Drafts.{MatchHeld, match_at}
 use Rattle.elab_parts.specs.Declarations.{Declaration, declaration}
 use Rattle.elab_terms.specs.Outcomes.{IsLogical}
 use Rattle.side_conditions.specs.Sides.{IsMatch}

@@ -2,12 +2,12 @@
 use Rattle.std.proofs.Common.{◌≡◌, ℕ, ◌+◌, ◌≤◌, zero, suc, List, [], ◌∷◌, ◌++◌, map, take, length, get_or, slice_get, All, Option, Some, None, refl, sym, ap, subst, ◌∙◌, arith, append-nil, length-append}
 use Rattle.std.specs.List.{range_with_len}
 use Rattle.std.proofs.lemmas.List.Elements.{All-nil, All-cons}
-use Rattle.trees.specs.Tree.{Tree, Leaf, One, Two, Three, Head, HTyVar, HBound, HParam, binders_over}
-use Rattle.trees.specs.Node.{tree_at, Holds, Grows}
-use Rattle.trees.specs.Sorts.{WellSorted}
-use Rattle.trees.specs.Binding.{change, typing, inst_types, leaf_by, one_by}
-use Rattle.trees.specs.declared.TermId.{TermId}
-use Rattle.trees.proofs.Nodes.{Grows_trans}
+use Rattle.tasks.specs.trees.Tree.{Tree, Leaf, One, Two, Three, Head, HTyVar, HBound, HParam, binders_over}
+use Rattle.tasks.specs.trees.Node.{tree_at, Holds, Grows}
+use Rattle.tasks.specs.trees.Sorts.{WellSorted}
+use Rattle.tasks.specs.trees.Binding.{change, typing, inst_types, leaf_by, one_by}
+use Rattle.tasks.specs.trees.declared.TermId.{TermId}
+use Rattle.tasks.proofs.trees.Nodes.{Grows_trans}
 use Rattle.tasks.specs.Task.{SymbolTree, Says, DeclarationTree, made}
 use Rattle.tasks.specs.Meaning.{symbols_at, declarations_at}
 use Rattle.tasks.specs.Valid.{VariablesBelow, LeafBelow, IsFormulaOver, IsValidDecl, IsQuoted}
@@ -19,13 +19,13 @@ use Rattle.syntax_why.specs.Trees.{SyntaxTree as SourceTree}
 use Rattle.syntax_why.specs.Declarations as source
 use Rattle.syntax_why.specs.declared.declarations.PropKind.{PropKind}
 use Rattle.syntax_why.specs.declared.declarations.PropKind.TheVariants as kind
-use Rattle.elab_names.specs.Abstract.{Expression, expression}
+use Rattle.elab_parts.specs.elab_names.Abstract.{Expression, expression}
 use Rattle.elab_parts.specs.declared.made.Elaborated.{Elaborated}
 use Rattle.elab_parts.specs.Declarations.{TokenName, GroupMember, InductivePredicate, Declaration, abstract_type, alias, algebraic, member_group, inductive, proposition_declaration, declaration, symbol}
 use Rattle.elab_parts.specs.Outcomes.{Setting, Outcome, full_name}
-use Rattle.elab_members.specs.Members.{SignatureTree}
-use Rattle.elab_groups.specs.Groups.{group_decls}
-use Rattle.elab_inductives.specs.Inductives.{inductive_decls}
+use Rattle.elab_terms.specs.elab_members.Members.{SignatureTree}
+use Rattle.elab_terms.specs.elab_groups.Groups.{group_decls}
+use Rattle.elab_terms.specs.elab_inductives.Inductives.{inductive_decls}
 use Rattle.elab_terms.specs.Outcomes.{proposition_seen, rigid_types, said_as, schematic, names_fault, IsProposition, IsOutcome, IsElaborated}
 use Rattle.valid_tasks.specs.Scopes.{IsTypedSignature, AreTypedScopes}
 use Rattle.valid_tasks.proofs.Extended.{scopes_part}
@@ -33,7 +33,7 @@ use Rattle.valid_tasks.specs.Lists.{after, MakesBelow, IsGroupWhole, IsNoGoal, I
 use Rattle.valid_tasks.specs.Valid.{IsTypedSetting, HaveNoFault}
 use Rattle.valid_tasks.proofs.Steps.{next_declaration}
 use Rattle.valid_tasks.proofs.Goals.{next_goal}
-use Rattle.goal_tasks.specs.Theories.{GoalTree}
+use Rattle.theory_states.specs.goal_tasks.Theories.{GoalTree}
 use Rattle.valid_tasks.specs.Tasks.{AreSound, IsToProve, IsGoalSaid, IsSoundAfter}
 use Rattle.valid_tasks.proofs.Grown.{own_below}
 use Rattle.valid_tasks.proofs.Next.{next_sound}

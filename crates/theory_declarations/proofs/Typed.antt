@@ -1,28 +1,28 @@
 -- All that is known stays typed as a declaration becomes known.
 use Rattle.std.proofs.Common.{ℕ, List, [], ◌∷◌, ◌++◌, get_or, Option, Some, None, IfSome, option_map}
 use Rattle.std.proofs.lemmas.List.Elements.{All-nil, All-cons, All-append}
-use Rattle.trees.specs.Tree.{Tree}
-use Rattle.trees.specs.Node.{Grows}
+use Rattle.tasks.specs.trees.Tree.{Tree}
+use Rattle.tasks.specs.trees.Node.{Grows}
 use Rattle.tasks.specs.Task.{SymbolTree, DeclarationTree}
 use Rattle.tasks.specs.Vocabulary.{Vocabulary, of_signature}
-use Rattle.names_space.specs.Names.{ScopeNames, find_name, number_of}
-use Rattle.names_space.specs.declared.Table.{Table}
-use Rattle.names_space.specs.declared.Table.TheVariants.{Types, Symbols, Propositions, Scopes}
-use Rattle.names_space.specs.declared.TypeName.{TypeName}
-use Rattle.names_space.specs.declared.TypeName.TheVariants as stands
+use Rattle.elab_parts.specs.names_space.Names.{ScopeNames, find_name, number_of}
+use Rattle.elab_parts.specs.names_space.declared.Table.{Table}
+use Rattle.elab_parts.specs.names_space.declared.Table.TheVariants.{Types, Symbols, Propositions, Scopes}
+use Rattle.elab_parts.specs.names_space.declared.TypeName.{TypeName}
+use Rattle.elab_parts.specs.names_space.declared.TypeName.TheVariants as stands
 use Rattle.syntax_why.specs.Lexeme.{Word}
 use Rattle.syntax_why.specs.Declarations as source
 use Rattle.syntax_why.specs.declared.declarations.PropKind.{PropKind}
 use Rattle.syntax_why.specs.declared.declarations.PropKind.TheVariants as kind
 use Rattle.theory_states.specs.declared.moves.Move.TheVariants.{Brings}
-use Rattle.elab_names.specs.Abstract.{Expression}
+use Rattle.elab_parts.specs.elab_names.Abstract.{Expression}
 use Rattle.elab_parts.specs.Declarations.{Declaration, declaration, Made, makes, binds_names, made_names}
 use Rattle.elab_terms.specs.Outcomes.{proposition_seen}
 use Rattle.valid_tasks.specs.Scopes.{IsSubvocabulary, IsTypedThing, AreTypedScopes}
 use Rattle.valid_tasks.proofs.Extended.{further, scopes_part}
 use Rattle.valid_tasks.proofs.Scopes.{found_thing}
 use Rattle.valid_tasks.specs.Valid.{IsTypedSetting}
-use Rattle.goal_tasks.specs.Theories.{GoalTree}
+use Rattle.theory_states.specs.goal_tasks.Theories.{GoalTree}
 use Rattle.valid_tasks.specs.Moves.{IsTypedMove, AreTypedMoves}
 use Rattle.valid_tasks.proofs.MovedScopes.{moves_more}
 use Rattle.theory_declarations.specs.Made.{thing_named, brought_as, moves_made, moves_of, moves_declared}

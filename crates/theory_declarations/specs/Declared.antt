@@ -1,23 +1,23 @@
 -- The typing of a declaration of a theory, and its first fault (Why3 manual, "theories", "logical declarations"): its names, its types,
 -- whether its matches take all values, and then its other side conditions; and what becomes known by it.
 use Rattle.std.specs.Prelude.{◌≡◌, ℕ, List, [], ◌∷◌, ◌++◌, length, All, Option, Some, None}
-use Rattle.trees.specs.Tree.{Tree}
-use Rattle.trees.specs.Node.{Grows}
-use Rattle.trees.specs.Binding.{inst_types}
+use Rattle.tasks.specs.trees.Tree.{Tree}
+use Rattle.tasks.specs.trees.Node.{Grows}
+use Rattle.tasks.specs.trees.Binding.{inst_types}
 use Rattle.tasks.specs.Task.{BodyTree, Says, DeclarationTree}
 use Rattle.syntax_why.specs.Lexeme.{Word}
 use Rattle.syntax_why.specs.Declarations as source
 use Rattle.syntax_why.specs.declared.declarations.PropKind.{PropKind}
 use Rattle.syntax_why.specs.declared.declarations.PropKind.TheVariants as kind
-use Rattle.decl_checks.specs.Checks.{HasNoFault}
-use Rattle.elab_names.specs.Abstract.{Expression, expression}
+use Rattle.side_conditions.specs.decl_checks.Checks.{HasNoFault}
+use Rattle.elab_parts.specs.elab_names.Abstract.{Expression, expression}
 use Rattle.elab_parts.specs.declared.ElabFault.{ElabFault}
 use Rattle.elab_parts.specs.Declarations.{Declaration, declaration}
 use Rattle.elab_parts.specs.Outcomes.{Outcome}
 use Rattle.elab_terms.specs.Outcomes.{proposition_seen, rigid_types, IsOutcome, names_fault, IsRefusal}
 use Rattle.side_conditions.specs.declared.sides.SideFault.{SideFault}
 use Rattle.side_conditions.specs.Sides.{IsCovered, IsSideFault, bodies}
-use Rattle.goal_tasks.specs.Theories.{GoalTree}
+use Rattle.theory_states.specs.goal_tasks.Theories.{GoalTree}
 use Rattle.theory_declarations.specs.Made.{moves_declared}
 use Rattle.theory_states.specs.declared.fault.SourceFault.{SourceFault}
 use Rattle.theory_states.specs.declared.states.AxiomAt.{AxiomAt}

@@ -1,16 +1,16 @@
 -- The steps of the typing of a declaration in code: what is elaborated and checked, or why it is refused.
 use Rattle.std.specs.Prelude.{◌≡◌, ℕ, List, map, All, Some}
-use Rattle.trees.specs.Tree.{Tree}
+use Rattle.tasks.specs.trees.Tree.{Tree}
 use Rattle.tasks.specs.Task.{SymbolTree, BodyTree}
 use Rattle.tasks.specs.Meaning.{symbols_at, declarations_at}
 use Rattle.tasks.specs.Valid.{IsQuoted}
 use Rattle.syntax_why.specs.declared.declarations.PropKind.{PropKind}
 use Rattle.syntax_why.specs.Declarations as source
-use Rattle.decl_checks.specs.Checks.{HasNoFault}
-use Rattle.elab_walk.specs.Drafts.{match_at}
+use Rattle.side_conditions.specs.decl_checks.Checks.{HasNoFault}
+use Rattle.elab_parts.specs.elab_walk.Drafts.{match_at}
 use Rattle.elab_parts.specs.declared.ElabFault.{ElabFault}
 use Rattle.elab_parts.specs.declared.made.Elaborated.{Elaborated}
-use Rattle.elab_names.specs.Abstract.{Expression}
+use Rattle.elab_parts.specs.elab_names.Abstract.{Expression}
 use Rattle.elab_parts.specs.Declarations.{TokenName, Declaration, proposition_declaration, declaration}
 use Rattle.elab_parts.specs.Outcomes.{Setting, IsKept}
 use Rattle.elab_terms.specs.Outcomes.{proposition_seen, IsElaborated, IsRefusal}

@@ -3,9 +3,8 @@
 ghost use Rattle.std.specs.Prelude.{◌≡◌};
 ghost use Rattle.theory_declarations.specs.Faults as faults;
 
-use decl_checks::CheckFault;
 use elab_parts::ElabFault;
-use side_conditions::SideFault;
+use side_conditions::{CheckFault, SideFault};
 use theory_states::SourceFault;
 
 /// A fault of the names or the types of a declaration, which has its number.

@@ -1,21 +1,19 @@
 // What a declaration leaves after: declarations that are known, axioms and goals.
 // They depend on what is known of theories.
 ghost use Rattle.std.specs.Prelude.{◌≡◌, option_map, All, IsSome, OnOk};
-ghost use Rattle.trees.specs.Node.{Grows};
+ghost use Rattle.tasks.specs.trees.Node.{Grows};
 ghost use Rattle.tasks.specs.Meaning.{declarations_at, DeclHeld};
 ghost use Rattle.syntax_why.specs.SurfaceDeclarations.{decl_of};
-ghost use Rattle.elab_names.specs.Abstract.{expression_of};
+ghost use Rattle.elab_parts.specs.elab_names.Abstract.{expression_of};
 ghost use Rattle.theory_states.specs.States.{with_declarations};
 ghost use Rattle.theory_states.specs.Meaning.{state_at, StateHeld};
 ghost use Rattle.theory_declarations.specs.Declared.{proposition_in, known_by};
 
 use crate::proposed::push_proposed;
 use elab_parts::Elaborated;
-use outside::Seq;
 use std::alloc::{AllocError, Global};
 use syntax_why::{DeclNode, DeclTree, Expr, PropKind};
-use tasks::Decl;
-use term_store::Store;
+use tasks::{Decl, Seq, Store};
 use theory_states::{Opened, Typed, push_decl};
 
 // The kind of a proposition, and what it says.

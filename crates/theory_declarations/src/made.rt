@@ -1,19 +1,18 @@
 // The names that declarations made, as moves.
 // They depend on what scopes know; the typing of declarations depends on them.
 ghost use Rattle.std.specs.Prelude.{◌≡◌, ◌++◌, ◌∷◌, [], map, option_map, OnOk};
-ghost use Rattle.names_space.specs.declared.TypeName.TheVariants as stands;
-ghost use Rattle.names_space.specs.declared.Table.TheVariants.{Types, Symbols, Propositions};
+ghost use Rattle.elab_parts.specs.names_space.declared.TypeName.TheVariants as stands;
+ghost use Rattle.elab_parts.specs.names_space.declared.Table.TheVariants.{Types, Symbols, Propositions};
 ghost use Rattle.syntax_why.specs.SurfaceDeclarations.{decl_of, declared_name, plain_name, member_of, constructor_of, algebraic_of, clause_of, inductive_of};
 ghost use Rattle.elab_parts.specs.Declarations.{makes, word, symbol, group_member, constructor, algebraic_type, clause, inductive_predicate, made_by_constructors, made_type_names, made_by_members, made_by_clauses, made_by_inductives};
 ghost use Rattle.theory_declarations.specs.Made.{thing_named, brought_as, moves_made, moves_declared};
 
-use elab_names::own_name;
-use names_space::{Scope, Table, TypeName};
-use outside::Text;
+use elab_parts::{Scope, Table, TypeName, own_name};
 use std::alloc::{AllocError, Global};
 use syntax_why::{
     AlgTree, ClauseTree, ConTree, DeclNode, DeclTree, IndTree, MemberTree, Name, OpName, Style,
 };
+use tasks::Text;
 use theory_states::Move;
 
 fn entry_at(number: Option<usize>) -> Option<TypeName>

@@ -1,25 +1,21 @@
 // What a proposition leaves: an axiom, a lemma that is a goal until it is proved, or a goal.
 // They depend on what is known of theories and on goals.
 ghost use Rattle.std.specs.Prelude.{◌≡◌, ◌++◌, ◌∷◌, [], List, length, option_map, All, IfOk, IfSome, OnOk};
-ghost use Rattle.trees.specs.Tree.{Tree};
-ghost use Rattle.trees.specs.Node.{tree_at, Holds, Grows};
+ghost use Rattle.tasks.specs.trees.Tree.{Tree};
+ghost use Rattle.tasks.specs.trees.Node.{tree_at, Holds, Grows};
 ghost use Rattle.tasks.specs.Meaning.{declaration_at, declarations_at, DeclHeld};
 ghost use Rattle.syntax_why.specs.declared.declarations.PropKind.TheVariants.{Axiom, Lemma};
-ghost use Rattle.elab_names.specs.Abstract.{expression_of};
+ghost use Rattle.elab_parts.specs.elab_names.Abstract.{expression_of};
 ghost use Rattle.elab_terms.specs.Outcomes.{proposition_seen};
 ghost use Rattle.theory_states.specs.Meaning.{state_at, StateHeld};
 ghost use Rattle.theory_declarations.specs.Declared.{known_formula, to_prove, with_declared_goal, with_proposition, with_proposed};
 
+use elab_parts::{Seen, enter_variables};
 use elab_terms::say;
-use elab_variables::{Seen, enter_variables};
-use goal_tasks::GoalAt;
-use outside::{Seq, Text};
 use std::alloc::{AllocError, Global};
 use syntax_why::{Expr, PropKind};
-use tasks::{Body, Decl};
-use term_store::Store;
-use theory_states::{AxiomAt, Opened, Typed, push_decl};
-use trees::TermId;
+use tasks::{Body, Decl, Seq, Store, TermId, Text};
+use theory_states::{AxiomAt, GoalAt, Opened, Typed, push_decl};
 
 // The names of the type variables of a proposition.
 fn variables_of(alloc: Global, e: &Expr) -> Result<Seq<Text>, AllocError>

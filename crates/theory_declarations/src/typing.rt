@@ -1,12 +1,12 @@
 // A declaration of a theory that is no use, clone or scope: it is elaborated and checked, and then known.
 // They depend on elaboration, on side conditions and on what is known of theories.
 ghost use Rattle.std.specs.Prelude.{◌≡◌, map, length, All, IfOk, IfErr, IfSome, OnOk};
-ghost use Rattle.trees.specs.Node.{Grows};
+ghost use Rattle.tasks.specs.trees.Node.{Grows};
 ghost use Rattle.tasks.specs.Meaning.{symbols_at, declarations_at, SymbolHeld, DeclHeld};
 ghost use Rattle.syntax_why.specs.SurfaceDeclarations.{decl_of};
 ghost use Rattle.syntax_why.specs.Declarations.{write_decl};
-ghost use Rattle.decl_checks.specs.Checks.{HasNoFault};
-ghost use Rattle.elab_walk.specs.Drafts.{match_at};
+ghost use Rattle.side_conditions.specs.decl_checks.Checks.{HasNoFault};
+ghost use Rattle.elab_parts.specs.elab_walk.Drafts.{match_at};
 ghost use Rattle.elab_parts.specs.Declarations.{declaration};
 ghost use Rattle.elab_parts.specs.Entries.{IsSignature, AreScopes};
 ghost use Rattle.elab_parts.specs.Outcomes.{setting_where, IsKept};
@@ -29,8 +29,7 @@ use elab_terms::elaborate;
 use side_conditions::check_sides;
 use std::alloc::Global;
 use syntax_why::DeclTree;
-use tasks::Signature;
-use term_store::Store;
+use tasks::{Signature, Store};
 use theory_states::{Opened, SourceFault, Typed};
 
 // What a declaration makes, whose names come into the scope of the open theory.

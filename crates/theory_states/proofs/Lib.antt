@@ -1,3 +1,4 @@
+pub use Rattle.goal_tasks.proofs as goal_tasks
 pub mod Growing
 pub mod Lists
 pub mod Pushing

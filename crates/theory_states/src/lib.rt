@@ -9,6 +9,7 @@ mod states;
 mod uses;
 
 pub use fault::SourceFault;
+pub use goal_tasks::{GoalAt, TaskFault, Theories, Theory, task_of};
 pub use moves::{Move, bring_theory, hand_on, leave, replay};
 pub use states::{AxiomAt, KnownTheory, Opened, Typed, push_decl};
 pub use uses::{alias_text, bring_names, find_theory, last_part, path_text, use_theory};

@@ -1,8 +1,8 @@
 -- What is inside a part's formula, and the end of the part alone.
 use Rattle.std.proofs.Common.{◌≡◌, ◌++◌, [], ◌∷◌, Option, sym, subst, ◌∙◌}
-use Rattle.trees.specs.declared.TermId.{TermId}
-use Rattle.trees.specs.Tree.{Tree, Two, HForall, HLet}
-use Rattle.trees.specs.Node.{tree_at, Holds}
+use Rattle.tasks.specs.trees.declared.TermId.{TermId}
+use Rattle.tasks.specs.trees.Tree.{Tree, Two, HForall, HLet}
+use Rattle.tasks.specs.trees.Node.{tree_at, Holds}
 use Rattle.tasks.specs.Task.{TaskTree, neg}
 use Rattle.tasks.specs.Typing.{TypedUnder, option_list}
 use Rattle.tasks.specs.Valid.{IsGroundFormula}

@@ -1,11 +1,11 @@
 -- A term that is put in changes the parts of a formula, and not how it is split.
 use Rattle.std.proofs.Common.{◌≡◌, ℕ, ◌+◌, List, [], ◌∷◌, ◌++◌, map, refl, ap, ◌∙◌, arith}
 use Rattle.std.proofs.lemmas.List.{map-append}
-use Rattle.trees.specs.declared.Op.TheVariants.{And, AndThen, Imp, Iff}
-use Rattle.trees.specs.declared.Sort.TheVariants.{Formula}
-use Rattle.trees.specs.Tree.{Tree, Leaf, One, Two, Three, Head, HTrue, HFalse, HNot, HJoin, HForall, HLet, HIf, binders_over}
-use Rattle.trees.specs.Binding.{Change, change, instantiating, inst}
-use Rattle.trees.specs.Sorts.{WellSorted, sort_of}
+use Rattle.tasks.specs.trees.declared.Op.TheVariants.{And, AndThen, Imp, Iff}
+use Rattle.tasks.specs.trees.declared.Sort.TheVariants.{Formula}
+use Rattle.tasks.specs.trees.Tree.{Tree, Leaf, One, Two, Three, Head, HTrue, HFalse, HNot, HJoin, HForall, HLet, HIf, binders_over}
+use Rattle.tasks.specs.trees.Binding.{Change, change, instantiating, inst}
+use Rattle.tasks.specs.trees.Sorts.{WellSorted, sort_of}
 use Rattle.tasks.specs.Task.{neg}
 use Rattle.tr_split.specs.Split.{imp, split}
 use Rattle.tr_split.specs.Kept.{let_sentence, then_sentence, else_sentence}

@@ -1,12 +1,12 @@
 -- A goal opened at a parameter, or at a value: the ends of its parts there.
 use Rattle.std.proofs.Common.{◌≡◌, ℕ, ◌≤◌, ◌+◌, List, [], ◌∷◌, ◌++◌, map, sym, subst, ◌∙◌, append-nil, arith}
 use Rattle.std.proofs.lemmas.List.Elements.{All-weaker}
-use Rattle.trees.specs.declared.TermId.{TermId}
-use Rattle.trees.specs.declared.Sort.TheVariants.{Kind}
-use Rattle.trees.specs.Tree.{Tree, Two, HForall, HLet, above_params}
-use Rattle.trees.specs.Node.{tree_at, Holds}
-use Rattle.trees.specs.Binding.{inst, Param}
-use Rattle.trees.specs.Sorts.{sort_of}
+use Rattle.tasks.specs.trees.declared.TermId.{TermId}
+use Rattle.tasks.specs.trees.declared.Sort.TheVariants.{Kind}
+use Rattle.tasks.specs.trees.Tree.{Tree, Two, HForall, HLet, above_params}
+use Rattle.tasks.specs.trees.Node.{tree_at, Holds}
+use Rattle.tasks.specs.trees.Binding.{inst, Param}
+use Rattle.tasks.specs.trees.Sorts.{sort_of}
 use Rattle.tasks.specs.Valid.{IsGroundFormula, VariablesBelow}
 use Rattle.tasks.specs.Vocabulary.{of_task}
 use Rattle.tasks.specs.Typing.{bound_types}

@@ -1,10 +1,10 @@
 -- What parts are under, over drafts that have grown, and the ends of all the parts.
 use Rattle.std.proofs.Common.{◌≡◌, ℕ, ◌<◌, ◌≤◌, List, [], ◌∷◌, ◌++◌, length, map, get_or, refl, sym, ap, subst, ◌∙◌, arith}
 use Rattle.std.proofs.lemmas.List.{length-map, get_or-map}
-use Rattle.trees.specs.declared.TermId.{TermId}
-use Rattle.trees.specs.Tree.{Tree, Leaf, Two, HEnd, HForall, HLet}
-use Rattle.trees.specs.Node.{tree_at}
-use Rattle.trees.specs.Binding.{inst}
+use Rattle.tasks.specs.trees.declared.TermId.{TermId}
+use Rattle.tasks.specs.trees.Tree.{Tree, Leaf, Two, HEnd, HForall, HLet}
+use Rattle.tasks.specs.trees.Node.{tree_at}
+use Rattle.tasks.specs.trees.Binding.{inst}
 use Rattle.tasks.specs.Task.{TaskTree, neg}
 use Rattle.tasks.specs.Vocabulary.{of_task}
 use Rattle.tasks.specs.Valid.{VariablesBelow}

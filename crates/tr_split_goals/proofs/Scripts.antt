@@ -1,12 +1,12 @@
 -- The scripts by which the start of a goal follows from those of what it is split into.
 use Rattle.std.proofs.Common.{◌≡◌, ℕ, zero, suc, ◌+◌, List, [], ◌∷◌, ◌++◌, length, slice_get, Some, refl, subst, ◌∙◌, arith}
 use Rattle.std.proofs.lemmas.List.Elements.{All-nil}
-use Rattle.trees.specs.declared.Op.TheVariants.{And, AndThen, Imp, Iff}
-use Rattle.trees.specs.declared.Sort.{Sort}
-use Rattle.trees.specs.declared.Sort.TheVariants.{Formula}
-use Rattle.trees.specs.Tree.{Tree, Leaf, Two, Three, HTrue, HForall, HLet, HIf}
-use Rattle.trees.specs.Binding.{inst, Param}
-use Rattle.trees.specs.Sorts.{sort_of, type_of}
+use Rattle.tasks.specs.trees.declared.Op.TheVariants.{And, AndThen, Imp, Iff}
+use Rattle.tasks.specs.trees.declared.Sort.{Sort}
+use Rattle.tasks.specs.trees.declared.Sort.TheVariants.{Formula}
+use Rattle.tasks.specs.trees.Tree.{Tree, Leaf, Two, Three, HTrue, HForall, HLet, HIf}
+use Rattle.tasks.specs.trees.Binding.{inst, Param}
+use Rattle.tasks.specs.trees.Sorts.{sort_of, type_of}
 use Rattle.tasks.specs.Task.{neg}
 use Rattle.tasks.specs.Valid.{IsTypeOver}
 use Rattle.rule_rows.specs.Trees.{RNotTrue, RClash, RForall, RNotForall, RLetDef, RIfDef}

@@ -1,13 +1,13 @@
 -- What is inside a `let`, a quantifier and an `if`.
 use Rattle.std.proofs.Common.{◌≡◌, ℕ, ◌≤◌, ◌++◌, List, [], ◌∷◌, Some, map, false, refl, sym, ap, subst, arith}
 use Rattle.std.proofs.lemmas.List.Elements.{All-push, All-weaker}
-use Rattle.trees.specs.declared.TermId.{TermId}
-use Rattle.trees.specs.declared.Op.{Op}
-use Rattle.trees.specs.declared.Op.TheVariants.{Imp}
-use Rattle.trees.specs.declared.Sort.TheVariants.{Term}
-use Rattle.trees.specs.Tree.{Tree, Leaf, One, Two, Three, HCell, HBound, HParam, HNum, HFun, HJoin, HForall, HLet, HIf, HCase, HArm, loose, above_params}
-use Rattle.trees.specs.Node.{tree_at, Holds}
-use Rattle.trees.specs.Sorts.{sort_of, type_of, yield, yield_type, int_type}
+use Rattle.tasks.specs.trees.declared.TermId.{TermId}
+use Rattle.tasks.specs.trees.declared.Op.{Op}
+use Rattle.tasks.specs.trees.declared.Op.TheVariants.{Imp}
+use Rattle.tasks.specs.trees.declared.Sort.TheVariants.{Term}
+use Rattle.tasks.specs.trees.Tree.{Tree, Leaf, One, Two, Three, HCell, HBound, HParam, HNum, HFun, HJoin, HForall, HLet, HIf, HCase, HArm, loose, above_params}
+use Rattle.tasks.specs.trees.Node.{tree_at, Holds}
+use Rattle.tasks.specs.trees.Sorts.{sort_of, type_of, yield, yield_type, int_type}
 use Rattle.tasks.specs.Vocabulary.{of_task}
 use Rattle.tasks.specs.Valid.{IsGroundFormula}
 use Rattle.tasks.proofs.Closing.{typed_closed}
@@ -17,9 +17,9 @@ use Rattle.evidence.proofs.Formulas.{same}
 use Rattle.tr_split.specs.Kept.{let_sentence, then_sentence, else_sentence}
 use Rattle.tasks.specs.Typing.{bound_types}
 use Rattle.tasks.proofs.Closing.{typed_sorted}
-use Rattle.trees.specs.Binding.{inst}
-use Rattle.trees.specs.Facts.{has_param}
-use Rattle.trees.proofs.Above.{no_param_above}
+use Rattle.tasks.specs.trees.Binding.{inst}
+use Rattle.tasks.specs.trees.Facts.{has_param}
+use Rattle.tasks.proofs.trees.Above.{no_param_above}
 use Rattle.rule_rows.specs.Rows.{IsNew}
 use Rattle.tasks.specs.Task.{neg}
 use Rattle.tr_split_goals.specs.Goals.{AreParamsBelow, splits}

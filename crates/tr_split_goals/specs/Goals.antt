@@ -1,7 +1,7 @@
 -- The equation of splitting goals, bounded as every stage's is, and how deep a formula is split.
 use Rattle.std.specs.Prelude.{ℕ, suc, ◌+◌, ◌≤◌, List, Result, All}
-use Rattle.trees.specs.declared.Op.TheVariants.{And, AndThen, Imp}
-use Rattle.trees.specs.Tree.{Tree, Two, Three, HJoin, HForall, HLet, HIf, above_params}
+use Rattle.tasks.specs.trees.declared.Op.TheVariants.{And, AndThen, Imp}
+use Rattle.tasks.specs.trees.Tree.{Tree, Two, Three, HJoin, HForall, HLet, HIf, above_params}
 use Rattle.tasks.specs.Task.{TaskTree}
 use Rattle.evidence.specs.Stages.{Refusal}
 use Rattle.stage_limits.specs.Limits.{limited}

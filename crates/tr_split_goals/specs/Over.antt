@@ -1,9 +1,9 @@
 -- What a part is under, and what its end gives.
 use Rattle.std.specs.Prelude.{ℕ, List, [], ◌∷◌, ◌++◌, map}
-use Rattle.trees.specs.declared.TermId.{TermId}
-use Rattle.trees.specs.Tree.{Tree, Two, HForall, HLet}
-use Rattle.trees.specs.Node.{tree_at, Holds}
-use Rattle.trees.specs.Binding.{inst}
+use Rattle.tasks.specs.trees.declared.TermId.{TermId}
+use Rattle.tasks.specs.trees.Tree.{Tree, Two, HForall, HLet}
+use Rattle.tasks.specs.trees.Node.{tree_at, Holds}
+use Rattle.tasks.specs.trees.Binding.{inst}
 use Rattle.tasks.specs.Task.{neg}
 use Rattle.tasks.specs.Vocabulary.{of_task}
 use Rattle.tasks.specs.Valid.{VariablesBelow}

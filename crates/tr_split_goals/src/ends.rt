@@ -1,9 +1,9 @@
 // From the end of a part under something, the end of the part alone.
 ghost use Rattle.std.specs.Prelude.{◌≡◌, ◌++◌, [], ◌∷◌, Some, IfOk};
-ghost use Rattle.trees.specs.Tree.{Two, HForall, HLet, HJoin};
-ghost use Rattle.trees.specs.Node.{tree_at, Holds};
-ghost use Rattle.trees.specs.Binding.{inst};
-ghost use Rattle.trees.specs.Sorts.{type_of};
+ghost use Rattle.tasks.specs.trees.Tree.{Two, HForall, HLet, HJoin};
+ghost use Rattle.tasks.specs.trees.Node.{tree_at, Holds};
+ghost use Rattle.tasks.specs.trees.Binding.{inst};
+ghost use Rattle.tasks.specs.trees.Sorts.{type_of};
 ghost use Rattle.tasks.specs.Task.{neg};
 ghost use Rattle.tasks.specs.Meaning.{trees_at};
 ghost use Rattle.kernel.specs.Right.{IsGroundExpression};
@@ -12,7 +12,7 @@ ghost use Rattle.evidence.specs.Drafts.{Extends, Refutes, IsFormulaAt, AreFormul
 use evidence::Draft;
 use proof_scripts::{Formulas, Line, Word, derive};
 use std::alloc::AllocError;
-use trees::{Op, TermId};
+use tasks::{Op, TermId};
 
 // A part under a hypothesis, and the hypothesis.
 pub(crate) fn end_under(

@@ -1,7 +1,7 @@
 // The formulas beside a goal, and those that are inside it.
 ghost use Rattle.std.specs.Prelude.{◌≡◌, IfOk};
-ghost use Rattle.trees.specs.Tree.{Tree, Two, HForall, HLet, HJoin};
-ghost use Rattle.trees.specs.Node.{tree_at, Holds};
+ghost use Rattle.tasks.specs.trees.Tree.{Tree, Two, HForall, HLet, HJoin};
+ghost use Rattle.tasks.specs.trees.Node.{tree_at, Holds};
 ghost use Rattle.tasks.specs.Task.{neg};
 ghost use Rattle.evidence.specs.Drafts.{AddsTrees, IsFormulaAt};
 ghost use Rattle.tr_split.specs.Glue.{IsNegation, IsImplication};
@@ -10,8 +10,7 @@ ghost use Rattle.tr_split_goals.specs.Over.{IsBinding};
 
 use evidence::Draft;
 use std::alloc::AllocError;
-use term_store::Grow;
-use trees::{Node, Op, TermId};
+use tasks::{Grow, Node, Op, TermId};
 
 // Two formulas joined.
 pub(crate) fn connect(draft: &mut Draft, op: Op, a: TermId, b: TermId) -> Result<TermId, AllocError>

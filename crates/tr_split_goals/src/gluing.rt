@@ -1,7 +1,7 @@
 // From steps that refute the parts of a goal, one that refutes the goal's negation.
 ghost use Rattle.std.specs.Prelude.{◌≡◌, ◌++◌, [], ◌∷◌, length, min, IfOk};
-ghost use Rattle.trees.specs.Tree.{Tree, Two, Three, HForall, HLet, HIf, HJoin};
-ghost use Rattle.trees.specs.Node.{tree_at, Holds};
+ghost use Rattle.tasks.specs.trees.Tree.{Tree, Two, Three, HForall, HLet, HIf, HJoin};
+ghost use Rattle.tasks.specs.trees.Node.{tree_at, Holds};
 ghost use Rattle.tasks.specs.Task.{neg};
 ghost use Rattle.tasks.specs.Meaning.{trees_at};
 ghost use Rattle.evidence.specs.Drafts.{Extends, Refutes, IsFormulaAt, AreFormulas};
@@ -19,8 +19,7 @@ use crate::refuting::{
 };
 use evidence::{Draft, join_lists, negation};
 use std::alloc::AllocError;
-use term_store::{Grow, Store};
-use trees::{Node, Op, TermId};
+use tasks::{Grow, Node, Op, Store, TermId};
 
 // The number of the parts of a formula, or the greatest number.
 fn part_count(store: &Store, formula: TermId) -> usize

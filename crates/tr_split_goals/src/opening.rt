@@ -1,8 +1,8 @@
 // What a goal binds opened, with the ends of its parts there.
 ghost use Rattle.std.specs.Prelude.{◌≡◌, ◌<◌, ◌+◌, IfOk};
-ghost use Rattle.trees.specs.Tree.{Two, HForall, HLet};
-ghost use Rattle.trees.specs.Node.{tree_at, Holds};
-ghost use Rattle.trees.specs.Binding.{inst, Param};
+ghost use Rattle.tasks.specs.trees.Tree.{Two, HForall, HLet};
+ghost use Rattle.tasks.specs.trees.Node.{tree_at, Holds};
+ghost use Rattle.tasks.specs.trees.Binding.{inst, Param};
 ghost use Rattle.tasks.specs.Meaning.{trees_at};
 ghost use Rattle.evidence.specs.Drafts.{Extends, IsFormulaAt, AreFormulas};
 ghost use Rattle.tr_split.specs.Split.{split};
@@ -13,7 +13,7 @@ use crate::over::{Over, ends_over};
 use evidence::Draft;
 use instances::{instance, parameter};
 use std::alloc::AllocError;
-use trees::TermId;
+use tasks::TermId;
 
 // The body of a quantifier at the parameter of this number, and steps that refute its parts.
 pub(crate) fn open_universal(

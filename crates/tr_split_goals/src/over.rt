@@ -1,8 +1,8 @@
 // From the end of a part under something, which is read from its step, the end of the part alone.
 ghost use Rattle.std.specs.Prelude.{◌++◌, [], ◌∷◌, IfOk};
-ghost use Rattle.trees.specs.Tree.{Tree, Two, HForall, HLet};
-ghost use Rattle.trees.specs.Node.{tree_at, Holds};
-ghost use Rattle.trees.specs.Binding.{inst};
+ghost use Rattle.tasks.specs.trees.Tree.{Tree, Two, HForall, HLet};
+ghost use Rattle.tasks.specs.trees.Node.{tree_at, Holds};
+ghost use Rattle.tasks.specs.trees.Binding.{inst};
 ghost use Rattle.tasks.specs.Task.{neg};
 ghost use Rattle.tasks.specs.Meaning.{trees_at};
 ghost use Rattle.evidence.specs.Drafts.{Extends, Refutes, IsFormulaAt, AreFormulas};
@@ -15,7 +15,7 @@ use crate::forming::{connect, formula_under_not, right_side, under_binder};
 use evidence::{Draft, last_formula, negation};
 use instances::instance;
 use std::alloc::AllocError;
-use trees::{Op, TermId};
+use tasks::{Op, TermId};
 
 // A hypothesis; a quantifier's type, and the term at which it is opened; or the value of a `let`, which is opened there.
 #[derive(Clone, Copy)]

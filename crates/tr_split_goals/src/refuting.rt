@@ -1,8 +1,8 @@
 // The negation of a goal refuted, from steps that refute those of what it is split into.
 ghost use Rattle.std.specs.Prelude.{◌≡◌, ◌++◌, [], ◌∷◌, IfOk};
-ghost use Rattle.trees.specs.Tree.{Leaf, Two, Three, HTrue, HForall, HLet, HIf, HJoin};
-ghost use Rattle.trees.specs.Node.{tree_at};
-ghost use Rattle.trees.specs.Binding.{inst, Param};
+ghost use Rattle.tasks.specs.trees.Tree.{Leaf, Two, Three, HTrue, HForall, HLet, HIf, HJoin};
+ghost use Rattle.tasks.specs.trees.Node.{tree_at};
+ghost use Rattle.tasks.specs.trees.Binding.{inst, Param};
 ghost use Rattle.tasks.specs.Task.{neg};
 ghost use Rattle.tasks.specs.Meaning.{trees_at};
 ghost use Rattle.rule_rows.specs.Rows.{IsNew};
@@ -11,7 +11,7 @@ ghost use Rattle.evidence.specs.Drafts.{Extends, Refutes, IsFormulaAt, AreFormul
 use evidence::{Draft, negation};
 use proof_scripts::{Formulas, Line, Word, derive};
 use std::alloc::AllocError;
-use trees::{Op, TermId};
+use tasks::{Op, TermId};
 
 // `true`.
 pub(crate) fn refute_true(

@@ -6,10 +6,8 @@ use crate::gluing::glue_goal;
 use evidence::{Draft, StageFault, Transform, fact_lemma};
 use stage_limits::limit_tasks;
 use std::alloc::{AllocError, Global};
-use tasks::{Fact, Task};
-use term_store::Store;
+use tasks::{Fact, Store, Task, TermId};
 use tr_split::split_goal;
-use trees::TermId;
 
 /// The transformation that takes a goal apart, whatever the goal: a task for each part, or `TooLarge` where they are too large.
 #[derive(Clone, Copy)]

@@ -1,29 +1,29 @@
 -- Algebraic types are valid: their entries are at the numbers that their declaration names.
 use Rattle.std.proofs.Common.{◌≡◌, ℕ, ◌+◌, ◌<◌, ◌≤◌, zero, suc, true, false, List, [], ◌∷◌, ◌++◌, length, slice_get, All, Some, refl, sym, ap, subst, ◌∙◌, arith, length-append, append_assoc}
 use Rattle.std.proofs.lemmas.List.Elements.{All-nil, All-cons, All-append}
-use Rattle.trees.specs.Tree.{Tree}
-use Rattle.tasks.specs.declared.signature.SymbolKind.TheVariants.{Kind, Constructor, Projection}
-use Rattle.tasks.specs.Task.{SymbolTree, symbol_or, ConstructorTree, AlgebraicTree}
-use Rattle.tasks.specs.Vocabulary.{Vocabulary, is_empty}
-use Rattle.tasks.specs.Typing.{IsTypeSymbol}
-use Rattle.tasks.specs.Valid.{IsTypeIn, own_type, AreProjections, IsConstructorOf, IsAlgebraic}
-use Rattle.names_space.specs.Names.{ScopeNames, ScopeEntry}
-use Rattle.names_space.specs.declared.Table.TheVariants.{Types, Symbols}
-use Rattle.names_space.specs.declared.TypeName.TheVariants as stands
-use Rattle.syntax_why.specs.Lexeme.{Word}
-use Rattle.elab_names.specs.Abstract.{TypeExpressions, no_types, more_types, count_forms}
-use Rattle.elab_names.specs.Where.{Where}
-use Rattle.elab_walk.specs.Pieces.{types_at}
+use Rattle.elab_parts.specs.trees.Tree.{Tree}
+use Rattle.elab_parts.specs.tasks.declared.signature.SymbolKind.TheVariants.{Kind, Constructor, Projection}
+use Rattle.elab_parts.specs.tasks.Task.{SymbolTree, symbol_or, ConstructorTree, AlgebraicTree}
+use Rattle.elab_parts.specs.tasks.Vocabulary.{Vocabulary, is_empty}
+use Rattle.elab_parts.specs.tasks.Typing.{IsTypeSymbol}
+use Rattle.elab_parts.specs.tasks.Valid.{IsTypeIn, own_type, AreProjections, IsConstructorOf, IsAlgebraic}
+use Rattle.elab_parts.specs.names_space.Names.{ScopeNames, ScopeEntry}
+use Rattle.elab_parts.specs.names_space.declared.Table.TheVariants.{Types, Symbols}
+use Rattle.elab_parts.specs.names_space.declared.TypeName.TheVariants as stands
+use Rattle.elab_parts.specs.syntax_why.Lexeme.{Word}
+use Rattle.elab_parts.specs.elab_names.Abstract.{TypeExpressions, no_types, more_types, count_forms}
+use Rattle.elab_parts.specs.elab_names.Where.{Where}
+use Rattle.elab_parts.specs.elab_walk.Pieces.{types_at}
 use Rattle.elab_parts.specs.Declarations.{AlgebraicConstructor as ConstructorOf, AlgebraicType, words, with_vars}
 use Rattle.std.specs.Str.{bytes_eq}
 use Rattle.elab_parts.specs.Entries.{builtin, type_entry, projections, constructor_entries}
-use Rattle.elab_types.specs.Algebraics.{entry_count, numbering_from, with_constructors, with_types, type_entries, constructor_trees, algebraic_trees, constructors_entries, group_entries}
+use Rattle.elab_terms.specs.elab_types.Algebraics.{entry_count, numbering_from, with_constructors, with_types, type_entries, constructor_trees, algebraic_trees, constructors_entries, group_entries}
 use Rattle.valid_tasks.specs.Signature.{with_entries}
 use Rattle.valid_tasks.specs.Scopes.{IsNamedBy, NamesNew, IsTypedEntry, IsTypedSignature, IsTypeNumber, IsSymbolNumber, IsTypedThing, AreTypedScopes}
 use Rattle.valid_tasks.proofs.Scopes.{scopes_more, typed_entry, OnTypes}
 use Rattle.valid_tasks.proofs.Tuples.{own_in, constructor_typed}
-use Rattle.elab_types.proofs.Made.{cons_length as count_cons, projections_length as count_projections}
-use Rattle.elab_types.proofs.Counted.{types_length}
+use Rattle.elab_terms.proofs.elab_types.Made.{cons_length as count_cons, projections_length as count_projections}
+use Rattle.elab_terms.proofs.elab_types.Counted.{types_length}
 
 -- ---- entries at numbers, which may be named
 pub record IsThere (base : Vocabulary) (all : List SymbolTree) (k : ℕ) (e : SymbolTree) : Type 0 where

@@ -6,21 +6,21 @@ use Rattle.std.specs.List.{AllByRecursion}
 use Rattle.std.proofs.lemmas.List.{map-append, length-reverse}
 use Rattle.std.proofs.Math.ListN.{length-map}
 use mathlib.Core.List.{reverse-cons}
-use Rattle.trees.specs.Tree.{Tree}
-use Rattle.trees.specs.Facts.{IndicesFit}
-use Rattle.unify_types.specs.Assigned.{assign}
-use Rattle.unify_types.specs.Pairs.{SolvesAll}
-use Rattle.syntax_why.specs.Lexeme.{Word}
-use Rattle.tasks.specs.Vocabulary.{Vocabulary}
-use Rattle.elab_names.specs.Abstract.{Pattern, Patterns, wildcard_pattern, variable_pattern, constructor_pattern, tuple_pattern, alias_pattern, no_patterns, more_patterns, Alternatives, no_alternatives, more_alternatives, count_patterns}
-use Rattle.elab_names.specs.declared.NamingFault.TheVariants.{WrongKind}
-use Rattle.elab_names.specs.Faults.{first_of, fault_if, pattern_names, pattern_fault, all_among, same_names, later_fault, alternatives_fault}
-use Rattle.elab_names.specs.Where.{Where, place_of}
-use Rattle.elab_walk.specs.Patterns.{LocalTree, local, taken, first_or_int, rest_of, entry_of, part_types, Matched, local_type, variable_equations, pattern_piece, patterns_piece, later_pieces, alternatives_pieces, all_notes, pattern_trees, first_variables, place_among, places_among, reordered, later_arms, arms}
-use Rattle.elab_walk.specs.Pieces.{names}
-use Rattle.elab_walk.proofs.Walking.{none_both, must_be}
-use Rattle.elab_walk.proofs.Below.{both_all}
-use Rattle.elab_walk.proofs.Branching.{pattern_variables}
+use Rattle.elab_parts.specs.trees.Tree.{Tree}
+use Rattle.elab_parts.specs.trees.Facts.{IndicesFit}
+use Rattle.elab_parts.specs.unify_types.Assigned.{assign}
+use Rattle.elab_parts.specs.unify_types.Pairs.{SolvesAll}
+use Rattle.elab_parts.specs.syntax_why.Lexeme.{Word}
+use Rattle.elab_parts.specs.tasks.Vocabulary.{Vocabulary}
+use Rattle.elab_parts.specs.elab_names.Abstract.{Pattern, Patterns, wildcard_pattern, variable_pattern, constructor_pattern, tuple_pattern, alias_pattern, no_patterns, more_patterns, Alternatives, no_alternatives, more_alternatives, count_patterns}
+use Rattle.elab_parts.specs.elab_names.declared.NamingFault.TheVariants.{WrongKind}
+use Rattle.elab_parts.specs.elab_names.Faults.{first_of, fault_if, pattern_names, pattern_fault, all_among, same_names, later_fault, alternatives_fault}
+use Rattle.elab_parts.specs.elab_names.Where.{Where, place_of}
+use Rattle.elab_parts.specs.elab_walk.Patterns.{LocalTree, local, taken, first_or_int, rest_of, entry_of, part_types, Matched, local_type, variable_equations, pattern_piece, patterns_piece, later_pieces, alternatives_pieces, all_notes, pattern_trees, first_variables, place_among, places_among, reordered, later_arms, arms}
+use Rattle.elab_parts.specs.elab_walk.Pieces.{names}
+use Rattle.elab_parts.proofs.elab_walk.Walking.{none_both, must_be}
+use Rattle.elab_parts.proofs.elab_walk.Below.{both_all}
+use Rattle.elab_parts.proofs.elab_walk.Branching.{pattern_variables}
 use Rattle.valid_tasks.specs.Signature.{IsWellFormed, AlternativesTuples}
 use Rattle.valid_tasks.specs.Typed.{assigned_types}
 use Rattle.valid_tasks.proofs.Words.{same_word, self_word, is_in, is_in_reverse, AreNew, pattern_new, among_count}
@@ -31,9 +31,9 @@ use Rattle.valid_tasks.proofs.Patterns.{inner_types, IsMatched, pattern_sound}
 use Rattle.valid_tasks.proofs.Arms.{AreArms, arm_typed, order_assigned}
 use Rattle.valid_tasks.proofs.Reordering.{sort_at, type_at, reordered_good}
 use Rattle.valid_tasks.proofs.Reordering as order
-use Rattle.tasks.proofs.Closing.{typed_sorted}
-use Rattle.elab_walk.proofs.Arguments.{names_both}
-use Rattle.plain_laws.proofs.Bools.{and_both as both_true}
+use Rattle.elab_parts.proofs.tasks.Closing.{typed_sorted}
+use Rattle.elab_parts.proofs.elab_walk.Arguments.{names_both}
+use Rattle.elab_parts.proofs.plain_laws.Bools.{and_both as both_true}
 
 pub reversed_all : {A : Type 0} (P : A → Type 0) (xs : List A) → AllByRecursion P xs → AllByRecursion P (reverse xs)
 reversed_all P [] h = tt

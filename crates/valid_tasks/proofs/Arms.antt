@@ -1,17 +1,17 @@
 -- A `match` by its arms; trees at assigned unknowns with their variables in another order.
 use Rattle.std.proofs.Common.{◌≡◌, ℕ, ◌+◌, Bool, true, false, cond, nat_lt, List, [], ◌∷◌, ◌++◌, Option, Some, inl, inr, refl, sym, ap, ◌∙◌}
 use Rattle.std.specs.List.{AllByRecursion}
-use Rattle.trees.specs.declared.Sort.TheVariants.{Branch}
-use Rattle.trees.specs.Tree.{Tree, Leaf, One, Two, Three, Head, HTyVar, HBound, HParam, HCell, HCase, HArm, binders, binders_over, pat_vars, one_vars, three_vars}
-use Rattle.trees.specs.Sorts.{sort_of, type_of, IsList}
-use Rattle.trees.specs.Binding.{one_by}
-use Rattle.trees.proofs.Sorts.{kind_no_vars}
-use Rattle.tasks.specs.Equations.{cells}
-use Rattle.tasks.specs.Vocabulary.{Vocabulary}
-use Rattle.tasks.specs.Typing.{pattern_types, BranchesFit}
-use Rattle.tasks.proofs.Closing.{typed_sorted}
-use Rattle.unify_types.specs.Assigned.{Variable, assign, leaf_assigned}
-use Rattle.elab_walk.specs.Patterns.{reordering}
+use Rattle.elab_parts.specs.trees.declared.Sort.TheVariants.{Branch}
+use Rattle.elab_parts.specs.trees.Tree.{Tree, Leaf, One, Two, Three, Head, HTyVar, HBound, HParam, HCell, HCase, HArm, binders, binders_over, pat_vars, one_vars, three_vars}
+use Rattle.elab_parts.specs.trees.Sorts.{sort_of, type_of, IsList}
+use Rattle.elab_parts.specs.trees.Binding.{one_by}
+use Rattle.elab_parts.proofs.trees.Sorts.{kind_no_vars}
+use Rattle.elab_parts.specs.tasks.Equations.{cells}
+use Rattle.elab_parts.specs.tasks.Vocabulary.{Vocabulary}
+use Rattle.elab_parts.specs.tasks.Typing.{pattern_types, BranchesFit}
+use Rattle.elab_parts.proofs.tasks.Closing.{typed_sorted}
+use Rattle.elab_parts.specs.unify_types.Assigned.{Variable, assign, leaf_assigned}
+use Rattle.elab_parts.specs.elab_walk.Patterns.{reordering}
 use Rattle.valid_tasks.proofs.Over.{IsOver, IsGood, over_good}
 use Rattle.valid_tasks.proofs.Forms.{IsWanted, due_expression, yields, TypedAs, PatternTyped, good_two}
 use Rattle.valid_tasks.proofs.Reordering.{kind_stays}

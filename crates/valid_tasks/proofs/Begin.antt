@@ -1,15 +1,15 @@
 -- A signature with `int` alone and a scope without names are typed.
 use Rattle.std.proofs.Common.{◌≡◌, ℕ, zero, suc, true, false, List, [], ◌∷◌, length, slice_get, All, Some, IsTrue, refl, subst}
 use Rattle.std.proofs.lemmas.List.Elements.{All-nil, All-cons}
-use Rattle.trees.specs.Facts.{TyVarsBelow}
-use Rattle.trees.proofs.Nodes.{Grows_refl}
-use Rattle.tasks.specs.declared.signature.SymbolKind.TheVariants.{Constructor}
-use Rattle.tasks.specs.Task.{SymbolTree, int_symbol}
-use Rattle.tasks.specs.Vocabulary.{Vocabulary, is_empty}
-use Rattle.tasks.specs.Valid.{IsTypeIn}
-use Rattle.names_space.specs.Names.{ScopeEntry, empty_names}
+use Rattle.elab_parts.specs.trees.Facts.{TyVarsBelow}
+use Rattle.elab_parts.proofs.trees.Nodes.{Grows_refl}
+use Rattle.elab_parts.specs.tasks.declared.signature.SymbolKind.TheVariants.{Constructor}
+use Rattle.elab_parts.specs.tasks.Task.{SymbolTree, int_symbol}
+use Rattle.elab_parts.specs.tasks.Vocabulary.{Vocabulary, is_empty}
+use Rattle.elab_parts.specs.tasks.Valid.{IsTypeIn}
+use Rattle.elab_parts.specs.names_space.Names.{ScopeEntry, empty_names}
 use Rattle.elab_parts.specs.Outcomes.{Setting}
-use Rattle.elab_walk.specs.Scoped.{IsScopedEntry}
+use Rattle.elab_parts.specs.elab_walk.Scoped.{IsScopedEntry}
 use Rattle.std.specs.Str.{bytes_eq}
 use Rattle.elab_parts.specs.Entries.{builtin, is_tuple}
 use Rattle.valid_tasks.specs.Signature.{with_entries}

@@ -4,21 +4,21 @@ use Rattle.std.specs.List.{Contains}
 use Rattle.std.specs.Str.{bytes_eq}
 use Rattle.std.specs.Fmt.{decimal}
 use Rattle.std.proofs.lemmas.List.Elements.{All-nil, All-cons, All-append, All-contains, Contains-get_or, Contains-append_left, Contains-append_right}
-use Rattle.trees.specs.Tree.{Tree}
-use Rattle.trees.specs.Facts.{TyVarsBelow}
-use Rattle.tasks.specs.declared.signature.SymbolKind.{SymbolKind}
-use Rattle.tasks.specs.declared.signature.SymbolKind.TheVariants.{Constructor}
-use Rattle.tasks.specs.Task.{SymbolTree, int_symbol, symbol_or, DeclarationTree}
-use Rattle.tasks.specs.Equations.{type_variables}
-use Rattle.tasks.specs.Vocabulary.{Vocabulary, is_empty, passes, is_constructor_kind}
-use Rattle.tasks.specs.Typing.{IsTypeSymbol}
-use Rattle.tasks.specs.Valid.{own_type}
-use Rattle.elab_walk.specs.Scoped.{IsScopedEntry}
+use Rattle.elab_parts.specs.trees.Tree.{Tree}
+use Rattle.elab_parts.specs.trees.Facts.{TyVarsBelow}
+use Rattle.elab_parts.specs.tasks.declared.signature.SymbolKind.{SymbolKind}
+use Rattle.elab_parts.specs.tasks.declared.signature.SymbolKind.TheVariants.{Constructor}
+use Rattle.elab_parts.specs.tasks.Task.{SymbolTree, int_symbol, symbol_or, DeclarationTree}
+use Rattle.elab_parts.specs.tasks.Equations.{type_variables}
+use Rattle.elab_parts.specs.tasks.Vocabulary.{Vocabulary, is_empty, passes, is_constructor_kind}
+use Rattle.elab_parts.specs.tasks.Typing.{IsTypeSymbol}
+use Rattle.elab_parts.specs.tasks.Valid.{own_type}
+use Rattle.elab_parts.specs.elab_walk.Scoped.{IsScopedEntry}
 use Rattle.elab_parts.specs.Entries.{builtin, is_tuple, type_entry}
 use Rattle.valid_tasks.specs.Scopes.{is_projection_kind, IsTypedEntry, IsTypedSignature, IsTypedThing}
 use Rattle.valid_tasks.proofs.Words.{self_word}
 use Rattle.valid_tasks.proofs.Tuples.{variables_in, own_in, type_entry_typed, constructor_typed}
-use Rattle.names_space.specs.Names.{ScopeEntry}
+use Rattle.elab_parts.specs.names_space.Names.{ScopeEntry}
 use Rattle.valid_tasks.specs.Moves.{IsTypedMove}
 use Rattle.valid_tasks.specs.Lists.{is_built, after}
 use Rattle.goal_tasks.specs.Meaning.{IsTupleAt}
@@ -34,7 +34,7 @@ use Rattle.valid_tasks.specs.Whole.{IsWhole}
 use Rattle.valid_tasks.specs.Sound.{IsSoundAxiom, IsSoundAmong, IsSoundTheory, IsSoundKnown, IsSoundOpened, paths, IsSoundState, AreSoundTheories}
 use Rattle.valid_tasks.proofs.Places.{none_here, cases_of, from_places, slice_in}
 use Rattle.valid_tasks.proofs.Names.{or_left as left_true}
-use Rattle.plain_laws.proofs.Bools.{and_both as both_true}
+use Rattle.elab_parts.proofs.plain_laws.Bools.{and_both as both_true}
 use Rattle.std.proofs.lemmas.Option.{slice_get-get_or as some_at}
 use Rattle.valid_tasks.proofs.Numbers.{later}
 

@@ -4,34 +4,34 @@ use Rattle.std.specs.Option.{is_some, is_none}
 use Rattle.std.specs.List.{AllByRecursion}
 use Rattle.std.proofs.lemmas.List.Elements.{All-nil, All-cons}
 use mathlib.Core.List.{reverse-cons}
-use Rattle.trees.specs.Tree.{Tree, Leaf, One, Two, Three, Head, HTyVar}
-use Rattle.trees.specs.Sorts.{int_type}
-use Rattle.trees.specs.Facts.{IndicesFit}
-use Rattle.tasks.specs.Task.{SymbolTree}
-use Rattle.tasks.specs.Vocabulary.{Vocabulary}
-use Rattle.tasks.specs.Valid.{IsTypeIn, VariablesBelow}
-use Rattle.tasks.proofs.Closing.{typed_sorted}
-use Rattle.unify_types.specs.Assigned.{Variable, assign}
-use Rattle.unify_types.specs.Pairs.{IsKind, SolvesAll}
-use Rattle.unify_types.proofs.Assigning.{assign-rigid, assign-unknown}
-use Rattle.names_space.specs.Names.{ScopeNames}
-use Rattle.syntax_why.specs.Lexeme.{Word}
-use Rattle.elab_names.specs.Abstract.{Expression}
-use Rattle.elab_names.specs.Faults.{fault}
-use Rattle.elab_names.specs.Where.{Where}
-use Rattle.elab_variables.specs.Seen.{SeenTree, has_width, type_seen}
-use Rattle.elab_walk.specs.Patterns.{LocalTree}
-use Rattle.elab_walk.specs.Pieces.{piece, unknown_after, names}
-use Rattle.elab_walk.specs.Scoped.{IsScoped}
-use Rattle.elab_walk.proofs.Below.{below_more}
+use Rattle.elab_parts.specs.trees.Tree.{Tree, Leaf, One, Two, Three, Head, HTyVar}
+use Rattle.elab_parts.specs.trees.Sorts.{int_type}
+use Rattle.elab_parts.specs.trees.Facts.{IndicesFit}
+use Rattle.elab_parts.specs.tasks.Task.{SymbolTree}
+use Rattle.elab_parts.specs.tasks.Vocabulary.{Vocabulary}
+use Rattle.elab_parts.specs.tasks.Valid.{IsTypeIn, VariablesBelow}
+use Rattle.elab_parts.proofs.tasks.Closing.{typed_sorted}
+use Rattle.elab_parts.specs.unify_types.Assigned.{Variable, assign}
+use Rattle.elab_parts.specs.unify_types.Pairs.{IsKind, SolvesAll}
+use Rattle.elab_parts.proofs.unify_types.Assigning.{assign-rigid, assign-unknown}
+use Rattle.elab_parts.specs.names_space.Names.{ScopeNames}
+use Rattle.elab_parts.specs.syntax_why.Lexeme.{Word}
+use Rattle.elab_parts.specs.elab_names.Abstract.{Expression}
+use Rattle.elab_parts.specs.elab_names.Faults.{fault}
+use Rattle.elab_parts.specs.elab_names.Where.{Where}
+use Rattle.elab_parts.specs.elab_variables.Seen.{SeenTree, has_width, type_seen}
+use Rattle.elab_parts.specs.elab_walk.Patterns.{LocalTree}
+use Rattle.elab_parts.specs.elab_walk.Pieces.{piece, unknown_after, names}
+use Rattle.elab_parts.specs.elab_walk.Scoped.{IsScoped}
+use Rattle.elab_parts.proofs.elab_walk.Below.{below_more}
 use Rattle.elab_parts.specs.Elaborated.{matches_assigned}
 use Rattle.elab_parts.specs.Entries.{tuple_in}
 use Rattle.elab_parts.specs.Declarations.{Parameter, GroupMember, params_seen}
 use Rattle.elab_parts.specs.Outcomes.{over}
-use Rattle.elab_members.specs.Members.{SignatureTree, words_of_parameters, body_seen, members_seen, body_fault}
-use Rattle.elab_members.specs.Sources.{AreResolved}
-use Rattle.elab_groups.specs.Bodies.{AreDefined}
-use Rattle.elab_groups.specs.Groups.{typed_locals, body_piece, member_piece, member_pieces, most_variables, pieces_notes, pieces_trees, BodiesSolved}
+use Rattle.elab_terms.specs.elab_members.Members.{SignatureTree, words_of_parameters, body_seen, members_seen, body_fault}
+use Rattle.elab_terms.specs.elab_members.Sources.{AreResolved}
+use Rattle.elab_terms.specs.elab_groups.Bodies.{AreDefined}
+use Rattle.elab_terms.specs.elab_groups.Groups.{typed_locals, body_piece, member_piece, member_pieces, most_variables, pieces_notes, pieces_trees, BodiesSolved}
 use Rattle.valid_tasks.specs.Typed.{IsTypedIn, IsPatternOf, ArePatterns, local_types, assigned_types}
 use Rattle.valid_tasks.specs.Signature.{with_entries, IsWellFormed, HasTuple}
 use Rattle.valid_tasks.specs.Scopes.{IsTypedSignature, AreTypedScopes}
@@ -48,8 +48,8 @@ use Rattle.valid_tasks.proofs.Scopes.{over_well_formed}
 use Rattle.valid_tasks.proofs.Tuples.{tuple_of}
 use Rattle.valid_tasks.proofs.Settings.{of_below, over_scoped}
 use Rattle.valid_tasks.proofs.Owned.{leaf_in, VariablesIn, LocalsIn, EquationsIn, Takes, PieceIn, below_in, reversed_in, owned}
-use Rattle.trees.proofs.Indices.{ltb_true as test_lt, ltb_false as test_le}
-use Rattle.tasks.proofs.TypeInstances.{below as below_of}
+use Rattle.elab_parts.proofs.trees.Indices.{ltb_true as test_lt, ltb_false as test_le}
+use Rattle.elab_parts.proofs.tasks.TypeInstances.{below as below_of}
 
 -- ---- what is seen stays
 pub params_grow : (ps : List Parameter) (s : SeenTree) → IsWithin s (params_seen s ps)

@@ -2,10 +2,10 @@
 use Rattle.std.proofs.Common.{◌≡◌, ◌≢◌, ◌⊎◌, inl, inr, ℕ, ◌<◌, zero, suc, cond, Bool, true, false, List, [], ◌∷◌, ◌++◌, length, All, Contains, IsTrue, refl, sym, ap, subst, ◌∙◌, arith, append_assoc, append-nil}
 use Rattle.std.proofs.lemmas.List.{map-append, get_or_append_left}
 use Rattle.std.proofs.lemmas.List.Elements.{All-nil, All-cons, All-head, All-tail, All-contains, Contains-append_left, Contains-append_right, Contains-append_cases}
-use Rattle.tasks.specs.Task.{SymbolTree, symbol_or, int_symbol, DeclarationTree, made, made_by}
-use Rattle.tasks.specs.Roles.{is_constructor, role_in}
-use Rattle.clones.specs.Mapped.{Map}
-use Rattle.clones.specs.Copies.{declaration_copied, entry_copied}
+use Rattle.elab_parts.specs.tasks.Task.{SymbolTree, symbol_or, int_symbol, DeclarationTree, made, made_by}
+use Rattle.elab_parts.specs.tasks.Roles.{is_constructor, role_in}
+use Rattle.clone_copies.specs.clones.Mapped.{Map}
+use Rattle.clone_copies.specs.clones.Copies.{declaration_copied, entry_copied}
 use Rattle.valid_tasks.specs.Lists.{after}
 use Rattle.valid_tasks.proofs.Lists.{list_part}
 use Rattle.valid_tasks.specs.Tasks.{IsOfTheory, AreSound}

@@ -3,13 +3,13 @@ use Rattle.std.proofs.Common.{◌≡◌, ◌≢◌, ◌⊎◌, inl, inr, ℕ, �
 use Rattle.std.specs.List.{filter}
 use Rattle.std.specs.Str.{bytes_eq}
 use Rattle.std.proofs.lemmas.List.Elements.{All-append, All-contains, All-filter, Contains-get_or, filter-append}
-use Rattle.tasks.specs.Task.{SymbolTree, DeclarationTree, made_by}
-use Rattle.tasks.specs.Vocabulary.{is_empty}
-use Rattle.clones.specs.Mapped.{Map}
-use Rattle.syntax_why.specs.declared.declarations.Link.{Link}
+use Rattle.elab_parts.specs.tasks.Task.{SymbolTree, DeclarationTree, made_by}
+use Rattle.elab_parts.specs.tasks.Vocabulary.{is_empty}
+use Rattle.clone_copies.specs.clones.Mapped.{Map}
+use Rattle.elab_parts.specs.syntax_why.declared.declarations.Link.{Link}
 use Rattle.theory_states.specs.declared.moves.Move.{Move}
 use Rattle.theory_states.specs.Moves.{handed}
-use Rattle.elab_walk.specs.Scoped.{IsScopedEntry}
+use Rattle.elab_parts.specs.elab_walk.Scoped.{IsScopedEntry}
 use Rattle.elab_parts.specs.Entries.{builtin}
 use Rattle.valid_tasks.specs.Scopes.{IsSubvocabulary, IsTypedSignature, AreTypedScopes}
 use Rattle.valid_tasks.proofs.Words.{same_word, self_word}

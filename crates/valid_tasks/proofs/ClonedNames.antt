@@ -1,13 +1,13 @@
 -- What names of a theory that is cloned stand for, under the map of the clone.
 use Rattle.std.proofs.Common.{◌≡◌, ◌≢◌, ℕ, ◌<◌, not, false, zero, suc, List, [], ◌∷◌, length, slice_get, Option, Some, None, IsSomeAnd, IsTrue, refl, sym, ap, subst, arith}
-use Rattle.trees.specs.Tree.{Tree}
-use Rattle.trees.specs.Node.{tree_at, Holds}
-use Rattle.tasks.specs.declared.signature.SymbolKind.TheVariants.{Kind}
-use Rattle.tasks.specs.Task.{SymbolTree, symbol_or, int_symbol}
-use Rattle.tasks.specs.Vocabulary.{Vocabulary, passes, is_empty, of_signature}
-use Rattle.tasks.specs.Typing.{IsTypeSymbol}
-use Rattle.tasks.specs.Valid.{IsTypeIn}
-use Rattle.clones.specs.Mapped.{Map, mapped}
+use Rattle.elab_parts.specs.trees.Tree.{Tree}
+use Rattle.elab_parts.specs.trees.Node.{tree_at, Holds}
+use Rattle.elab_parts.specs.tasks.declared.signature.SymbolKind.TheVariants.{Kind}
+use Rattle.elab_parts.specs.tasks.Task.{SymbolTree, symbol_or, int_symbol}
+use Rattle.elab_parts.specs.tasks.Vocabulary.{Vocabulary, passes, is_empty, of_signature}
+use Rattle.elab_parts.specs.tasks.Typing.{IsTypeSymbol}
+use Rattle.elab_parts.specs.tasks.Valid.{IsTypeIn}
+use Rattle.clone_copies.specs.clones.Mapped.{Map, mapped}
 use Rattle.valid_tasks.specs.Scopes.{IsTypeNumber, IsSymbolNumber, IsAliased}
 use Rattle.valid_tasks.specs.Morphisms.{TypeBecomes, MapsTypes}
 use Rattle.valid_tasks.proofs.CopiedTypes.{type_in_mapped}

@@ -6,16 +6,16 @@ use Rattle.std.specs.Str.{bytes_eq}
 use Rattle.std.proofs.lemmas.Bool.Decides.{nat_tests}
 use Rattle.std.proofs.lemmas.List.{map-append}
 use Rattle.std.proofs.lemmas.List.Elements.{All-nil, All-cons, All-head, All-tail, All-append, All-map, All-contains, Contains-get_or, Contains-append_left, Contains-append_right}
-use Rattle.trees.specs.Tree.{Tree}
-use Rattle.tasks.specs.declared.signature.SymbolKind.{SymbolKind}
-use Rattle.tasks.specs.declared.signature.SymbolKind.TheVariants.{Kind, Predicate}
-use Rattle.tasks.specs.Task.{SymbolTree, symbol_or, DefinitionTree, InductiveTree, ConstructorTree, AlgebraicTree, BodyTree, MakesType, Makes, Defines, Induces, Constructs, Says, DeclarationTree, made, made_by, made_by_cons, made_by_types}
-use Rattle.tasks.specs.Roles.{RoleTree, DefinedRole, InductiveRole, defined_as, inductive_as, is_plain, is_constructor, or_role, projection_at, projected_as, constructed_as, algebraic_as, is_made_by, maker, role_in, role_by}
-use Rattle.tasks.specs.Vocabulary.{Vocabulary, is_empty, passes, is_constructor_kind}
-use Rattle.tasks.specs.Valid.{IsValidDecl}
-use Rattle.tasks.proofs.Declared.{none_in, any_iff, maker_made, made_maker}
-use Rattle.clones.specs.Mapped.{Map}
-use Rattle.clones.specs.Copies.{definition_mapped, inductive_mapped, con_mapped, algebraic_mapped, body_mapped, declaration_copied, entry_copied}
+use Rattle.elab_parts.specs.trees.Tree.{Tree}
+use Rattle.elab_parts.specs.tasks.declared.signature.SymbolKind.{SymbolKind}
+use Rattle.elab_parts.specs.tasks.declared.signature.SymbolKind.TheVariants.{Kind, Predicate}
+use Rattle.elab_parts.specs.tasks.Task.{SymbolTree, symbol_or, DefinitionTree, InductiveTree, ConstructorTree, AlgebraicTree, BodyTree, MakesType, Makes, Defines, Induces, Constructs, Says, DeclarationTree, made, made_by, made_by_cons, made_by_types}
+use Rattle.elab_parts.specs.tasks.Roles.{RoleTree, DefinedRole, InductiveRole, defined_as, inductive_as, is_plain, is_constructor, or_role, projection_at, projected_as, constructed_as, algebraic_as, is_made_by, maker, role_in, role_by}
+use Rattle.elab_parts.specs.tasks.Vocabulary.{Vocabulary, is_empty, passes, is_constructor_kind}
+use Rattle.elab_parts.specs.tasks.Valid.{IsValidDecl}
+use Rattle.elab_parts.proofs.tasks.Declared.{none_in, any_iff, maker_made, made_maker}
+use Rattle.clone_copies.specs.clones.Mapped.{Map}
+use Rattle.clone_copies.specs.clones.Copies.{definition_mapped, inductive_mapped, con_mapped, algebraic_mapped, body_mapped, declaration_copied, entry_copied}
 use Rattle.elab_parts.specs.Entries.{builtin}
 use Rattle.valid_tasks.specs.Lists.{is_built, after}
 use Rattle.valid_tasks.proofs.Lists.{maker_both, list_part, list_valid}

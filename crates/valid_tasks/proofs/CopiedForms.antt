@@ -1,15 +1,15 @@
 -- Equations and clauses under a map of symbols keep their form.
 use Rattle.std.proofs.Common.{◌≡◌, ℕ, ◌+◌, zero, suc, true, List, [], ◌∷◌, ◌++◌, map, length, Contains, Option, Some, None, IsSomeAnd, option_map, refl, sym, ap, ◌∙◌}
-use Rattle.trees.specs.declared.Op.TheVariants.{And, AndThen, Or, OrElse, Imp}
-use Rattle.trees.specs.Tree.{Tree, Leaf, One, Two, Three, Head, HTyApp, HBound, HPred, HJoin, HForall, HExists}
-use Rattle.tasks.specs.declared.signature.SymbolKind.{SymbolKind}
-use Rattle.tasks.specs.declared.signature.SymbolKind.TheVariants.{Function, Predicate}
-use Rattle.tasks.specs.Task.{SymbolTree}
-use Rattle.tasks.specs.Equations.{cells, type_variables, bound_variables, for_all, equated, IsEquationOf}
-use Rattle.tasks.specs.Clauses.{TwoFree, IsFree, IsPremise, IsRule, IsClauseOf}
-use Rattle.tasks.specs.Vocabulary.{Vocabulary}
-use Rattle.tasks.specs.Typing.{entry, bound_types, TypedUnder}
-use Rattle.clones.specs.Mapped.{Map, head_mapped, mapped}
+use Rattle.elab_parts.specs.trees.declared.Op.TheVariants.{And, AndThen, Or, OrElse, Imp}
+use Rattle.elab_parts.specs.trees.Tree.{Tree, Leaf, One, Two, Three, Head, HTyApp, HBound, HPred, HJoin, HForall, HExists}
+use Rattle.elab_parts.specs.tasks.declared.signature.SymbolKind.{SymbolKind}
+use Rattle.elab_parts.specs.tasks.declared.signature.SymbolKind.TheVariants.{Function, Predicate}
+use Rattle.elab_parts.specs.tasks.Task.{SymbolTree}
+use Rattle.elab_parts.specs.tasks.Equations.{cells, type_variables, bound_variables, for_all, equated, IsEquationOf}
+use Rattle.elab_parts.specs.tasks.Clauses.{TwoFree, IsFree, IsPremise, IsRule, IsClauseOf}
+use Rattle.elab_parts.specs.tasks.Vocabulary.{Vocabulary}
+use Rattle.elab_parts.specs.tasks.Typing.{entry, bound_types, TypedUnder}
+use Rattle.clone_copies.specs.clones.Mapped.{Map, head_mapped, mapped}
 use Rattle.valid_tasks.specs.Morphisms.{HasMappedTypes, IsMorphism}
 use Rattle.valid_tasks.proofs.CopiedTypes.{over_free, over_premise}
 use Rattle.valid_tasks.proofs.Trees.{type_at}

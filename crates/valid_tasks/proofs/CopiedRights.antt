@@ -1,10 +1,10 @@
 -- Types on the right sides of elements are types over the signature.
 use Rattle.std.proofs.Common.{◌≡◌, false, List, length, None, sym, ◌∙◌}
-use Rattle.tasks.specs.Vocabulary.{Vocabulary}
-use Rattle.syntax_why.specs.Lexeme.{Word}
-use Rattle.elab_names.specs.Abstract.{TypeExpression}
-use Rattle.elab_names.specs.Faults.{form_fault}
-use Rattle.elab_variables.specs.Seen.{form_seen}
+use Rattle.elab_parts.specs.tasks.Vocabulary.{Vocabulary}
+use Rattle.elab_parts.specs.syntax_why.Lexeme.{Word}
+use Rattle.elab_parts.specs.elab_names.Abstract.{TypeExpression}
+use Rattle.elab_parts.specs.elab_names.Faults.{form_fault}
+use Rattle.elab_parts.specs.elab_variables.Seen.{form_seen}
 use Rattle.elab_parts.specs.Elaborated.{unseen}
 use Rattle.elab_parts.specs.Outcomes.{Setting, around}
 use Rattle.elab_parts.proofs.Alike.{form_alike}

@@ -2,17 +2,17 @@
 use Rattle.std.proofs.Common.{◌≡◌, ◌⊎◌, inl, inr, ℕ, ◌<◌, not, ◌||◌, ◌&&◌, Bool, true, false, List, [], ◌∷◌, map, length, get_or, slice_get, All, Contains, Option, Some, None, option_map, IsSomeAnd, IsTrue, refl, sym, ap, subst, ◌∙◌}
 use Rattle.std.specs.Option.{is_some}
 use Rattle.std.proofs.lemmas.List.Elements.{All-nil, All-cons, All-contains, All-map, Contains-get_or}
-use Rattle.trees.specs.Tree.{Tree}
-use Rattle.tasks.specs.declared.signature.SymbolKind.TheVariants.{Constructor}
-use Rattle.tasks.specs.Task.{SymbolTree, symbol_or, int_symbol, DeclarationTree, made, made_by}
-use Rattle.tasks.specs.Roles.{is_constructor, maker, role_in, role_by}
-use Rattle.tasks.specs.Vocabulary.{Vocabulary, passes, is_constructor_kind}
-use Rattle.tasks.specs.Typing.{MakesTerms}
-use Rattle.tasks.proofs.Declared.{made_maker}
-use Rattle.tasks.proofs.MadeEntries.{made_entry}
-use Rattle.clones.specs.Mapped.{Map, mapped}
-use Rattle.clones.specs.Copies.{declaration_copied, entry_copied}
-use Rattle.elab_walk.specs.Scoped.{IsScopedEntry}
+use Rattle.elab_parts.specs.trees.Tree.{Tree}
+use Rattle.elab_parts.specs.tasks.declared.signature.SymbolKind.TheVariants.{Constructor}
+use Rattle.elab_parts.specs.tasks.Task.{SymbolTree, symbol_or, int_symbol, DeclarationTree, made, made_by}
+use Rattle.elab_parts.specs.tasks.Roles.{is_constructor, maker, role_in, role_by}
+use Rattle.elab_parts.specs.tasks.Vocabulary.{Vocabulary, passes, is_constructor_kind}
+use Rattle.elab_parts.specs.tasks.Typing.{MakesTerms}
+use Rattle.elab_parts.proofs.tasks.Declared.{made_maker}
+use Rattle.elab_parts.proofs.tasks.MadeEntries.{made_entry}
+use Rattle.clone_copies.specs.clones.Mapped.{Map, mapped}
+use Rattle.clone_copies.specs.clones.Copies.{declaration_copied, entry_copied}
+use Rattle.elab_parts.specs.elab_walk.Scoped.{IsScopedEntry}
 use Rattle.valid_tasks.specs.Scopes.{is_projection_kind, IsTypedEntry, IsTypedSignature}
 use Rattle.valid_tasks.proofs.Extended.{entry_more}
 use Rattle.valid_tasks.specs.Lists.{is_built, after}

@@ -2,21 +2,21 @@
 use Rattle.std.proofs.Common.{◌≡◌, ℕ, ◌<◌, zero, suc, Bool, true, false, List, [], ◌∷◌, map, All, length, get_or, Option, Some, None, IfSome, option_map, refl, sym, ap, subst, ◌∙◌, arith}
 use Rattle.std.proofs.lemmas.List.{length-map}
 use Rattle.std.proofs.lemmas.List.Elements.{All-map}
-use Rattle.trees.specs.Tree.{Tree, Leaf, One, Two, Three, Head, HTyVar, HTyRigid, HTyApp, HEnd, HCell}
-use Rattle.trees.specs.Binding.{inst_types, TyVar}
-use Rattle.trees.specs.Sorts.{yield_type, type_of}
-use Rattle.trees.specs.Facts.{TyVarsBelow}
-use Rattle.trees.proofs.Many.{inst_types_inst_types}
-use Rattle.tasks.specs.Task.{SymbolTree}
-use Rattle.tasks.specs.Vocabulary.{Vocabulary}
-use Rattle.tasks.specs.Typing.{members, IsTypeSymbol, pattern_types, BranchesFit}
-use Rattle.tasks.specs.Valid.{VariablesBelow, IsTypeIn, HasTypes}
-use Rattle.tasks.specs.Clauses.{IsFree, IsPremise}
-use Rattle.clones.specs.Mapped.{Map, head_mapped, type_mapped, mapped}
+use Rattle.elab_parts.specs.trees.Tree.{Tree, Leaf, One, Two, Three, Head, HTyVar, HTyRigid, HTyApp, HEnd, HCell}
+use Rattle.elab_parts.specs.trees.Binding.{inst_types, TyVar}
+use Rattle.elab_parts.specs.trees.Sorts.{yield_type, type_of}
+use Rattle.elab_parts.specs.trees.Facts.{TyVarsBelow}
+use Rattle.elab_parts.proofs.trees.Many.{inst_types_inst_types}
+use Rattle.elab_parts.specs.tasks.Task.{SymbolTree}
+use Rattle.elab_parts.specs.tasks.Vocabulary.{Vocabulary}
+use Rattle.elab_parts.specs.tasks.Typing.{members, IsTypeSymbol, pattern_types, BranchesFit}
+use Rattle.elab_parts.specs.tasks.Valid.{VariablesBelow, IsTypeIn, HasTypes}
+use Rattle.elab_parts.specs.tasks.Clauses.{IsFree, IsPremise}
+use Rattle.clone_copies.specs.clones.Mapped.{Map, head_mapped, type_mapped, mapped}
 use Rattle.valid_tasks.specs.Morphisms.{HasMappedTypes, MapsTypes, TypeBecomes}
 use Rattle.valid_tasks.proofs.Over.{IsOver, AreOver, leaf_over, one_over, two_over, type_over, over_good}
 use Rattle.valid_tasks.proofs.Instances.{inst_over}
-use Rattle.tasks.proofs.TypeInstances.{below}
+use Rattle.elab_parts.proofs.tasks.TypeInstances.{below}
 
 -- ---- what a type isn't
 module _ (w : Vocabulary) where

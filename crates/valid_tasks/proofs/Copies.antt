@@ -2,18 +2,18 @@
 use Rattle.std.proofs.Common.{◌≡◌, ◌⊎◌, inl, inr, ℕ, Bool, true, false, zero, suc, List, [], ◌∷◌, ◌++◌, map, get_or, slice_get, All, Option, Some, None, IsSomeAnd, IsTrue, refl, sym, ap, subst, ◌∙◌}
 use Rattle.std.specs.Option.{option_map}
 use Rattle.std.proofs.lemmas.List.Elements.{All-nil, All-cons, All-head, All-tail, All-append}
-use Rattle.trees.specs.Tree.{Tree}
-use Rattle.tasks.specs.Task.{SymbolTree, int_symbol, symbol_or}
-use Rattle.tasks.specs.Rigid.{rigid_symbol}
-use Rattle.tasks.specs.Vocabulary.{Vocabulary, of_signature, is_empty}
-use Rattle.tasks.specs.Valid.{IsTypeIn}
-use Rattle.syntax_why.specs.Lexeme.{Word}
-use Rattle.syntax_why.specs.Declarations.{Element, type_element, symbol_element, prop_element, all_axioms}
-use Rattle.clones.specs.Mapped.{Map, mapped}
-use Rattle.clones.specs.Copies.{entry_copied}
+use Rattle.elab_parts.specs.trees.Tree.{Tree}
+use Rattle.elab_parts.specs.tasks.Task.{SymbolTree, int_symbol, symbol_or}
+use Rattle.elab_parts.specs.tasks.Rigid.{rigid_symbol}
+use Rattle.elab_parts.specs.tasks.Vocabulary.{Vocabulary, of_signature, is_empty}
+use Rattle.elab_parts.specs.tasks.Valid.{IsTypeIn}
+use Rattle.elab_parts.specs.syntax_why.Lexeme.{Word}
+use Rattle.elab_parts.specs.syntax_why.Declarations.{Element, type_element, symbol_element, prop_element, all_axioms}
+use Rattle.clone_copies.specs.clones.Mapped.{Map, mapped}
+use Rattle.clone_copies.specs.clones.Copies.{entry_copied}
 use Rattle.elab_parts.specs.Entries.{builtin, wanting_tuples}
-use Rattle.elab_names.specs.Abstract.{type_expression}
-use Rattle.elab_variables.specs.Seen.{form_seen}
+use Rattle.elab_parts.specs.elab_names.Abstract.{type_expression}
+use Rattle.elab_parts.specs.elab_variables.Seen.{form_seen}
 use Rattle.elab_parts.specs.Elaborated.{unseen}
 use Rattle.elab_parts.specs.Outcomes.{Setting}
 use Rattle.valid_tasks.proofs.Made.{tuples_built}
@@ -21,9 +21,9 @@ use Rattle.valid_tasks.specs.Scopes.{IsTypedEntry, IsTypedSignature}
 use Rattle.valid_tasks.specs.Valid.{IsTypedSetting}
 use Rattle.valid_tasks.specs.Morphisms.{MapsTypes}
 use Rattle.valid_tasks.proofs.CopiedTypes.{types_copied}
-use Rattle.clone_elements.specs.Left.{Origin}
-use Rattle.clone_elements.specs.Rights.{right_tuples, rights_tuples, rights_fault}
-use Rattle.clone_elements.specs.Plans.{fates_of, kept, clone_map}
+use Rattle.clone_copies.specs.clone_elements.Left.{Origin}
+use Rattle.clone_copies.specs.clone_elements.Rights.{right_tuples, rights_tuples, rights_fault}
+use Rattle.clone_copies.specs.clone_elements.Plans.{fates_of, kept, clone_map}
 use Rattle.valid_tasks.specs.Placed.{IsPlacedEntry, ArePlaced}
 use Rattle.valid_tasks.specs.Sides.{with_rights, left_sides_at, copies_made, with_copies}
 use Rattle.valid_tasks.proofs.Rights.{all_typed}

@@ -1,15 +1,15 @@
 -- Declarations under a map of symbols are valid over what the map's symbols may name.
 use Rattle.std.proofs.Common.{◌≡◌, ℕ, ◌<◌, zero, suc, List, [], ◌∷◌, ◌++◌, map, length, get_or, slice_get, All, Contains, Option, Some, None, option_map, refl, sym, ap, subst, ◌∙◌, arith}
 use Rattle.std.proofs.lemmas.List.Elements.{All-map, All-nil, All-cons, All-head, All-tail}
-use Rattle.trees.specs.Tree.{Tree, One, HTyApp}
-use Rattle.tasks.specs.Task.{SymbolTree, symbol_or, DefinitionTree, InductiveTree, ConstructorTree, AlgebraicTree, BodyTree, MakesType, Makes, Defines, Induces, Constructs, Says, DeclarationTree, made_by, made_by_cons, made_by_types}
-use Rattle.tasks.specs.Equations.{cells, type_variables}
-use Rattle.tasks.specs.Clauses.{IsClauseOf}
-use Rattle.tasks.specs.Vocabulary.{Vocabulary}
-use Rattle.tasks.specs.Typing.{entry}
-use Rattle.tasks.specs.Valid.{IsFormulaOver, IsTypeEntry, IsSignatureOf, IsDefinition, IsInductive, own_type, IsProjectionOf, AreProjections, IsConstructorOf, IsAlgebraic, IsValidBody, IsValidDecl}
-use Rattle.clones.specs.Mapped.{Map, mapped, type_mapped}
-use Rattle.clones.specs.Copies.{definition_mapped, inductive_mapped, con_mapped, algebraic_mapped, body_mapped, declaration_copied}
+use Rattle.elab_parts.specs.trees.Tree.{Tree, One, HTyApp}
+use Rattle.elab_parts.specs.tasks.Task.{SymbolTree, symbol_or, DefinitionTree, InductiveTree, ConstructorTree, AlgebraicTree, BodyTree, MakesType, Makes, Defines, Induces, Constructs, Says, DeclarationTree, made_by, made_by_cons, made_by_types}
+use Rattle.elab_parts.specs.tasks.Equations.{cells, type_variables}
+use Rattle.elab_parts.specs.tasks.Clauses.{IsClauseOf}
+use Rattle.elab_parts.specs.tasks.Vocabulary.{Vocabulary}
+use Rattle.elab_parts.specs.tasks.Typing.{entry}
+use Rattle.elab_parts.specs.tasks.Valid.{IsFormulaOver, IsTypeEntry, IsSignatureOf, IsDefinition, IsInductive, own_type, IsProjectionOf, AreProjections, IsConstructorOf, IsAlgebraic, IsValidBody, IsValidDecl}
+use Rattle.clone_copies.specs.clones.Mapped.{Map, mapped, type_mapped}
+use Rattle.clone_copies.specs.clones.Copies.{definition_mapped, inductive_mapped, con_mapped, algebraic_mapped, body_mapped, declaration_copied}
 use Rattle.valid_tasks.specs.Morphisms.{IsMorphism, AreTyped, IsCopied}
 use Rattle.valid_tasks.proofs.CopiedTypes.{types_copied}
 use Rattle.valid_tasks.proofs.Trees.{formula_mapped}

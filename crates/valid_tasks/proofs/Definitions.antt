@@ -2,20 +2,20 @@
 use Rattle.std.proofs.Common.{◌≡◌, ℕ, ◌+◌, ◌<◌, zero, suc, true, List, [], ◌∷◌, ◌++◌, map, reverse, length, get_or, slice_get, All, Option, Some, None, IsTrue, refl, sym, ap, subst, ◌∙◌, arith, append_assoc, append-nil}
 use Rattle.std.proofs.lemmas.List.{length-reverse}
 use mathlib.Core.List.{reverse-cons}
-use Rattle.trees.specs.declared.Op.TheVariants.{Iff}
-use Rattle.trees.specs.declared.Sort.TheVariants.{Term}
-use Rattle.trees.specs.Tree.{Tree, One, Two, Three, HBound, HFun, HPred, HEq, HJoin}
-use Rattle.trees.specs.Binding.{inst_types, TyVar}
-use Rattle.trees.specs.Facts.{IndicesFit}
-use Rattle.tasks.specs.declared.signature.SymbolKind.{SymbolKind}
-use Rattle.tasks.specs.declared.signature.SymbolKind.TheVariants.{Function, Predicate}
-use Rattle.tasks.specs.declared.signature.SymbolKind.TheVariants as kinds
-use Rattle.tasks.specs.Equations.{cells, type_variables, bound_variables, for_all, equated}
-use Rattle.tasks.specs.Task.{SymbolTree, symbol_or}
-use Rattle.tasks.specs.Vocabulary.{Vocabulary}
-use Rattle.tasks.specs.Typing.{entry}
-use Rattle.tasks.specs.Valid.{VariablesBelow, IsTypeIn, IsFormulaOver, IsSignatureOf, IsDefinition}
-use Rattle.unify_types.proofs.Assigning.{assign-same, assign-variables}
+use Rattle.elab_parts.specs.trees.declared.Op.TheVariants.{Iff}
+use Rattle.elab_parts.specs.trees.declared.Sort.TheVariants.{Term}
+use Rattle.elab_parts.specs.trees.Tree.{Tree, One, Two, Three, HBound, HFun, HPred, HEq, HJoin}
+use Rattle.elab_parts.specs.trees.Binding.{inst_types, TyVar}
+use Rattle.elab_parts.specs.trees.Facts.{IndicesFit}
+use Rattle.elab_parts.specs.tasks.declared.signature.SymbolKind.{SymbolKind}
+use Rattle.elab_parts.specs.tasks.declared.signature.SymbolKind.TheVariants.{Function, Predicate}
+use Rattle.elab_parts.specs.tasks.declared.signature.SymbolKind.TheVariants as kinds
+use Rattle.elab_parts.specs.tasks.Equations.{cells, type_variables, bound_variables, for_all, equated}
+use Rattle.elab_parts.specs.tasks.Task.{SymbolTree, symbol_or}
+use Rattle.elab_parts.specs.tasks.Vocabulary.{Vocabulary}
+use Rattle.elab_parts.specs.tasks.Typing.{entry}
+use Rattle.elab_parts.specs.tasks.Valid.{VariablesBelow, IsTypeIn, IsFormulaOver, IsSignatureOf, IsDefinition}
+use Rattle.elab_parts.proofs.unify_types.Assigning.{assign-same, assign-variables}
 use Rattle.valid_tasks.specs.Typed.{IsTypedAs, IsTypedIn}
 use Rattle.valid_tasks.proofs.Over.{AreOver, type_over}
 use Rattle.valid_tasks.proofs.Instances.{variables_over, put, put_assigns}

@@ -3,7 +3,7 @@ use Rattle.std.proofs.Common.{◌≡◌, ◌≢◌, ◌⊎◌, inl, inr, ℕ, �
 use Rattle.std.specs.List.{range_with_len, Contains}
 use Rattle.std.proofs.lemmas.List.Elements.{Contains-get_or, Contains-append_cases}
 use Rattle.std.proofs.lemmas.List.Kept.{AllPairs-cons}
-use Rattle.tasks.proofs.Declared.{contains_cases, contains_step, none_in}
+use Rattle.elab_parts.proofs.tasks.Declared.{contains_cases, contains_step, none_in}
 
 abbrev pub IsDistinct : List ℕ → Type 0
 IsDistinct [] = Unit {0}

@@ -1,30 +1,30 @@
 -- What `elaborate` gives is valid.
 use Rattle.std.proofs.Common.{◌≡◌, ℕ, length, List, [], ◌∷◌, ◌++◌, map, All, Option, Some, None, IfSome, refl, ap, subst, suc, arith}
 use Rattle.std.proofs.lemmas.List.Elements.{All-nil, All-cons}
-use Rattle.trees.specs.Tree.{Tree}
-use Rattle.trees.specs.declared.TermId.{TermId}
-use Rattle.trees.specs.Node.{Grows, Holds, tree_at}
-use Rattle.trees.specs.Sorts.{WellSorted}
-use Rattle.trees.specs.Facts.{IndicesFit}
-use Rattle.trees.proofs.Sizes.{sorted_fits}
-use Rattle.tasks.specs.declared.declaration.Body.{Body}
-use Rattle.tasks.specs.declared.declaration.Body.TheVariants.{Prop, Defs, Inductives}
-use Rattle.tasks.specs.declared.declaration.Def.{Def}
-use Rattle.tasks.specs.declared.declaration.Ind.{Ind}
-use Rattle.tasks.specs.declared.declaration.Decl.{Decl}
-use Rattle.tasks.specs.Task.{DeclarationTree, DefinitionTree, InductiveTree}
-use Rattle.tasks.specs.Meaning.{symbols_at, trees_at, declarations_at, definitions_at, inductives_at, body_at, InductiveHeld, BodyHeld, DeclHeld}
-use Rattle.tasks.specs.declared.signature.Signature.{Signature}
-use Rattle.names_space.specs.Names.{ScopeNames}
-use Rattle.syntax_why.specs.Declarations as source
-use Rattle.elab_walk.specs.Drafts.{match_at}
-use Rattle.elab_walk.proofs.Walking.{none_both}
+use Rattle.elab_parts.specs.trees.Tree.{Tree}
+use Rattle.elab_parts.specs.trees.declared.TermId.{TermId}
+use Rattle.elab_parts.specs.trees.Node.{Grows, Holds, tree_at}
+use Rattle.elab_parts.specs.trees.Sorts.{WellSorted}
+use Rattle.elab_parts.specs.trees.Facts.{IndicesFit}
+use Rattle.elab_parts.proofs.trees.Sizes.{sorted_fits}
+use Rattle.elab_parts.specs.tasks.declared.declaration.Body.{Body}
+use Rattle.elab_parts.specs.tasks.declared.declaration.Body.TheVariants.{Prop, Defs, Inductives}
+use Rattle.elab_parts.specs.tasks.declared.declaration.Def.{Def}
+use Rattle.elab_parts.specs.tasks.declared.declaration.Ind.{Ind}
+use Rattle.elab_parts.specs.tasks.declared.declaration.Decl.{Decl}
+use Rattle.elab_parts.specs.tasks.Task.{DeclarationTree, DefinitionTree, InductiveTree}
+use Rattle.elab_parts.specs.tasks.Meaning.{symbols_at, trees_at, declarations_at, definitions_at, inductives_at, body_at, InductiveHeld, BodyHeld, DeclHeld}
+use Rattle.elab_parts.specs.tasks.declared.signature.Signature.{Signature}
+use Rattle.elab_parts.specs.names_space.Names.{ScopeNames}
+use Rattle.elab_parts.specs.syntax_why.Declarations as source
+use Rattle.elab_parts.specs.elab_walk.Drafts.{match_at}
+use Rattle.elab_parts.proofs.elab_walk.Walking.{none_both}
 use Rattle.elab_parts.specs.declared.made.Elaborated.{Elaborated}
 use Rattle.elab_parts.specs.Declarations.{Declaration, abstract_type, alias, algebraic, member_group, inductive, proposition_declaration, group_member, declaration, made_names, made_fault}
 use Rattle.elab_parts.specs.Outcomes.{Setting, Outcome, declared_in}
-use Rattle.elab_groups.specs.Bodies.{AreDefined, AllHaveBodies}
+use Rattle.elab_terms.specs.elab_groups.Bodies.{AreDefined, AllHaveBodies}
 use Rattle.elab_terms.specs.Outcomes.{IsOutcome, used_fault, IsElaborated}
-use Rattle.tasks.specs.Vocabulary.{Vocabulary}
+use Rattle.elab_parts.specs.tasks.Vocabulary.{Vocabulary}
 use Rattle.valid_tasks.specs.Signature.{with_entries}
 use Rattle.valid_tasks.specs.Scopes.{NamesNew}
 use Rattle.valid_tasks.specs.Typed.{ArePatterns}

@@ -2,13 +2,13 @@
 use Rattle.std.proofs.Common.{◌≡◌, ◌⊎◌, inl, inr, ℕ, ◌-◌, ◌<◌, ◌≤◌, not, ◌&&◌, zero, suc, Bool, true, false, List, [], ◌∷◌, ◌++◌, map, length, get_or, slice_get, All, Option, Some, None, option_map, IsSomeAnd, IsTrue, refl, sym, ap, subst, ◌∙◌, arith}
 use Rattle.std.specs.Str.{bytes_eq}
 use Rattle.std.proofs.lemmas.List.Elements.{All-nil, All-map}
-use Rattle.trees.specs.Tree.{Tree}
-use Rattle.tasks.specs.Task.{SymbolTree, symbol_or, int_symbol}
-use Rattle.tasks.specs.Rigid.{rigid_symbol}
-use Rattle.tasks.specs.Vocabulary.{Vocabulary, passes, is_empty, is_constructor_kind, of_signature}
-use Rattle.tasks.specs.Valid.{IsTypeIn}
-use Rattle.clones.specs.Mapped.{Map, mapped}
-use Rattle.clones.specs.Copies.{entry_copied}
+use Rattle.elab_parts.specs.trees.Tree.{Tree}
+use Rattle.elab_parts.specs.tasks.Task.{SymbolTree, symbol_or, int_symbol}
+use Rattle.elab_parts.specs.tasks.Rigid.{rigid_symbol}
+use Rattle.elab_parts.specs.tasks.Vocabulary.{Vocabulary, passes, is_empty, is_constructor_kind, of_signature}
+use Rattle.elab_parts.specs.tasks.Valid.{IsTypeIn}
+use Rattle.clone_copies.specs.clones.Mapped.{Map, mapped}
+use Rattle.clone_copies.specs.clones.Copies.{entry_copied}
 use Rattle.elab_parts.specs.Entries.{builtin}
 use Rattle.valid_tasks.specs.Scopes.{NamesNew, AgreeBelow, IsTypedEntry, IsTypedSignature}
 use Rattle.valid_tasks.proofs.Extended.{further, slice_all, in_either, signature_more, signature_agrees}

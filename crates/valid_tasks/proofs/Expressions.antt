@@ -4,23 +4,23 @@ use Rattle.std.specs.Option.{is_none}
 use Rattle.std.specs.List.{AllByRecursion}
 use Rattle.std.proofs.lemmas.List.{map-append}
 use mathlib.Core.List.{reverse-cons}
-use Rattle.tasks.specs.Equations.{cells}
-use Rattle.trees.specs.Tree.{Tree, Leaf, Two, HNum, HEq}
-use Rattle.trees.specs.Sorts.{int_type}
-use Rattle.trees.specs.Facts.{IndicesFit}
-use Rattle.unify_types.specs.Assigned.{assign}
-use Rattle.unify_types.specs.Pairs.{SolvesAll}
-use Rattle.syntax_why.specs.Lexeme.{Word}
-use Rattle.tasks.specs.Vocabulary.{Vocabulary}
-use Rattle.elab_names.specs.Abstract.{TypeExpression, BoundNames, Expression, Expressions, MatchBranches, applied_expression, infix_expression, integer_expression, true_expression, false_expression, tuple_expression, cast_expression, not_expression, connected_expression, equality_expression, if_expression, let_expression, match_expression, quantified_expression, no_expressions, more_expressions, no_branches, more_branches, count_expressions, no_alternatives, more_alternatives}
-use Rattle.elab_names.specs.Faults.{first_of, name_fault, type_fault, binders_fault, bound_names, is_formula_trigger, token, fault, faults, triggers_fault, branches_fault, alternatives_fault, alternatives_names, has_alternative}
-use Rattle.elab_names.specs.Where.{Where}
-use Rattle.elab_walk.specs.Patterns.{LocalTree, local, noted, taken, first_or_int, rest_of, alternatives_pieces, follow, no_notes, all_notes, pattern_trees, first_variables, arms}
-use Rattle.elab_walk.specs.Pieces.{type_at, NotedTree, unknown_after, unknown, noted_before, piece, pieces, triggers_notes, branches_arms, Arms, use_of_name, tuple_use, use_vars, parameters, equality, binder_locals, binder_vars, binders_vars, bound, untyped, locals_of_type, quantify, names}
-use Rattle.elab_walk.proofs.Walking.{none_both, in_cast, in_negation, in_joined, in_equated, in_choice, in_binding}
-use Rattle.elab_walk.proofs.Below.{both_all}
-use Rattle.elab_walk.proofs.Branching.{in_cases, first_names}
-use Rattle.elab_walk.proofs.Quantified.{names_bound, in_quantified}
+use Rattle.elab_parts.specs.tasks.Equations.{cells}
+use Rattle.elab_parts.specs.trees.Tree.{Tree, Leaf, Two, HNum, HEq}
+use Rattle.elab_parts.specs.trees.Sorts.{int_type}
+use Rattle.elab_parts.specs.trees.Facts.{IndicesFit}
+use Rattle.elab_parts.specs.unify_types.Assigned.{assign}
+use Rattle.elab_parts.specs.unify_types.Pairs.{SolvesAll}
+use Rattle.elab_parts.specs.syntax_why.Lexeme.{Word}
+use Rattle.elab_parts.specs.tasks.Vocabulary.{Vocabulary}
+use Rattle.elab_parts.specs.elab_names.Abstract.{TypeExpression, BoundNames, Expression, Expressions, MatchBranches, applied_expression, infix_expression, integer_expression, true_expression, false_expression, tuple_expression, cast_expression, not_expression, connected_expression, equality_expression, if_expression, let_expression, match_expression, quantified_expression, no_expressions, more_expressions, no_branches, more_branches, count_expressions, no_alternatives, more_alternatives}
+use Rattle.elab_parts.specs.elab_names.Faults.{first_of, name_fault, type_fault, binders_fault, bound_names, is_formula_trigger, token, fault, faults, triggers_fault, branches_fault, alternatives_fault, alternatives_names, has_alternative}
+use Rattle.elab_parts.specs.elab_names.Where.{Where}
+use Rattle.elab_parts.specs.elab_walk.Patterns.{LocalTree, local, noted, taken, first_or_int, rest_of, alternatives_pieces, follow, no_notes, all_notes, pattern_trees, first_variables, arms}
+use Rattle.elab_parts.specs.elab_walk.Pieces.{type_at, NotedTree, unknown_after, unknown, noted_before, piece, pieces, triggers_notes, branches_arms, Arms, use_of_name, tuple_use, use_vars, parameters, equality, binder_locals, binder_vars, binders_vars, bound, untyped, locals_of_type, quantify, names}
+use Rattle.elab_parts.proofs.elab_walk.Walking.{none_both, in_cast, in_negation, in_joined, in_equated, in_choice, in_binding}
+use Rattle.elab_parts.proofs.elab_walk.Below.{both_all}
+use Rattle.elab_parts.proofs.elab_walk.Branching.{in_cases, first_names}
+use Rattle.elab_parts.proofs.elab_walk.Quantified.{names_bound, in_quantified}
 use Rattle.valid_tasks.specs.Signature.{IsWellFormed, FormTuples, BindersTuples, HasTuples, HaveTuples, BranchesTuples}
 use Rattle.valid_tasks.specs.Typed.{assigned_types}
 use Rattle.valid_tasks.proofs.Over.{IsOver, AreOver, over_assigned}
@@ -30,7 +30,7 @@ use Rattle.valid_tasks.proofs.Arms.{IsArm, AreArms, match_typed}
 use Rattle.valid_tasks.proofs.Alternatives.{names_reverse, alternatives_sound}
 use Rattle.valid_tasks.proofs.Signed.{int_over, form_over}
 use Rattle.valid_tasks.proofs.Sound.{IsPatternAt, AreNoted, noted_sound, both_noted, none_noted, suc_same, more_over, first_solved, rest_solved, LocalsOver, both_locals, WantedOver, first_over, rest_over, parameters_count, usable_over, sig, named_usable, tuple_usable, IsSound, AreSound, no_arguments, more_arguments, two_arguments, used_sound}
-use Rattle.elab_walk.proofs.Arguments.{names_both}
+use Rattle.elab_parts.proofs.elab_walk.Arguments.{names_both}
 
 pub names_inside : (vs ls : List LocalTree) (ns : List Word) → names vs ≡ ns → names (reverse vs ++ ls) ≡ reverse ns ++ names ls
 names_inside vs ls ns q = names_both (reverse vs) ls ∙ ap (λ (r : List Word). r ++ names ls) (names_reverse vs ∙ ap reverse q)

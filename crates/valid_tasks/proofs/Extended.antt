@@ -2,28 +2,28 @@
 use Rattle.std.proofs.Common.{◌≡◌, ℕ, ◌-◌, ◌<◌, ◌≤◌, ◌==◌, ◌&&◌, ◌⊎◌, zero, suc, Bool, true, false, inl, inr, subst, List, [], ◌∷◌, ◌++◌, length, get_or, slice_get, All, Option, Some, None, IfSome, IsSomeAnd, IsTrue, refl, sym, ap, ◌∙◌, arith}
 use Rattle.std.specs.Str.{bytes_eq}
 use Rattle.std.proofs.lemmas.List.Elements.{All-append}
-use Rattle.trees.specs.Tree.{Tree, Leaf, One, Two, Three, Head, HTyRigid, HTyApp, HPred, HFun, HPatCon}
-use Rattle.trees.specs.Node.{Grows}
-use Rattle.trees.proofs.Nodes.{tree_at-grows}
-use Rattle.tasks.specs.Task.{SymbolTree, symbol_or, int_symbol}
-use Rattle.tasks.specs.declared.signature.SymbolKind.{SymbolKind}
-use Rattle.tasks.specs.declared.signature.SymbolKind.TheVariants.{Constructor}
-use Rattle.tasks.specs.Vocabulary.{Vocabulary, is_constructor_kind}
-use Rattle.tasks.specs.Typing.{entry, LeafTyped, OneTyped, TwoTyped, ThreeTyped, TypedUnder, bound_types}
-use Rattle.tasks.specs.Valid.{IsTypeIn, HasTypes}
-use Rattle.names_space.specs.Names.{ScopeNames, number_of}
-use Rattle.names_space.specs.declared.Table.{Table}
-use Rattle.names_space.specs.declared.Table.TheVariants.{Types, Symbols, Propositions, Scopes}
-use Rattle.names_space.specs.declared.TypeName.{TypeName}
-use Rattle.names_space.specs.declared.TypeName.TheVariants as stands
-use Rattle.elab_walk.specs.Scoped.{IsScopedEntry}
+use Rattle.elab_parts.specs.trees.Tree.{Tree, Leaf, One, Two, Three, Head, HTyRigid, HTyApp, HPred, HFun, HPatCon}
+use Rattle.elab_parts.specs.trees.Node.{Grows}
+use Rattle.elab_parts.proofs.trees.Nodes.{tree_at-grows}
+use Rattle.elab_parts.specs.tasks.Task.{SymbolTree, symbol_or, int_symbol}
+use Rattle.elab_parts.specs.tasks.declared.signature.SymbolKind.{SymbolKind}
+use Rattle.elab_parts.specs.tasks.declared.signature.SymbolKind.TheVariants.{Constructor}
+use Rattle.elab_parts.specs.tasks.Vocabulary.{Vocabulary, is_constructor_kind}
+use Rattle.elab_parts.specs.tasks.Typing.{entry, LeafTyped, OneTyped, TwoTyped, ThreeTyped, TypedUnder, bound_types}
+use Rattle.elab_parts.specs.tasks.Valid.{IsTypeIn, HasTypes}
+use Rattle.elab_parts.specs.names_space.Names.{ScopeNames, number_of}
+use Rattle.elab_parts.specs.names_space.declared.Table.{Table}
+use Rattle.elab_parts.specs.names_space.declared.Table.TheVariants.{Types, Symbols, Propositions, Scopes}
+use Rattle.elab_parts.specs.names_space.declared.TypeName.{TypeName}
+use Rattle.elab_parts.specs.names_space.declared.TypeName.TheVariants as stands
+use Rattle.elab_parts.specs.elab_walk.Scoped.{IsScopedEntry}
 use Rattle.elab_parts.specs.Entries.{builtin, is_tuple}
 use Rattle.valid_tasks.specs.Signature.{with_entries}
 use Rattle.valid_tasks.proofs.Words.{same_word}
 use Rattle.valid_tasks.proofs.Signed.{entry_scoped}
 use Rattle.valid_tasks.specs.Scopes.{is_projection_kind, is_nameable, NamesNew, IsSubvocabulary, AgreeBelow, IsTypedEntry, IsTypedSignature, IsTypeNumber, IsSymbolNumber, IsAliased, IsTypedThing, AreTypedScopes}
 use Rattle.valid_tasks.proofs.Declarations.{below as slice_below}
-use Rattle.plain_laws.proofs.Bools.{and_both as both_true}
+use Rattle.elab_parts.proofs.plain_laws.Bools.{and_both as both_true}
 use Rattle.std.proofs.lemmas.Option.{slice_get-get_or as some_at}
 
 module _ (v w : Vocabulary) (h : IsSubvocabulary v w) where

@@ -2,14 +2,14 @@
 use Rattle.std.proofs.Common.{◌≡◌, ◌≢◌, ◌⊎◌, inl, inr, ℕ, ◌&&◌, cond, Bool, true, false, List, [], ◌∷◌, ◌++◌, slice_get, Contains, Option, Some, None, IsSomeAnd, IsTrue, refl, sym, subst, arith}
 use Rattle.std.specs.Option.{is_some, option_or}
 use Rattle.std.proofs.lemmas.List.Elements.{Contains-append_cases}
-use Rattle.trees.specs.Tree.{Tree}
-use Rattle.tasks.specs.declared.signature.SymbolKind.TheVariants.{Kind, Constructor}
-use Rattle.tasks.specs.Task.{SymbolTree, symbol_or, DeclarationTree, made, made_by}
-use Rattle.tasks.specs.Roles.{is_constructor, is_made_by, maker, role_in, role_by}
-use Rattle.tasks.specs.Vocabulary.{Vocabulary, passes, is_constructor_kind}
-use Rattle.tasks.specs.Typing.{entry, IsRigid, IsTypeSymbol}
-use Rattle.tasks.proofs.Declared.{any_iff, made_maker}
-use Rattle.clones.specs.Mapped.{Map}
+use Rattle.elab_parts.specs.trees.Tree.{Tree}
+use Rattle.elab_parts.specs.tasks.declared.signature.SymbolKind.TheVariants.{Kind, Constructor}
+use Rattle.elab_parts.specs.tasks.Task.{SymbolTree, symbol_or, DeclarationTree, made, made_by}
+use Rattle.elab_parts.specs.tasks.Roles.{is_constructor, is_made_by, maker, role_in, role_by}
+use Rattle.elab_parts.specs.tasks.Vocabulary.{Vocabulary, passes, is_constructor_kind}
+use Rattle.elab_parts.specs.tasks.Typing.{entry, IsRigid, IsTypeSymbol}
+use Rattle.elab_parts.proofs.tasks.Declared.{any_iff, made_maker}
+use Rattle.clone_copies.specs.clones.Mapped.{Map}
 use Rattle.valid_tasks.specs.Scopes.{IsSubvocabulary}
 use Rattle.valid_tasks.proofs.Extended.{type_more}
 use Rattle.valid_tasks.specs.Lists.{is_built, after}

@@ -2,15 +2,15 @@
 -- it, so it keeps equations between these.
 use Rattle.std.proofs.Common.{◌≡◌, ℕ, ◌<◌, ◌==◌, ◌&&◌, suc, Bool, true, false, cond, nat_lt, length, Option, Some, None, IsSomeAnd, IsTrue, eq-eqb, refl, sym, ap, subst, ◌∙◌, arith}
 use Rattle.std.proofs.lemmas.Bool.{eqb-true}
-use Rattle.trees.specs.Tree.{Tree, Leaf, One, Two, Three, Head, HTyVar, HTyRigid, HTyApp, HEnd, HCell}
-use Rattle.trees.specs.Sorts.{int_type}
-use Rattle.tasks.specs.declared.signature.SymbolKind.{SymbolKind}
-use Rattle.tasks.specs.declared.signature.SymbolKind.TheVariants.{Kind}
-use Rattle.tasks.specs.Task.{SymbolTree}
-use Rattle.tasks.specs.Vocabulary.{Vocabulary, passes}
-use Rattle.tasks.specs.Typing.{members, entry, IsRigid, IsTypeSymbol}
-use Rattle.tasks.specs.Valid.{VariablesBelow}
-use Rattle.unify_types.specs.Assigned.{Variable, assign, IsTypeOrTypes, leaf_typed, one_typed, two_typed}
+use Rattle.elab_parts.specs.trees.Tree.{Tree, Leaf, One, Two, Three, Head, HTyVar, HTyRigid, HTyApp, HEnd, HCell}
+use Rattle.elab_parts.specs.trees.Sorts.{int_type}
+use Rattle.elab_parts.specs.tasks.declared.signature.SymbolKind.{SymbolKind}
+use Rattle.elab_parts.specs.tasks.declared.signature.SymbolKind.TheVariants.{Kind}
+use Rattle.elab_parts.specs.tasks.Task.{SymbolTree}
+use Rattle.elab_parts.specs.tasks.Vocabulary.{Vocabulary, passes}
+use Rattle.elab_parts.specs.tasks.Typing.{members, entry, IsRigid, IsTypeSymbol}
+use Rattle.elab_parts.specs.tasks.Valid.{VariablesBelow}
+use Rattle.elab_parts.specs.unify_types.Assigned.{Variable, assign, IsTypeOrTypes, leaf_typed, one_typed, two_typed}
 use Rattle.valid_tasks.proofs.Over.{IsOver, leaf_over, one_over, two_over, members_assigned}
 use Rattle.valid_tasks.proofs.Entries.{both_true as left}
 

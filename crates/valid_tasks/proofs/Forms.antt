@@ -1,17 +1,17 @@
 -- Terms and formulas that are well typed under binders, each by its parts.
 use Rattle.std.proofs.Common.{◌≡◌, ◌≢◌, ℕ, ◌<◌, ℤ, Bool, true, false, List, [], ◌∷◌, ◌++◌, map, option_map, length, slice_get, Option, Some, None, IsSomeAnd, IsTrue, inl, inr, refl, sym, ap, subst, ◌∙◌}
-use Rattle.trees.specs.declared.Op.{Op}
-use Rattle.trees.specs.declared.Sort.{Sort}
-use Rattle.trees.specs.declared.Sort.TheVariants.{Kind, Term, Pattern}
-use Rattle.trees.specs.declared.Sort.TheVariants as sorts
-use Rattle.trees.specs.Tree.{Tree, Leaf, One, Two, Three, Head, HEnd, HCell, HBound, HNum, HFun, HPred, HEq, HTrue, HFalse, HNot, HJoin, HForall, HExists, HLet, HIf, HArm, HPatAny, HPatVar, HPatCon, HPatAlias, head_of}
-use Rattle.trees.specs.Sorts.{Fits, sort_of, yield, top_sort, first_sort, IsList, IsListOf, IsExpression, int_type, type_of, yield_type, top_type}
-use Rattle.trees.specs.Binding.{inst_types}
-use Rattle.tasks.specs.declared.signature.SymbolKind.TheVariants.{Predicate, Constructor}
-use Rattle.tasks.specs.Equations.{cells}
-use Rattle.tasks.specs.Task.{SymbolTree}
-use Rattle.tasks.specs.Vocabulary.{Vocabulary}
-use Rattle.tasks.specs.Typing.{pattern_types, members, entry, MakesTerms, IsUse, HasResult, TwoTyped, option_list, bound_types}
+use Rattle.elab_parts.specs.trees.declared.Op.{Op}
+use Rattle.elab_parts.specs.trees.declared.Sort.{Sort}
+use Rattle.elab_parts.specs.trees.declared.Sort.TheVariants.{Kind, Term, Pattern}
+use Rattle.elab_parts.specs.trees.declared.Sort.TheVariants as sorts
+use Rattle.elab_parts.specs.trees.Tree.{Tree, Leaf, One, Two, Three, Head, HEnd, HCell, HBound, HNum, HFun, HPred, HEq, HTrue, HFalse, HNot, HJoin, HForall, HExists, HLet, HIf, HArm, HPatAny, HPatVar, HPatCon, HPatAlias, head_of}
+use Rattle.elab_parts.specs.trees.Sorts.{Fits, sort_of, yield, top_sort, first_sort, IsList, IsListOf, IsExpression, int_type, type_of, yield_type, top_type}
+use Rattle.elab_parts.specs.trees.Binding.{inst_types}
+use Rattle.elab_parts.specs.tasks.declared.signature.SymbolKind.TheVariants.{Predicate, Constructor}
+use Rattle.elab_parts.specs.tasks.Equations.{cells}
+use Rattle.elab_parts.specs.tasks.Task.{SymbolTree}
+use Rattle.elab_parts.specs.tasks.Vocabulary.{Vocabulary}
+use Rattle.elab_parts.specs.tasks.Typing.{pattern_types, members, entry, MakesTerms, IsUse, HasResult, TwoTyped, option_list, bound_types}
 use Rattle.valid_tasks.specs.Typed.{due_sort}
 use Rattle.valid_tasks.proofs.Over.{IsOver, IsGood, AreOver, over_good, cells_over, members_cells}
 use Rattle.match_cover.proofs.Fields.{pattern_top as top_pattern}

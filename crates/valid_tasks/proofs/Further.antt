@@ -4,10 +4,10 @@ use Rattle.std.specs.List.{Contains, range_with_len}
 use Rattle.std.specs.Option.{option_to_list}
 use Rattle.std.specs.Str.{bytes_eq}
 use Rattle.std.proofs.lemmas.List.Elements.{All-append, All-contains, All-head, All-tail, Contains-get_or, Contains-append_left, Contains-append_right, Contains-append_cases}
-use Rattle.trees.specs.Tree.{Tree}
-use Rattle.trees.specs.Node.{Grows}
-use Rattle.tasks.specs.Task.{SymbolTree, DeclarationTree}
-use Rattle.tasks.specs.Vocabulary.{Vocabulary, is_empty}
+use Rattle.elab_parts.specs.trees.Tree.{Tree}
+use Rattle.elab_parts.specs.trees.Node.{Grows}
+use Rattle.elab_parts.specs.tasks.Task.{SymbolTree, DeclarationTree}
+use Rattle.elab_parts.specs.tasks.Vocabulary.{Vocabulary, is_empty}
 use Rattle.elab_parts.specs.Entries.{builtin}
 use Rattle.goal_tasks.specs.Theories.{GoalTree}
 use Rattle.theory_states.specs.declared.moves.Move.{Move}

@@ -4,23 +4,23 @@ use Rattle.std.specs.Option.{option_or}
 use Rattle.std.specs.List.{list_any, Contains}
 use Rattle.std.proofs.lemmas.Bool.Decides.{nat_tests}
 use Rattle.std.proofs.lemmas.List.Elements.{All-nil, All-cons}
-use Rattle.trees.specs.Tree.{Tree}
-use Rattle.trees.specs.declared.TermId.{TermId}
-use Rattle.trees.specs.Node.{Grows, Holds, tree_at}
-use Rattle.trees.specs.Sorts.{WellSorted}
-use Rattle.trees.proofs.Nodes.{Grows_refl}
-use Rattle.tasks.specs.declared.signature.Signature.{Signature}
-use Rattle.tasks.specs.Rigid.{rigid_symbol}
-use Rattle.tasks.specs.Task.{SymbolTree, DeclarationTree, made}
-use Rattle.tasks.specs.Meaning.{symbols_at, declarations_at, DeclHeld}
-use Rattle.tasks.specs.Roles.{maker}
-use Rattle.tasks.proofs.Declared.{contains_step, any_iff, maker_made}
-use Rattle.names_space.specs.Names.{ScopeNames}
-use Rattle.syntax_why.specs.Lexeme.{Word}
-use Rattle.syntax_why.specs.declared.declarations.PropKind.TheVariants as kind
-use Rattle.syntax_why.specs.Declarations as source
-use Rattle.elab_names.specs.Abstract.{Expression}
-use Rattle.elab_walk.proofs.Walking.{none_both}
+use Rattle.elab_parts.specs.trees.Tree.{Tree}
+use Rattle.elab_parts.specs.trees.declared.TermId.{TermId}
+use Rattle.elab_parts.specs.trees.Node.{Grows, Holds, tree_at}
+use Rattle.elab_parts.specs.trees.Sorts.{WellSorted}
+use Rattle.elab_parts.proofs.trees.Nodes.{Grows_refl}
+use Rattle.elab_parts.specs.tasks.declared.signature.Signature.{Signature}
+use Rattle.elab_parts.specs.tasks.Rigid.{rigid_symbol}
+use Rattle.elab_parts.specs.tasks.Task.{SymbolTree, DeclarationTree, made}
+use Rattle.elab_parts.specs.tasks.Meaning.{symbols_at, declarations_at, DeclHeld}
+use Rattle.elab_parts.specs.tasks.Roles.{maker}
+use Rattle.elab_parts.proofs.tasks.Declared.{contains_step, any_iff, maker_made}
+use Rattle.elab_parts.specs.names_space.Names.{ScopeNames}
+use Rattle.elab_parts.specs.syntax_why.Lexeme.{Word}
+use Rattle.elab_parts.specs.syntax_why.declared.declarations.PropKind.TheVariants as kind
+use Rattle.elab_parts.specs.syntax_why.Declarations as source
+use Rattle.elab_parts.specs.elab_names.Abstract.{Expression}
+use Rattle.elab_parts.proofs.elab_walk.Walking.{none_both}
 use Rattle.elab_parts.specs.declared.made.Elaborated.{Elaborated}
 use Rattle.elab_parts.specs.Declarations.{TokenName, proposition_declaration, declaration, made_names, made_fault}
 use Rattle.elab_parts.specs.Outcomes.{Setting, declared_in, tuples_wanting}

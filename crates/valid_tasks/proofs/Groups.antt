@@ -2,29 +2,29 @@
 use Rattle.std.proofs.Common.{◌≡◌, ℕ, ◌+◌, ◌≤◌, suc, true, false, List, [], ◌∷◌, ◌++◌, length, get_or, All, None, IfSome, refl, sym, ap, subst, ◌∙◌, arith, length-append, append_assoc, append-nil}
 use Rattle.std.proofs.lemmas.List.Elements.{All-nil, All-cons}
 use Rattle.std.proofs.Math.ListN.{length-map}
-use Rattle.trees.specs.Tree.{Tree}
-use Rattle.trees.specs.Node.{Grows}
-use Rattle.trees.proofs.Nodes.{Grows_refl}
-use Rattle.tasks.specs.Task.{SymbolTree}
-use Rattle.tasks.specs.Vocabulary.{Vocabulary, is_empty}
-use Rattle.tasks.specs.Typing.{IsTypeSymbol}
-use Rattle.tasks.specs.Valid.{IsTypeIn, IsAlgebraic, IsValidDecl}
-use Rattle.syntax_why.specs.Lexeme.{Word}
-use Rattle.elab_names.specs.Abstract.{TypeExpressions, count_forms}
-use Rattle.elab_names.specs.Faults.{forms_fault}
-use Rattle.elab_names.specs.Where.{Where}
-use Rattle.elab_variables.specs.Seen.{SeenTree, has_width, forms_seen}
-use Rattle.elab_walk.specs.Scoped.{IsScoped}
-use Rattle.elab_walk.specs.Pieces.{types_at}
-use Rattle.elab_walk.proofs.Below.{AreBelow, forms_below}
-use Rattle.elab_walk.proofs.Walking.{none_both}
+use Rattle.elab_parts.specs.trees.Tree.{Tree}
+use Rattle.elab_parts.specs.trees.Node.{Grows}
+use Rattle.elab_parts.proofs.trees.Nodes.{Grows_refl}
+use Rattle.elab_parts.specs.tasks.Task.{SymbolTree}
+use Rattle.elab_parts.specs.tasks.Vocabulary.{Vocabulary, is_empty}
+use Rattle.elab_parts.specs.tasks.Typing.{IsTypeSymbol}
+use Rattle.elab_parts.specs.tasks.Valid.{IsTypeIn, IsAlgebraic, IsValidDecl}
+use Rattle.elab_parts.specs.syntax_why.Lexeme.{Word}
+use Rattle.elab_parts.specs.elab_names.Abstract.{TypeExpressions, count_forms}
+use Rattle.elab_parts.specs.elab_names.Faults.{forms_fault}
+use Rattle.elab_parts.specs.elab_names.Where.{Where}
+use Rattle.elab_parts.specs.elab_variables.Seen.{SeenTree, has_width, forms_seen}
+use Rattle.elab_parts.specs.elab_walk.Scoped.{IsScoped}
+use Rattle.elab_parts.specs.elab_walk.Pieces.{types_at}
+use Rattle.elab_parts.proofs.elab_walk.Below.{AreBelow, forms_below}
+use Rattle.elab_parts.proofs.elab_walk.Walking.{none_both}
 use Rattle.elab_parts.specs.Elaborated.{unseen}
 use Rattle.elab_parts.specs.Entries.{tuple_in}
 use Rattle.elab_parts.specs.Declarations.{TokenName, AlgebraicConstructor, AlgebraicType, words, with_vars, constructors_fault, types_fault}
 use Rattle.elab_parts.specs.Outcomes.{Setting, tuples_wanting}
 use Rattle.elab_parts.proofs.Scopes.{tuples_below}
-use Rattle.elab_types.specs.Algebraics.{constructors_seen, types_seen, group_seen, entry_count, first_type, first_constructor, group_names, type_entries, constructor_trees, algebraic_trees, group_trees, group_entries, group_outcome}
-use Rattle.elab_types.specs.Algebraics as group
+use Rattle.elab_terms.specs.elab_types.Algebraics.{constructors_seen, types_seen, group_seen, entry_count, first_type, first_constructor, group_names, type_entries, constructor_trees, algebraic_trees, group_trees, group_entries, group_outcome}
+use Rattle.elab_terms.specs.elab_types.Algebraics as group
 use Rattle.valid_tasks.specs.Signature.{with_entries, IsMeaning, HasTuple}
 use Rattle.valid_tasks.specs.Scopes.{NamesNew, IsTypedEntry, IsTypedSignature, AreTypedScopes}
 use Rattle.valid_tasks.proofs.Over.{AreOver, over_good}

@@ -6,9 +6,9 @@ use Rattle.std.specs.Str.{bytes_eq}
 use Rattle.std.proofs.lemmas.Bool.{cases_lt}
 use Rattle.std.proofs.lemmas.List.{get_or_append_left}
 use Rattle.std.proofs.lemmas.List.Elements.{All-nil, All-cons, All-contains, Contains-get_or, Contains-append_left}
-use Rattle.tasks.specs.Task.{SymbolTree, symbol_or, int_symbol, DeclarationTree, made, made_by}
-use Rattle.tasks.specs.Roles.{is_constructor, maker, role_by}
-use Rattle.tasks.specs.Vocabulary.{passes, is_empty, is_constructor_kind}
+use Rattle.elab_parts.specs.tasks.Task.{SymbolTree, symbol_or, int_symbol, DeclarationTree, made, made_by}
+use Rattle.elab_parts.specs.tasks.Roles.{is_constructor, maker, role_by}
+use Rattle.elab_parts.specs.tasks.Vocabulary.{passes, is_empty, is_constructor_kind}
 use Rattle.elab_parts.specs.Entries.{builtin}
 use Rattle.valid_tasks.specs.Scopes.{IsSubvocabulary}
 use Rattle.valid_tasks.proofs.Extended.{further}

@@ -2,28 +2,28 @@
 use Rattle.std.proofs.Common.{◌≡◌, ℕ, ◌+◌, suc, true, false, List, [], ◌∷◌, ◌++◌, map, take, drop, length, All, None, refl, sym, ap, subst, ◌∙◌, arith, append_assoc}
 use Rattle.std.specs.List.{AllByRecursion}
 use Rattle.std.proofs.lemmas.List.Elements.{All-nil, All-cons, recursion_from_All}
-use Rattle.trees.specs.Tree.{Tree}
-use Rattle.trees.specs.Node.{Grows}
-use Rattle.trees.specs.Facts.{IndicesFit}
-use Rattle.trees.proofs.Nodes.{Grows_refl}
-use Rattle.tasks.specs.Clauses.{IsClauseOf}
-use Rattle.tasks.specs.Equations.{cells, type_variables}
-use Rattle.tasks.specs.Task.{SymbolTree, symbol_or, InductiveTree, Induces, DeclarationTree}
-use Rattle.tasks.specs.Vocabulary.{Vocabulary, is_empty}
-use Rattle.tasks.specs.Valid.{IsTypeIn, IsFormulaOver, IsInductive, IsValidDecl}
-use Rattle.names_space.specs.Names.{ScopeNames, with_name}
-use Rattle.names_space.specs.declared.Table.TheVariants.{Symbols, Propositions}
-use Rattle.names_space.specs.declared.TypeName.TheVariants as stands
-use Rattle.syntax_why.specs.Lexeme.{Word}
-use Rattle.elab_names.specs.Naming.{type_named}
-use Rattle.elab_variables.specs.Seen.{SeenTree, seen}
+use Rattle.elab_parts.specs.trees.Tree.{Tree}
+use Rattle.elab_parts.specs.trees.Node.{Grows}
+use Rattle.elab_parts.specs.trees.Facts.{IndicesFit}
+use Rattle.elab_parts.proofs.trees.Nodes.{Grows_refl}
+use Rattle.elab_parts.specs.tasks.Clauses.{IsClauseOf}
+use Rattle.elab_parts.specs.tasks.Equations.{cells, type_variables}
+use Rattle.elab_parts.specs.tasks.Task.{SymbolTree, symbol_or, InductiveTree, Induces, DeclarationTree}
+use Rattle.elab_parts.specs.tasks.Vocabulary.{Vocabulary, is_empty}
+use Rattle.elab_parts.specs.tasks.Valid.{IsTypeIn, IsFormulaOver, IsInductive, IsValidDecl}
+use Rattle.elab_parts.specs.names_space.Names.{ScopeNames, with_name}
+use Rattle.elab_parts.specs.names_space.declared.Table.TheVariants.{Symbols, Propositions}
+use Rattle.elab_parts.specs.names_space.declared.TypeName.TheVariants as stands
+use Rattle.elab_parts.specs.syntax_why.Lexeme.{Word}
+use Rattle.elab_parts.specs.elab_names.Naming.{type_named}
+use Rattle.elab_parts.specs.elab_variables.Seen.{SeenTree, seen}
 use Rattle.elab_parts.specs.Declarations.{TokenName, InductiveClause, InductivePredicate, GroupMember, params_seen, signature_variables}
 use Rattle.elab_parts.specs.Elaborated.{unseen}
 use Rattle.elab_parts.specs.Outcomes.{Setting, Outcome, tuples_wanting}
-use Rattle.elab_members.specs.Members.{SignatureTree, signed_entries, signature_trees, members_fault}
-use Rattle.elab_inductives.specs.Inductives.{clauses_seen, inductives_seen, as_member, as_members, formula, formula_members, clause_signature, clause_signatures, with_clauses, with_inductives, before_inductives, induced, inductive_decls, IsInductiveGroup, inductives_used, within_inductives}
-use Rattle.elab_inductives.proofs.InductivesNamed.{inductives_types}
-use Rattle.elab_inductives.proofs.ClausesResolved.{members_right, formulas_resolved, formulas_defined}
+use Rattle.elab_terms.specs.elab_members.Members.{SignatureTree, signed_entries, signature_trees, members_fault}
+use Rattle.elab_terms.specs.elab_inductives.Inductives.{clauses_seen, inductives_seen, as_member, as_members, formula, formula_members, clause_signature, clause_signatures, with_clauses, with_inductives, before_inductives, induced, inductive_decls, IsInductiveGroup, inductives_used, within_inductives}
+use Rattle.elab_terms.proofs.elab_inductives.InductivesNamed.{inductives_types}
+use Rattle.elab_terms.proofs.elab_inductives.ClausesResolved.{members_right, formulas_resolved, formulas_defined}
 use Rattle.decl_checks.specs.Checks.{group_of, OwnClause, own_clauses, all_clauses, ClauseHasForm, ClauseIsPositive, HasNoFault}
 use Rattle.decl_checks.proofs.Forms.{clause_of}
 use Rattle.valid_tasks.specs.Typed.{IsTypedAs, ArePatterns}

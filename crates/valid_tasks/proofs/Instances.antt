@@ -1,12 +1,12 @@
 -- Types at the types of a use, and at assigned unknowns.
 use Rattle.std.proofs.Common.{◌≡◌, ℕ, ◌+◌, ◌<◌, zero, suc, Bool, true, List, [], ◌∷◌, map, length, get_or, refl, sym, ap, subst, ◌∙◌, arith}
-use Rattle.trees.specs.Tree.{Tree, Leaf, One, Two, Three, Head, HTyVar, HBound, HParam, binders_over}
-use Rattle.trees.specs.Binding.{inst_types, typing, change, leaf_by, one_by, TyVar}
-use Rattle.trees.specs.Facts.{TyVarsBelow, leaf_below}
-use Rattle.tasks.specs.Equations.{cells, type_variables}
-use Rattle.tasks.specs.Vocabulary.{Vocabulary}
-use Rattle.unify_types.specs.Assigned.{assign, leaf_assigned}
-use Rattle.unify_types.proofs.Assigning.{assign-unknown}
+use Rattle.elab_parts.specs.trees.Tree.{Tree, Leaf, One, Two, Three, Head, HTyVar, HBound, HParam, binders_over}
+use Rattle.elab_parts.specs.trees.Binding.{inst_types, typing, change, leaf_by, one_by, TyVar}
+use Rattle.elab_parts.specs.trees.Facts.{TyVarsBelow, leaf_below}
+use Rattle.elab_parts.specs.tasks.Equations.{cells, type_variables}
+use Rattle.elab_parts.specs.tasks.Vocabulary.{Vocabulary}
+use Rattle.elab_parts.specs.unify_types.Assigned.{assign, leaf_assigned}
+use Rattle.elab_parts.proofs.unify_types.Assigning.{assign-unknown}
 use Rattle.valid_tasks.proofs.Over.{IsOver, AreOver, over_assigned}
 
 -- the types of a use in place of type variables, as an assignment

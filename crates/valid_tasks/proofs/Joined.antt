@@ -4,12 +4,12 @@ use Rattle.std.specs.List.{filter, Contains}
 use Rattle.std.specs.Option.{is_some}
 use Rattle.std.specs.Str.{bytes_eq}
 use Rattle.std.proofs.lemmas.List.Elements.{All-append, All-contains, All-contains_itself, All-filter, Contains-get_or, Contains-append_left, Contains-append_right, Contains-append_cases, filter-append}
-use Rattle.tasks.specs.declared.signature.SymbolKind.TheVariants.{Constructor}
-use Rattle.tasks.specs.Task.{SymbolTree, symbol_or, int_symbol, DeclarationTree, made, made_by}
-use Rattle.tasks.specs.Roles.{is_constructor, is_made_by, maker, role_by}
-use Rattle.tasks.specs.Vocabulary.{passes, is_constructor_kind}
-use Rattle.tasks.specs.Valid.{IsValidDecl}
-use Rattle.tasks.proofs.Declared.{none_in, any_iff, maker_made, made_maker}
+use Rattle.elab_parts.specs.tasks.declared.signature.SymbolKind.TheVariants.{Constructor}
+use Rattle.elab_parts.specs.tasks.Task.{SymbolTree, symbol_or, int_symbol, DeclarationTree, made, made_by}
+use Rattle.elab_parts.specs.tasks.Roles.{is_constructor, is_made_by, maker, role_by}
+use Rattle.elab_parts.specs.tasks.Vocabulary.{passes, is_constructor_kind}
+use Rattle.elab_parts.specs.tasks.Valid.{IsValidDecl}
+use Rattle.elab_parts.proofs.tasks.Declared.{none_in, any_iff, maker_made, made_maker}
 use Rattle.valid_tasks.specs.Scopes.{IsSubvocabulary, IsTypedEntry, IsTypedSignature}
 use Rattle.valid_tasks.proofs.Extended.{further, entry_more}
 use Rattle.valid_tasks.proofs.Words.{self_word}

@@ -4,12 +4,12 @@ use Rattle.std.specs.List.{find}
 use Rattle.std.specs.Str.{bytes_eq}
 use Rattle.std.proofs.lemmas.List.Elements.{All-nil, All-cons, All-append, All-push, recursion_from_All}
 use Rattle.std.specs.List.{AllByRecursion}
-use Rattle.trees.specs.Tree.{Tree}
-use Rattle.tasks.specs.Vocabulary.{Vocabulary, is_empty, of_signature}
-use Rattle.names_space.specs.Names.{ScopeEntry, empty_names}
-use Rattle.syntax_why.specs.declared.names.Name.{Name}
-use Rattle.syntax_why.specs.declared.names.Path.{Path}
-use Rattle.syntax_why.specs.declared.declarations.Link.{Link}
+use Rattle.elab_parts.specs.trees.Tree.{Tree}
+use Rattle.elab_parts.specs.tasks.Vocabulary.{Vocabulary, is_empty, of_signature}
+use Rattle.elab_parts.specs.names_space.Names.{ScopeEntry, empty_names}
+use Rattle.elab_parts.specs.syntax_why.declared.names.Name.{Name}
+use Rattle.elab_parts.specs.syntax_why.declared.names.Path.{Path}
+use Rattle.elab_parts.specs.syntax_why.declared.declarations.Link.{Link}
 use Rattle.elab_parts.specs.Entries.{builtin}
 use Rattle.valid_tasks.specs.Scopes.{IsTypedThing, AreTypedScopes}
 use Rattle.valid_tasks.specs.Moves.{AreTypedMoves, IsTypedMove}

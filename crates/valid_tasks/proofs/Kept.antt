@@ -3,20 +3,20 @@ use Rattle.std.proofs.Common.{◌≡◌, ◌⊎◌, inl, inr, ℕ, ◌+◌, ◌-
 use Rattle.std.specs.Str.{bytes_eq}
 use Rattle.std.proofs.lemmas.Bool.{eqb-true}
 use Rattle.std.proofs.lemmas.List.Elements.{All-nil, All-cons}
-use Rattle.trees.specs.Tree.{Tree}
-use Rattle.tasks.specs.declared.signature.SymbolKind.TheVariants.{Projection}
-use Rattle.tasks.specs.Task.{SymbolTree, int_symbol}
-use Rattle.tasks.specs.Equations.{type_variables}
-use Rattle.tasks.specs.Vocabulary.{is_constructor_kind}
-use Rattle.tasks.specs.Valid.{own_type}
-use Rattle.syntax_why.specs.Lexeme.{Word}
+use Rattle.elab_parts.specs.trees.Tree.{Tree}
+use Rattle.elab_parts.specs.tasks.declared.signature.SymbolKind.TheVariants.{Projection}
+use Rattle.elab_parts.specs.tasks.Task.{SymbolTree, int_symbol}
+use Rattle.elab_parts.specs.tasks.Equations.{type_variables}
+use Rattle.elab_parts.specs.tasks.Vocabulary.{is_constructor_kind}
+use Rattle.elab_parts.specs.tasks.Valid.{own_type}
+use Rattle.elab_parts.specs.syntax_why.Lexeme.{Word}
 use Rattle.elab_parts.specs.Entries.{projections, builtin, tuple_entries, is_tuple, tuple_from, tuple_in, wanting_tuple, wanting_tuples}
 use Rattle.valid_tasks.specs.Scopes.{is_projection_kind}
 use Rattle.valid_tasks.proofs.Extended.{further, in_either, slice_all}
 use Rattle.valid_tasks.specs.Lists.{is_built}
 use Rattle.goal_tasks.specs.Meaning.{IsTupleAt, AreTuples}
 use Rattle.valid_tasks.specs.Built.{IsOfTuple, IsBuiltRight}
-use Rattle.elab_types.proofs.Made.{projections_length as projections_count}
+use Rattle.elab_terms.proofs.elab_types.Made.{projections_length as projections_count}
 use Rattle.goal_tasks.proofs.TuplesMade.{variables_count as count_variables}
 
 -- ---- the first constructor of a width, in two lists

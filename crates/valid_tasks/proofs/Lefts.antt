@@ -1,15 +1,15 @@
 -- The left side of an element that replaces a symbol names no type.
 use Rattle.std.proofs.Common.{◌≡◌, ◌≢◌, ℕ, if◌then◌else◌, Bool, true, false, List, [], ◌∷◌, Option, Some, None, IfSome, refl, sym, ap, ◌∙◌, arith}
-use Rattle.tasks.specs.declared.signature.SymbolKind.{SymbolKind}
-use Rattle.tasks.specs.declared.signature.SymbolKind.TheVariants as symbol
-use Rattle.tasks.specs.Task.{SymbolTree, symbol_or, BodyTree, MakesType, Makes, Defines, Induces, Constructs, Says}
-use Rattle.syntax_why.specs.Lexeme.{Word}
-use Rattle.syntax_why.specs.declared.declarations.SymbolWord.{SymbolWord}
-use Rattle.syntax_why.specs.declared.declarations.SymbolWord.TheVariants as word
+use Rattle.elab_parts.specs.tasks.declared.signature.SymbolKind.{SymbolKind}
+use Rattle.elab_parts.specs.tasks.declared.signature.SymbolKind.TheVariants as symbol
+use Rattle.elab_parts.specs.tasks.Task.{SymbolTree, symbol_or, BodyTree, MakesType, Makes, Defines, Induces, Constructs, Says}
+use Rattle.elab_parts.specs.syntax_why.Lexeme.{Word}
+use Rattle.elab_parts.specs.syntax_why.declared.declarations.SymbolWord.{SymbolWord}
+use Rattle.elab_parts.specs.syntax_why.declared.declarations.SymbolWord.TheVariants as word
 use Rattle.valid_tasks.proofs.Words.{same_word}
-use Rattle.clone_elements.specs.declared.left.Abstract.{Abstract}
-use Rattle.clone_elements.specs.declared.left.Abstract.TheVariants as abstract
-use Rattle.clone_elements.specs.Left.{Origin, decl_or, abstract_symbol, symbol_at_place, kind_of_symbol, kind_of_word, kind_of_proposition, kind_of_body, kind_letter, key, key_with, left_key, is_key, place_after, last_place}
+use Rattle.clone_copies.specs.clone_elements.declared.left.Abstract.{Abstract}
+use Rattle.clone_copies.specs.clone_elements.declared.left.Abstract.TheVariants as abstract
+use Rattle.clone_copies.specs.clone_elements.Left.{Origin, decl_or, abstract_symbol, symbol_at_place, kind_of_symbol, kind_of_word, kind_of_proposition, kind_of_body, kind_letter, key, key_with, left_key, is_key, place_after, last_place}
 
 -- the last declaration with a key has it
 module _ (symbols : List SymbolTree) (t : Origin) (x : Word) where

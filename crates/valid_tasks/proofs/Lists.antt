@@ -3,9 +3,9 @@ use Rattle.std.proofs.Common.{◌≡◌, ℕ, ◌||◌, Bool, true, false, List,
 use Rattle.std.specs.Option.{is_some, option_or}
 use Rattle.std.proofs.lemmas.List.Elements.{All-nil, All-cons}
 use Rattle.std.proofs.lemmas.List.Folds.{find-append}
-use Rattle.tasks.specs.Task.{SymbolTree, DeclarationTree}
-use Rattle.tasks.specs.Roles.{is_constructor, is_made_by, maker, role_by}
-use Rattle.tasks.specs.Valid.{IsValidDecl}
+use Rattle.elab_parts.specs.tasks.Task.{SymbolTree, DeclarationTree}
+use Rattle.elab_parts.specs.tasks.Roles.{is_constructor, is_made_by, maker, role_by}
+use Rattle.elab_parts.specs.tasks.Valid.{IsValidDecl}
 use Rattle.valid_tasks.specs.Scopes.{IsSubvocabulary}
 use Rattle.valid_tasks.specs.Lists.{after, AreValidAfter}
 use Rattle.valid_tasks.proofs.Stays.{declaration_stays}

@@ -2,21 +2,21 @@
 use Rattle.std.proofs.Common.{◌≡◌, ◌≢◌, ◌⊎◌, inl, inr, ℕ, ◌+◌, ◌-◌, ◌<◌, ◌≤◌, zero, suc, List, [], ◌∷◌, ◌++◌, map, drop, length, slice_get, All, Option, Some, None, IsTrue, codes, decimal, refl, ap, subst, arith}
 use Rattle.std.specs.List.{Contains}
 use Rattle.std.proofs.lemmas.List.Elements.{All-nil, All-cons, All-append}
-use Rattle.trees.specs.Tree.{Tree}
-use Rattle.tasks.specs.declared.signature.SymbolKind.TheVariants.{Kind, Constructor}
-use Rattle.tasks.specs.Equations.{type_variables}
-use Rattle.tasks.specs.Valid.{own_type}
-use Rattle.tasks.specs.Rigid.{rigid_symbol}
-use Rattle.tasks.specs.Task.{SymbolTree, DefinitionTree, InductiveTree, DeclarationTree, made}
-use Rattle.tasks.specs.Roles.{is_constructor, maker, role_by}
-use Rattle.tasks.proofs.Declared.{contains_step}
-use Rattle.syntax_why.specs.Lexeme.{Word}
-use Rattle.elab_names.specs.Abstract.{TypeExpression}
+use Rattle.elab_parts.specs.trees.Tree.{Tree}
+use Rattle.elab_parts.specs.tasks.declared.signature.SymbolKind.TheVariants.{Kind, Constructor}
+use Rattle.elab_parts.specs.tasks.Equations.{type_variables}
+use Rattle.elab_parts.specs.tasks.Valid.{own_type}
+use Rattle.elab_parts.specs.tasks.Rigid.{rigid_symbol}
+use Rattle.elab_parts.specs.tasks.Task.{SymbolTree, DefinitionTree, InductiveTree, DeclarationTree, made}
+use Rattle.elab_parts.specs.tasks.Roles.{is_constructor, maker, role_by}
+use Rattle.elab_parts.proofs.tasks.Declared.{contains_step}
+use Rattle.elab_parts.specs.syntax_why.Lexeme.{Word}
+use Rattle.elab_parts.specs.elab_names.Abstract.{TypeExpression}
 use Rattle.elab_parts.specs.Entries.{type_entry, projections, constructor_entries, builtin, tuple_in, wanting_tuple, wanting_tuples}
 use Rattle.elab_parts.specs.Declarations.{GroupMember, InductivePredicate}
-use Rattle.elab_members.specs.Members.{SignatureTree, signed_entries, symbol_kind_of}
-use Rattle.elab_groups.specs.Groups.{definitions}
-use Rattle.elab_inductives.specs.Inductives.{induced}
+use Rattle.elab_terms.specs.elab_members.Members.{SignatureTree, signed_entries, symbol_kind_of}
+use Rattle.elab_terms.specs.elab_groups.Groups.{definitions}
+use Rattle.elab_terms.specs.elab_inductives.Inductives.{induced}
 use Rattle.valid_tasks.proofs.Extended.{in_either, slice_all}
 use Rattle.valid_tasks.proofs.Declarations.{below as slice_below}
 

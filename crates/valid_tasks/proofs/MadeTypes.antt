@@ -4,26 +4,26 @@ use Rattle.std.specs.List.{Contains, position_from}
 use Rattle.std.proofs.lemmas.Bool.{cases_lt}
 use Rattle.std.proofs.lemmas.Bool.Decides.{nat_tests}
 use Rattle.std.proofs.lemmas.List.Elements.{All-nil, All-cons, All-append, Contains-append_left, Contains-append_right}
-use Rattle.trees.specs.Tree.{Tree}
-use Rattle.tasks.specs.declared.signature.SymbolKind.TheVariants.{Constructor}
-use Rattle.tasks.specs.Task.{SymbolTree, ConstructorTree, Constructs, DeclarationTree, made, made_by, made_by_cons, made_by_types}
-use Rattle.tasks.specs.Roles.{RoleTree, PlainRole, or_role, projected_as, constructed_as, algebraic_as, is_constructor, is_made_by, maker, role_by}
-use Rattle.tasks.specs.Roles as roles
-use Rattle.tasks.specs.Valid.{own_type}
-use Rattle.tasks.proofs.Declared.{contains_step, any_iff}
-use Rattle.syntax_why.specs.Lexeme.{Word}
-use Rattle.elab_names.specs.Abstract.{count_forms}
-use Rattle.elab_names.specs.Where.{Where}
-use Rattle.elab_walk.specs.Pieces.{types_at}
+use Rattle.elab_parts.specs.trees.Tree.{Tree}
+use Rattle.elab_parts.specs.tasks.declared.signature.SymbolKind.TheVariants.{Constructor}
+use Rattle.elab_parts.specs.tasks.Task.{SymbolTree, ConstructorTree, Constructs, DeclarationTree, made, made_by, made_by_cons, made_by_types}
+use Rattle.elab_parts.specs.tasks.Roles.{RoleTree, PlainRole, or_role, projected_as, constructed_as, algebraic_as, is_constructor, is_made_by, maker, role_by}
+use Rattle.elab_parts.specs.tasks.Roles as roles
+use Rattle.elab_parts.specs.tasks.Valid.{own_type}
+use Rattle.elab_parts.proofs.tasks.Declared.{contains_step, any_iff}
+use Rattle.elab_parts.specs.syntax_why.Lexeme.{Word}
+use Rattle.elab_parts.specs.elab_names.Abstract.{count_forms}
+use Rattle.elab_parts.specs.elab_names.Where.{Where}
+use Rattle.elab_parts.specs.elab_walk.Pieces.{types_at}
 use Rattle.elab_parts.specs.Declarations.{AlgebraicConstructor as ConstructorOf, AlgebraicType, words, with_vars}
 use Rattle.elab_parts.specs.Entries.{projections}
-use Rattle.elab_types.specs.Algebraics.{entry_count, group_count, numbering_from, type_entries, constructor_trees, algebraic_trees, constructors_entries, group_entries}
+use Rattle.elab_terms.specs.elab_types.Algebraics.{entry_count, group_count, numbering_from, type_entries, constructor_trees, algebraic_trees, constructors_entries, group_entries}
 use Rattle.valid_tasks.proofs.Extended.{in_either, slice_all}
 use Rattle.valid_tasks.proofs.Made.{HasFrom, from_step, AreBetween, wider, one_between, no_numbers, AreNew}
-use Rattle.elab_types.proofs.Made.{projections_length as count_projections, cons_length as count_cons}
-use Rattle.trees.proofs.Indices.{eqb_true as equal}
+use Rattle.elab_terms.proofs.elab_types.Made.{projections_length as count_projections, cons_length as count_cons}
+use Rattle.elab_parts.proofs.trees.Indices.{eqb_true as equal}
 use Rattle.valid_tasks.proofs.Declarations.{below as slice_below}
-use Rattle.elab_types.proofs.Counted.{types_length}
+use Rattle.elab_terms.proofs.elab_types.Counted.{types_length}
 
 -- ---- numbers in order
 both_from : (xs ys : List ℕ) (n m a b : ℕ) → m ≡ n + a → HasFrom xs n a → HasFrom ys m b → HasFrom (xs ++ ys) n (a + b)

@@ -4,23 +4,23 @@ use Rattle.std.specs.List.{Contains}
 use Rattle.std.specs.Option.{is_none}
 use Rattle.std.proofs.lemmas.Bool.Decides.{nat_tests}
 use Rattle.std.proofs.lemmas.List.Elements.{All-nil, All-cons, All-head, All-tail, Contains-append_cases}
-use Rattle.trees.specs.Tree.{Tree}
-use Rattle.tasks.specs.declared.signature.SymbolKind.TheVariants.{Kind}
-use Rattle.tasks.specs.Task.{SymbolTree, symbol_or}
-use Rattle.tasks.specs.Vocabulary.{Vocabulary, of_signature, is_empty}
-use Rattle.tasks.specs.Typing.{IsRigid, IsTypeSymbol}
-use Rattle.tasks.specs.Valid.{IsTypeIn}
-use Rattle.syntax_why.specs.Lexeme.{Word}
-use Rattle.syntax_why.specs.Declarations.{Element, type_element, symbol_element, prop_element, all_axioms}
-use Rattle.clones.specs.Mapped.{Map}
-use Rattle.clones.specs.Copies.{entry_copied}
+use Rattle.elab_parts.specs.trees.Tree.{Tree}
+use Rattle.elab_parts.specs.tasks.declared.signature.SymbolKind.TheVariants.{Kind}
+use Rattle.elab_parts.specs.tasks.Task.{SymbolTree, symbol_or}
+use Rattle.elab_parts.specs.tasks.Vocabulary.{Vocabulary, of_signature, is_empty}
+use Rattle.elab_parts.specs.tasks.Typing.{IsRigid, IsTypeSymbol}
+use Rattle.elab_parts.specs.tasks.Valid.{IsTypeIn}
+use Rattle.elab_parts.specs.syntax_why.Lexeme.{Word}
+use Rattle.elab_parts.specs.syntax_why.Declarations.{Element, type_element, symbol_element, prop_element, all_axioms}
+use Rattle.clone_copies.specs.clones.Mapped.{Map}
+use Rattle.clone_copies.specs.clones.Copies.{entry_copied}
 use Rattle.elab_parts.specs.Outcomes.{Setting}
 use Rattle.valid_tasks.specs.Scopes.{IsSubvocabulary}
 use Rattle.valid_tasks.proofs.Extended.{type_more}
 use Rattle.valid_tasks.specs.Valid.{IsTypedSetting}
-use Rattle.clone_elements.specs.Left.{Origin, symbol_at_place, called_text, last_place}
-use Rattle.clone_elements.specs.Rights.{RightTree, type_right, symbol_right, no_right, right_tuples, rights_fault}
-use Rattle.clone_elements.specs.Plans.{SideTree, PlacedFates, no_fates, with_side, fates_of, type_with, type_for, replaced_types, types_replaced, symbol_for, symbols_replaced, kept, clone_map, sides_made}
+use Rattle.clone_copies.specs.clone_elements.Left.{Origin, symbol_at_place, called_text, last_place}
+use Rattle.clone_copies.specs.clone_elements.Rights.{RightTree, type_right, symbol_right, no_right, right_tuples, rights_fault}
+use Rattle.clone_copies.specs.clone_elements.Plans.{SideTree, PlacedFates, no_fates, with_side, fates_of, type_with, type_for, replaced_types, types_replaced, symbol_for, symbols_replaced, kept, clone_map, sides_made}
 use Rattle.valid_tasks.specs.Morphisms.{TypeBecomes, MapsTypes}
 use Rattle.valid_tasks.specs.Sides.{IsTypedRight, IsTypedSide, with_rights, left_sides_at, with_copies}
 use Rattle.valid_tasks.proofs.Numbers.{symbol_of, type_of}

@@ -2,28 +2,28 @@
 use Rattle.std.proofs.Common.{◌≡◌, ℕ, ◌+◌, suc, true, false, List, [], ◌∷◌, ◌++◌, reverse, length, All, Option, Some, None, refl, sym, ap, subst, ◌∙◌, arith, append_assoc}
 use Rattle.std.specs.Option.{is_some, is_none}
 use Rattle.std.proofs.lemmas.List.Elements.{All-nil, All-cons}
-use Rattle.trees.specs.Tree.{Tree}
-use Rattle.trees.specs.Node.{Grows}
-use Rattle.trees.specs.Facts.{IndicesFit}
-use Rattle.trees.proofs.Nodes.{Grows_refl}
-use Rattle.tasks.specs.Equations.{cells, type_variables, bound_variables, for_all, equated}
-use Rattle.tasks.specs.Task.{SymbolTree, symbol_or, DefinitionTree, DeclarationTree}
-use Rattle.tasks.specs.Vocabulary.{Vocabulary, is_empty}
-use Rattle.tasks.specs.Valid.{IsDefinition, IsValidBody, IsValidDecl}
-use Rattle.names_space.specs.Names.{ScopeNames}
-use Rattle.syntax_why.specs.Lexeme.{Word}
-use Rattle.elab_names.specs.Abstract.{TypeExpression, Expression}
-use Rattle.elab_names.specs.Naming.{type_named}
-use Rattle.elab_variables.specs.Seen.{SeenTree, type_seen}
+use Rattle.elab_parts.specs.trees.Tree.{Tree}
+use Rattle.elab_parts.specs.trees.Node.{Grows}
+use Rattle.elab_parts.specs.trees.Facts.{IndicesFit}
+use Rattle.elab_parts.proofs.trees.Nodes.{Grows_refl}
+use Rattle.elab_parts.specs.tasks.Equations.{cells, type_variables, bound_variables, for_all, equated}
+use Rattle.elab_parts.specs.tasks.Task.{SymbolTree, symbol_or, DefinitionTree, DeclarationTree}
+use Rattle.elab_parts.specs.tasks.Vocabulary.{Vocabulary, is_empty}
+use Rattle.elab_parts.specs.tasks.Valid.{IsDefinition, IsValidBody, IsValidDecl}
+use Rattle.elab_parts.specs.names_space.Names.{ScopeNames}
+use Rattle.elab_parts.specs.syntax_why.Lexeme.{Word}
+use Rattle.elab_parts.specs.elab_names.Abstract.{TypeExpression, Expression}
+use Rattle.elab_parts.specs.elab_names.Naming.{type_named}
+use Rattle.elab_parts.specs.elab_variables.Seen.{SeenTree, type_seen}
 use Rattle.elab_parts.specs.Elaborated.{unseen}
 use Rattle.elab_parts.specs.Declarations.{GroupMember, params_seen}
 use Rattle.elab_parts.specs.Outcomes.{Setting, Outcome}
-use Rattle.elab_members.specs.Members.{SignatureTree, signed_entries, with_members, symbol_kind_of, body_seen, members_seen}
-use Rattle.elab_members.specs.Sources.{AreResolved}
-use Rattle.elab_members.proofs.MembersNamed.{members_types}
-use Rattle.elab_members.proofs.MembersScoped.{members_resolved}
-use Rattle.elab_groups.specs.Bodies.{AreDefined, AllHaveBodies}
-use Rattle.elab_groups.specs.Groups.{inner_equation, definitions, group_body, group_decls, group_tuples, group_signatures, group_used, IsGroup}
+use Rattle.elab_terms.specs.elab_members.Members.{SignatureTree, signed_entries, with_members, symbol_kind_of, body_seen, members_seen}
+use Rattle.elab_terms.specs.elab_members.Sources.{AreResolved}
+use Rattle.elab_terms.proofs.elab_members.MembersNamed.{members_types}
+use Rattle.elab_terms.proofs.elab_members.MembersScoped.{members_resolved}
+use Rattle.elab_terms.specs.elab_groups.Bodies.{AreDefined, AllHaveBodies}
+use Rattle.elab_terms.specs.elab_groups.Groups.{inner_equation, definitions, group_body, group_decls, group_tuples, group_signatures, group_used, IsGroup}
 use Rattle.valid_tasks.specs.Typed.{IsTypedIn, ArePatterns}
 use Rattle.valid_tasks.specs.Signature.{with_entries}
 use Rattle.valid_tasks.specs.Scopes.{NamesNew, IsTypedSignature, AreTypedScopes}

@@ -1,12 +1,12 @@
 -- A declaration that is valid over a vocabulary is valid over another one with the same entries, which may name all of it.
 use Rattle.std.proofs.Common.{◌≡◌, ℕ, ◌<◌, suc, List, [], ◌∷◌, ◌++◌, map, length, get_or, slice_get, All, Option, Some, None, IfSome, IsSomeAnd, sym, ap, subst, ◌∙◌, arith}
-use Rattle.trees.specs.Tree.{Tree, Leaf, One, Two, Three, Head, HTyRigid, HTyApp, HPred, HFun, HPatCon}
-use Rattle.tasks.specs.Task.{SymbolTree, symbol_or, DefinitionTree, InductiveTree, ConstructorTree, AlgebraicTree, BodyTree, MakesType, Makes, Defines, Induces, Constructs, Says, DeclarationTree}
-use Rattle.tasks.specs.Equations.{cells, type_variables, IsEquationOf}
-use Rattle.tasks.specs.Clauses.{IsClauseOf}
-use Rattle.tasks.specs.Vocabulary.{Vocabulary}
-use Rattle.tasks.specs.Typing.{LeafTyped, OneTyped, TwoTyped, ThreeTyped, TypedUnder, bound_types}
-use Rattle.tasks.specs.Valid.{IsTypeIn, HasTypes, IsFormulaOver, IsTypeEntry, IsSignatureOf, IsDefinition, IsInductive, IsProjectionOf, AreProjections, IsConstructorOf, IsAlgebraic, IsValidBody, IsValidDecl}
+use Rattle.elab_parts.specs.trees.Tree.{Tree, Leaf, One, Two, Three, Head, HTyRigid, HTyApp, HPred, HFun, HPatCon}
+use Rattle.elab_parts.specs.tasks.Task.{SymbolTree, symbol_or, DefinitionTree, InductiveTree, ConstructorTree, AlgebraicTree, BodyTree, MakesType, Makes, Defines, Induces, Constructs, Says, DeclarationTree}
+use Rattle.elab_parts.specs.tasks.Equations.{cells, type_variables, IsEquationOf}
+use Rattle.elab_parts.specs.tasks.Clauses.{IsClauseOf}
+use Rattle.elab_parts.specs.tasks.Vocabulary.{Vocabulary}
+use Rattle.elab_parts.specs.tasks.Typing.{LeafTyped, OneTyped, TwoTyped, ThreeTyped, TypedUnder, bound_types}
+use Rattle.elab_parts.specs.tasks.Valid.{IsTypeIn, HasTypes, IsFormulaOver, IsTypeEntry, IsSignatureOf, IsDefinition, IsInductive, IsProjectionOf, AreProjections, IsConstructorOf, IsAlgebraic, IsValidBody, IsValidDecl}
 use Rattle.valid_tasks.specs.Named.{LeafNames, OneNames, TwoNames, ThreeNames, TreeNames, NumberNames, DefinitionNames, InductiveNames, ConNames, AlgebraicNames, BodyNames, DeclNames}
 
 module _ (v w : Vocabulary) (same : v.symbols ≡ w.symbols) where

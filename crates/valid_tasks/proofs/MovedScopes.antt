@@ -1,16 +1,16 @@
 -- Scopes after moves: each name stands for a thing of its table.
 use Rattle.std.proofs.Common.{ℕ, Bool, true, false, nat_lt, if◌then◌else◌, List, [], ◌∷◌, length, get_or, All, Option, Some, None, arith}
 use Rattle.std.proofs.lemmas.List.Elements.{All-nil, All-cons, All-head, All-tail, All-append}
-use Rattle.trees.specs.Tree.{Tree}
-use Rattle.trees.specs.Node.{Grows}
-use Rattle.tasks.specs.Vocabulary.{Vocabulary}
-use Rattle.names_space.specs.Names.{ScopeNames, ScopeEntry, with_name, with_entry, with_scope, closed}
-use Rattle.names_space.specs.declared.Table.{Table}
-use Rattle.names_space.specs.declared.Table.TheVariants.{Scopes}
-use Rattle.names_space.specs.declared.TypeName.{TypeName}
-use Rattle.names_space.specs.declared.TypeName.TheVariants as stands
-use Rattle.syntax_why.specs.declared.declarations.Link.{Link}
-use Rattle.syntax_why.specs.declared.declarations.Link.TheVariants.{Bare, Import, Export}
+use Rattle.elab_parts.specs.trees.Tree.{Tree}
+use Rattle.elab_parts.specs.trees.Node.{Grows}
+use Rattle.elab_parts.specs.tasks.Vocabulary.{Vocabulary}
+use Rattle.elab_parts.specs.names_space.Names.{ScopeNames, ScopeEntry, with_name, with_entry, with_scope, closed}
+use Rattle.elab_parts.specs.names_space.declared.Table.{Table}
+use Rattle.elab_parts.specs.names_space.declared.Table.TheVariants.{Scopes}
+use Rattle.elab_parts.specs.names_space.declared.TypeName.{TypeName}
+use Rattle.elab_parts.specs.names_space.declared.TypeName.TheVariants as stands
+use Rattle.elab_parts.specs.syntax_why.declared.declarations.Link.{Link}
+use Rattle.elab_parts.specs.syntax_why.declared.declarations.Link.TheVariants.{Bare, Import, Export}
 use Rattle.theory_states.specs.declared.moves.Move.{Move}
 use Rattle.theory_states.specs.declared.moves.Move.TheVariants.{Brings, Opens, Closes}
 use Rattle.theory_states.specs.Moves.{left, moved, replayed, name_or, in_scope, brought, handed}

@@ -1,15 +1,15 @@
 -- The names that a clone brings stand for things of their tables under a morphism.
 use Rattle.std.proofs.Common.{◌≡◌, ℕ, ◌<◌, List, length, get_or, All, Option, Some, None, refl, sym, subst, arith}
-use Rattle.trees.specs.Tree.{Tree}
-use Rattle.tasks.specs.Task.{symbol_or}
-use Rattle.tasks.specs.Vocabulary.{Vocabulary}
-use Rattle.names_space.specs.declared.Table.{Table}
-use Rattle.names_space.specs.declared.Table.TheVariants.{Types, Symbols, Propositions, Scopes}
-use Rattle.names_space.specs.declared.TypeName.{TypeName}
-use Rattle.names_space.specs.declared.TypeName.TheVariants as stands
+use Rattle.elab_parts.specs.trees.Tree.{Tree}
+use Rattle.elab_parts.specs.tasks.Task.{symbol_or}
+use Rattle.elab_parts.specs.tasks.Vocabulary.{Vocabulary}
+use Rattle.elab_parts.specs.names_space.declared.Table.{Table}
+use Rattle.elab_parts.specs.names_space.declared.Table.TheVariants.{Types, Symbols, Propositions, Scopes}
+use Rattle.elab_parts.specs.names_space.declared.TypeName.{TypeName}
+use Rattle.elab_parts.specs.names_space.declared.TypeName.TheVariants as stands
 use Rattle.theory_states.specs.declared.moves.Move.{Move}
 use Rattle.theory_states.specs.declared.moves.Move.TheVariants.{Brings, Opens, Closes}
-use Rattle.clones.specs.Mapped.{Map}
+use Rattle.clone_copies.specs.clones.Mapped.{Map}
 use Rattle.valid_tasks.specs.Scopes.{IsTypeName, IsTypedThing}
 use Rattle.valid_tasks.specs.Moves.{IsTypedMove, AreTypedMoves}
 use Rattle.valid_tasks.specs.Morphisms.{IsMorphism}

@@ -4,11 +4,11 @@ use Rattle.std.specs.List.{flat_map}
 use Rattle.std.proofs.lemmas.List.Elements.{All-nil, All-cons}
 use Rattle.std.proofs.lemmas.List.Folds.{list_any-append}
 use Rattle.std.proofs.lemmas.List.Concat.{flat_map-append}
-use Rattle.trees.specs.Tree.{Tree, Leaf, One, Two, Three, Head, HTyRigid, HTyApp, HPred, HFun, HPatCon}
-use Rattle.tasks.specs.Task.{SymbolTree, symbol_or, DefinitionTree, InductiveTree, ConstructorTree, AlgebraicTree, BodyTree, MakesType, Makes, Defines, Induces, Constructs, Says, DeclarationTree, made_by, made_by_cons, made_by_types}
-use Rattle.tasks.specs.Vocabulary.{Vocabulary}
-use Rattle.tasks.specs.Typing.{LeafTyped, OneTyped, TwoTyped, ThreeTyped, TypedUnder, bound_types}
-use Rattle.tasks.specs.Valid.{IsTypeIn, HasTypes, IsFormulaOver, IsDefinition, IsInductive, AreProjections, IsConstructorOf, IsAlgebraic, IsValidBody, IsValidDecl}
+use Rattle.elab_parts.specs.trees.Tree.{Tree, Leaf, One, Two, Three, Head, HTyRigid, HTyApp, HPred, HFun, HPatCon}
+use Rattle.elab_parts.specs.tasks.Task.{SymbolTree, symbol_or, DefinitionTree, InductiveTree, ConstructorTree, AlgebraicTree, BodyTree, MakesType, Makes, Defines, Induces, Constructs, Says, DeclarationTree, made_by, made_by_cons, made_by_types}
+use Rattle.elab_parts.specs.tasks.Vocabulary.{Vocabulary}
+use Rattle.elab_parts.specs.tasks.Typing.{LeafTyped, OneTyped, TwoTyped, ThreeTyped, TypedUnder, bound_types}
+use Rattle.elab_parts.specs.tasks.Valid.{IsTypeIn, HasTypes, IsFormulaOver, IsDefinition, IsInductive, AreProjections, IsConstructorOf, IsAlgebraic, IsValidBody, IsValidDecl}
 use Rattle.goal_tasks.specs.Named.{head_named, named, all_named, option_named, signature_named, signatures_named, formulas_of, body_named, is_among}
 use Rattle.valid_tasks.specs.Named.{LeafNames, OneNames, TwoNames, ThreeNames, TreeNames, EntryNames, NumberNames, DefinitionNames, InductiveNames, ConNames, AlgebraicNames, BodyNames}
 use Rattle.valid_tasks.proofs.Moved.{declaration_moves, formula_moved}

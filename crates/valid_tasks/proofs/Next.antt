@@ -2,15 +2,15 @@
 use Rattle.std.proofs.Common.{◌≡◌, ℕ, ◌<◌, List, [], ◌++◌, length, get_or, All, Some, sym, ap, subst, ◌∙◌, arith}
 use Rattle.std.specs.List.{Contains}
 use Rattle.std.proofs.lemmas.List.Elements.{All-append, All-contains, Contains-get_or}
-use Rattle.trees.specs.Tree.{Tree}
-use Rattle.trees.specs.Sorts.{WellSorted}
-use Rattle.trees.specs.Node.{tree_at, Grows, Holds}
-use Rattle.trees.specs.declared.TermId.{TermId}
-use Rattle.tasks.specs.Task.{SymbolTree, symbol_or, DeclarationTree, made, made_by}
-use Rattle.tasks.specs.Meaning.{symbols_at, declarations_at, DeclHeld}
-use Rattle.tasks.specs.declared.signature.Signature.{Signature}
-use Rattle.names_space.specs.Names.{ScopeNames}
-use Rattle.syntax_why.specs.Declarations as source
+use Rattle.elab_parts.specs.trees.Tree.{Tree}
+use Rattle.elab_parts.specs.trees.Sorts.{WellSorted}
+use Rattle.elab_parts.specs.trees.Node.{tree_at, Grows, Holds}
+use Rattle.elab_parts.specs.trees.declared.TermId.{TermId}
+use Rattle.elab_parts.specs.tasks.Task.{SymbolTree, symbol_or, DeclarationTree, made, made_by}
+use Rattle.elab_parts.specs.tasks.Meaning.{symbols_at, declarations_at, DeclHeld}
+use Rattle.elab_parts.specs.tasks.declared.signature.Signature.{Signature}
+use Rattle.elab_parts.specs.names_space.Names.{ScopeNames}
+use Rattle.elab_parts.specs.syntax_why.Declarations as source
 use Rattle.elab_parts.specs.declared.made.Elaborated.{Elaborated}
 use Rattle.elab_parts.specs.Declarations.{Declaration, declaration}
 use Rattle.elab_parts.specs.Outcomes.{Setting}

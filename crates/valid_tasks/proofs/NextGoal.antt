@@ -2,24 +2,24 @@
 use Rattle.std.proofs.Common.{◌≡◌, ℕ, ◌+◌, ◌<◌, ◌≤◌, ◌==◌, suc, true, false, List, [], ◌∷◌, ◌++◌, map, length, get_or, All, Some, IsTrue, refl, sym, ap, subst, ◌∙◌, arith, length-append, append_assoc}
 use Rattle.std.specs.List.{list_any}
 use Rattle.std.proofs.lemmas.List.Elements.{All-nil, All-cons}
-use Rattle.trees.specs.Tree.{Tree, Leaf, One, Two, Three, Head, HTyVar, HTyRigid}
-use Rattle.trees.specs.Binding.{inst_types}
-use Rattle.trees.specs.declared.TermId.{TermId}
-use Rattle.trees.specs.Node.{Grows, Holds, tree_at}
-use Rattle.trees.specs.Sorts.{WellSorted}
-use Rattle.tasks.specs.declared.signature.Signature.{Signature}
-use Rattle.tasks.specs.Rigid.{rigid_symbol}
-use Rattle.tasks.specs.Task.{SymbolTree, Says, DeclarationTree, made}
-use Rattle.tasks.specs.Meaning.{symbols_at, declarations_at, DeclHeld}
-use Rattle.tasks.specs.Vocabulary.{Vocabulary}
-use Rattle.tasks.specs.Typing.{IsRigid}
-use Rattle.tasks.specs.Valid.{LeafBelow, VariablesBelow, IsFormulaOver, IsTypeIn, IsValidBody, IsValidDecl, IsQuoted}
-use Rattle.names_space.specs.Names.{ScopeNames}
-use Rattle.syntax_why.specs.Lexeme.{Word}
-use Rattle.syntax_why.specs.declared.declarations.PropKind.{PropKind}
-use Rattle.syntax_why.specs.declared.declarations.PropKind.TheVariants as kind
-use Rattle.syntax_why.specs.Declarations as source
-use Rattle.elab_names.specs.Abstract.{Expression}
+use Rattle.elab_parts.specs.trees.Tree.{Tree, Leaf, One, Two, Three, Head, HTyVar, HTyRigid}
+use Rattle.elab_parts.specs.trees.Binding.{inst_types}
+use Rattle.elab_parts.specs.trees.declared.TermId.{TermId}
+use Rattle.elab_parts.specs.trees.Node.{Grows, Holds, tree_at}
+use Rattle.elab_parts.specs.trees.Sorts.{WellSorted}
+use Rattle.elab_parts.specs.tasks.declared.signature.Signature.{Signature}
+use Rattle.elab_parts.specs.tasks.Rigid.{rigid_symbol}
+use Rattle.elab_parts.specs.tasks.Task.{SymbolTree, Says, DeclarationTree, made}
+use Rattle.elab_parts.specs.tasks.Meaning.{symbols_at, declarations_at, DeclHeld}
+use Rattle.elab_parts.specs.tasks.Vocabulary.{Vocabulary}
+use Rattle.elab_parts.specs.tasks.Typing.{IsRigid}
+use Rattle.elab_parts.specs.tasks.Valid.{LeafBelow, VariablesBelow, IsFormulaOver, IsTypeIn, IsValidBody, IsValidDecl, IsQuoted}
+use Rattle.elab_parts.specs.names_space.Names.{ScopeNames}
+use Rattle.elab_parts.specs.syntax_why.Lexeme.{Word}
+use Rattle.elab_parts.specs.syntax_why.declared.declarations.PropKind.{PropKind}
+use Rattle.elab_parts.specs.syntax_why.declared.declarations.PropKind.TheVariants as kind
+use Rattle.elab_parts.specs.syntax_why.Declarations as source
+use Rattle.elab_parts.specs.elab_names.Abstract.{Expression}
 use Rattle.elab_parts.specs.declared.made.Elaborated.{Elaborated}
 use Rattle.elab_parts.specs.Declarations.{TokenName, proposition_declaration, declaration}
 use Rattle.elab_parts.specs.Outcomes.{Setting, tuples_wanting}

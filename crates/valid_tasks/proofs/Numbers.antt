@@ -2,10 +2,10 @@
 use Rattle.std.proofs.Common.{◌≡◌, ℕ, ◌+◌, ◌==◌, if◌then◌else◌, suc, Bool, true, false, List, [], ◌∷◌, slice_get, Some, IfSome, refl, subst, arith}
 use Rattle.std.specs.List.{Contains}
 use Rattle.std.proofs.lemmas.Bool.Decides.{nat_tests}
-use Rattle.trees.specs.Tree.{Tree}
-use Rattle.clones.specs.Mapped.{Map}
-use Rattle.clone_elements.specs.Plans.{same_map, with_symbol, with_type, with_numbers, with_symbols, with_mapped_types, map_of}
-use Rattle.plain_laws.proofs.Bools.{same_number}
+use Rattle.elab_parts.specs.trees.Tree.{Tree}
+use Rattle.clone_copies.specs.clones.Mapped.{Map}
+use Rattle.clone_copies.specs.clone_elements.Plans.{same_map, with_symbol, with_type, with_numbers, with_symbols, with_mapped_types, map_of}
+use Rattle.elab_parts.proofs.plain_laws.Bools.{same_number}
 
 here : {X : Type 0} (x : X) (xs : List X) → Contains (x ∷ xs) x
 here x xs = (0, omega arith, refl)

@@ -4,28 +4,28 @@ use Rattle.std.specs.List.{Contains}
 use Rattle.std.proofs.Math.ListN.{length-map}
 use Rattle.std.proofs.lemmas.List.{get_or-append_right}
 use Rattle.std.proofs.lemmas.List.Elements.{All-nil, All-cons, All-append, All-contains, All-get_or, Contains-append_cases}
-use Rattle.trees.specs.Tree.{Tree}
-use Rattle.tasks.specs.Task.{SymbolTree, symbol_or, int_symbol, DefinitionTree, InductiveTree, DeclarationTree, made, made_by, made_by_cons, made_by_types}
-use Rattle.tasks.proofs.Declared.{none_in, contains_cases}
-use Rattle.elab_names.specs.Abstract.{Expression, count_forms}
-use Rattle.elab_names.specs.Where.{Where}
-use Rattle.elab_walk.specs.Pieces.{types_at}
+use Rattle.elab_parts.specs.trees.Tree.{Tree}
+use Rattle.elab_parts.specs.tasks.Task.{SymbolTree, symbol_or, int_symbol, DefinitionTree, InductiveTree, DeclarationTree, made, made_by, made_by_cons, made_by_types}
+use Rattle.elab_parts.proofs.tasks.Declared.{none_in, contains_cases}
+use Rattle.elab_parts.specs.elab_names.Abstract.{Expression, count_forms}
+use Rattle.elab_parts.specs.elab_names.Where.{Where}
+use Rattle.elab_parts.specs.elab_walk.Pieces.{types_at}
 use Rattle.elab_parts.specs.Entries.{type_entry}
 use Rattle.elab_parts.specs.Declarations.{TokenName, AlgebraicConstructor, GroupMember, AlgebraicType, InductivePredicate, Declaration, abstract_type, alias, algebraic, member_group, inductive, proposition_declaration, words, with_vars}
 use Rattle.elab_parts.specs.Outcomes.{Setting, Outcome, over, full_name, tuples_wanting}
 use Rattle.elab_parts.specs.Elaborated.{unseen}
-use Rattle.elab_members.specs.Members.{SignatureTree, signed_entries, signature_trees}
-use Rattle.elab_groups.specs.Groups.{definitions, group_body, group_tuples, before_group, group_signatures, IsGroup}
-use Rattle.elab_inductives.specs.Inductives.{as_member, as_members, inductives_seen, before_inductives, induced, IsInductiveGroup}
-use Rattle.elab_types.specs.Algebraics.{entry_count, group_seen, first_type, first_constructor, numbering_from, type_entries, constructor_trees, algebraic_trees, group_trees, group_entries, group_outcome}
-use Rattle.elab_types.specs.Algebraics as group
+use Rattle.elab_terms.specs.elab_members.Members.{SignatureTree, signed_entries, signature_trees}
+use Rattle.elab_terms.specs.elab_groups.Groups.{definitions, group_body, group_tuples, before_group, group_signatures, IsGroup}
+use Rattle.elab_terms.specs.elab_inductives.Inductives.{as_member, as_members, inductives_seen, before_inductives, induced, IsInductiveGroup}
+use Rattle.elab_terms.specs.elab_types.Algebraics.{entry_count, group_seen, first_type, first_constructor, numbering_from, type_entries, constructor_trees, algebraic_trees, group_trees, group_entries, group_outcome}
+use Rattle.elab_terms.specs.elab_types.Algebraics as group
 use Rattle.elab_terms.specs.Outcomes.{type_outcome, IsOutcome}
 use Rattle.valid_tasks.proofs.Standing.{count_signed}
 use Rattle.valid_tasks.proofs.Made.{AreBetween, wider, one_between, no_numbers, signed_length, defined_between, induced_between}
 use Rattle.valid_tasks.proofs.MadeTypes.{numbers_between, cons_between, group_between, group_length, count_types}
 use Rattle.valid_tasks.proofs.Distinct.{IsDistinct, distinct_both}
 use Rattle.valid_tasks.proofs.TaskOutcomes.{OfTheory, signed_of, types_of, group_of}
-use Rattle.elab_types.proofs.Counted.{types_length}
+use Rattle.elab_terms.proofs.elab_types.Counted.{types_length}
 
 -- ---- numbers that follow one another
 between_at : (n m : ℕ) (ks : List ℕ) (k : ℕ) → AreBetween n m ks → Contains ks k → (n ≤ k) × (k < m)

@@ -1,13 +1,13 @@
 -- Declarations of other theories, which a map leaves as they are: what they make may be named where they are.
 use Rattle.std.proofs.Common.{◌≡◌, ◌≢◌, ◌⊎◌, inl, inr, ℕ, Bool, true, false, List, [], ◌∷◌, ◌++◌, map, length, slice_get, All, Contains, Option, Some, None, IfSome, option_map, IsSomeAnd, IsTrue, refl, sym, ap, subst, ◌∙◌, arith}
 use Rattle.std.proofs.lemmas.List.Elements.{All-tail, All-head}
-use Rattle.trees.specs.Tree.{Tree, Leaf, One, Two, Three, HTyApp, HEnd, HCell}
-use Rattle.tasks.specs.declared.signature.SymbolKind.TheVariants.{Kind, Constructor}
-use Rattle.tasks.specs.Task.{SymbolTree, int_symbol, DeclarationTree, made}
-use Rattle.tasks.specs.Vocabulary.{Vocabulary, passes}
-use Rattle.tasks.specs.Typing.{members, entry, IsTypeSymbol}
-use Rattle.tasks.specs.Valid.{HasTypes, IsTypeIn}
-use Rattle.clones.specs.Mapped.{Map, type_mapped, mapped}
+use Rattle.elab_parts.specs.trees.Tree.{Tree, Leaf, One, Two, Three, HTyApp, HEnd, HCell}
+use Rattle.elab_parts.specs.tasks.declared.signature.SymbolKind.TheVariants.{Kind, Constructor}
+use Rattle.elab_parts.specs.tasks.Task.{SymbolTree, int_symbol, DeclarationTree, made}
+use Rattle.elab_parts.specs.tasks.Vocabulary.{Vocabulary, passes}
+use Rattle.elab_parts.specs.tasks.Typing.{members, entry, IsTypeSymbol}
+use Rattle.elab_parts.specs.tasks.Valid.{HasTypes, IsTypeIn}
+use Rattle.clone_copies.specs.clones.Mapped.{Map, type_mapped, mapped}
 use Rattle.valid_tasks.specs.Scopes.{IsSubvocabulary}
 use Rattle.valid_tasks.proofs.Over.{IsOver, type_over}
 use Rattle.valid_tasks.specs.Lists.{is_built, after}

@@ -1,24 +1,24 @@
 -- What each kind of declaration makes: every new entry is of a tuple, a rigid type variable, or made by the declaration.
 use Rattle.std.proofs.Common.{◌≡◌, inr, ℕ, ◌+◌, ◌≤◌, zero, suc, List, [], ◌∷◌, ◌++◌, map, length, Option, Some, None, refl, sym, ap, ◌∙◌, arith, length-append, append-nil}
 use Rattle.std.proofs.Math.ListN.{length-map}
-use Rattle.trees.specs.Tree.{Tree}
-use Rattle.tasks.specs.Rigid.{rigid_symbol}
-use Rattle.tasks.specs.Task.{SymbolTree, InductiveTree, Constructs, DeclarationTree, made, made_by, made_by_types}
-use Rattle.unify_types.specs.Assigned.{assign}
-use Rattle.syntax_why.specs.Lexeme.{Word}
-use Rattle.syntax_why.specs.declared.declarations.PropKind.{PropKind}
-use Rattle.elab_names.specs.Abstract.{TypeExpression, Expression}
-use Rattle.elab_names.specs.Where.{Where}
-use Rattle.elab_walk.specs.Pieces.{unknown_after}
+use Rattle.elab_parts.specs.trees.Tree.{Tree}
+use Rattle.elab_parts.specs.tasks.Rigid.{rigid_symbol}
+use Rattle.elab_parts.specs.tasks.Task.{SymbolTree, InductiveTree, Constructs, DeclarationTree, made, made_by, made_by_types}
+use Rattle.elab_parts.specs.unify_types.Assigned.{assign}
+use Rattle.elab_parts.specs.syntax_why.Lexeme.{Word}
+use Rattle.elab_parts.specs.syntax_why.declared.declarations.PropKind.{PropKind}
+use Rattle.elab_parts.specs.elab_names.Abstract.{TypeExpression, Expression}
+use Rattle.elab_parts.specs.elab_names.Where.{Where}
+use Rattle.elab_parts.specs.elab_walk.Pieces.{unknown_after}
 use Rattle.elab_parts.specs.Entries.{type_entry}
 use Rattle.elab_parts.specs.Declarations.{TokenName, GroupMember, AlgebraicType, InductivePredicate, Declaration, abstract_type, alias, algebraic, member_group, inductive, proposition_declaration}
 use Rattle.elab_parts.specs.Outcomes.{Setting, Outcome, over, full_name, tuples_wanting}
 use Rattle.elab_parts.specs.Elaborated.{unseen}
-use Rattle.elab_members.specs.Members.{SignatureTree, signed_entries, signature_trees, members_seen}
-use Rattle.elab_groups.specs.Groups.{member_piece, member_pieces, most_variables, pieces_trees, BodiesSolved, group_body, group_tuples, before_group, group_signatures, within_group, IsGroup}
-use Rattle.elab_inductives.specs.Inductives.{as_member, as_members, inductives_seen, before_inductives, induced, IsInductiveGroup}
-use Rattle.elab_types.specs.Algebraics.{group_seen, first_type, first_constructor, type_entries, group_trees, group_entries, group_outcome}
-use Rattle.elab_types.specs.Algebraics as group
+use Rattle.elab_terms.specs.elab_members.Members.{SignatureTree, signed_entries, signature_trees, members_seen}
+use Rattle.elab_terms.specs.elab_groups.Groups.{member_piece, member_pieces, most_variables, pieces_trees, BodiesSolved, group_body, group_tuples, before_group, group_signatures, within_group, IsGroup}
+use Rattle.elab_terms.specs.elab_inductives.Inductives.{as_member, as_members, inductives_seen, before_inductives, induced, IsInductiveGroup}
+use Rattle.elab_terms.specs.elab_types.Algebraics.{group_seen, first_type, first_constructor, type_entries, group_trees, group_entries, group_outcome}
+use Rattle.elab_terms.specs.elab_types.Algebraics as group
 use Rattle.elab_terms.specs.Outcomes.{type_outcome, alias_seen, IsAlias, proposition_seen, rigid_names, IsProposition, IsOutcome}
 use Rattle.valid_tasks.proofs.Standing.{count_signed}
 use Rattle.valid_tasks.proofs.Made.{HasFrom, AreBetween, wider, no_numbers, one_between, AreNew, both_new, none_new, tuples_new, rigids_new, signed_new, signed_length, defined_from, induced_from, defined_between, induced_between}

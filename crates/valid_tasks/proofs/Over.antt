@@ -1,17 +1,17 @@
 -- Types over a vocabulary, by their shape: what they are at assigned unknowns and at the types of a use.
 use Rattle.std.proofs.Common.{◌≡◌, ◌≢◌, ℕ, suc, Bool, true, false, cond, nat_lt, List, [], ◌∷◌, ◌++◌, length, Some, inl, inr, refl, sym, ap, subst, ◌∙◌}
-use Rattle.trees.specs.declared.Sort.{Sort}
-use Rattle.trees.specs.declared.Sort.TheVariants.{Kind}
-use Rattle.trees.specs.declared.Sort.TheVariants as sorts
-use Rattle.trees.specs.Tree.{Tree, Leaf, One, Two, Three, Head, HTyVar, HTyRigid, HTyApp, HEnd, HCell}
-use Rattle.trees.specs.Sorts.{sort_of, first_sort, IsList, IsListOf}
-use Rattle.tasks.specs.Equations.{cells}
-use Rattle.tasks.specs.Vocabulary.{Vocabulary}
-use Rattle.tasks.specs.Typing.{members, IsRigid, IsTypeSymbol, bound_types, TypedUnder}
-use Rattle.tasks.specs.Valid.{IsTypeIn, ParametersOf}
-use Rattle.tasks.proofs.Closing.{typed_sorted}
-use Rattle.unify_types.specs.Assigned.{Variable, assign, IsTypeOrTypes}
-use Rattle.unify_types.proofs.SortedTypes.{kind_is_type}
+use Rattle.elab_parts.specs.trees.declared.Sort.{Sort}
+use Rattle.elab_parts.specs.trees.declared.Sort.TheVariants.{Kind}
+use Rattle.elab_parts.specs.trees.declared.Sort.TheVariants as sorts
+use Rattle.elab_parts.specs.trees.Tree.{Tree, Leaf, One, Two, Three, Head, HTyVar, HTyRigid, HTyApp, HEnd, HCell}
+use Rattle.elab_parts.specs.trees.Sorts.{sort_of, first_sort, IsList, IsListOf}
+use Rattle.elab_parts.specs.tasks.Equations.{cells}
+use Rattle.elab_parts.specs.tasks.Vocabulary.{Vocabulary}
+use Rattle.elab_parts.specs.tasks.Typing.{members, IsRigid, IsTypeSymbol, bound_types, TypedUnder}
+use Rattle.elab_parts.specs.tasks.Valid.{IsTypeIn, ParametersOf}
+use Rattle.elab_parts.proofs.tasks.Closing.{typed_sorted}
+use Rattle.elab_parts.specs.unify_types.Assigned.{Variable, assign, IsTypeOrTypes}
+use Rattle.elab_parts.proofs.unify_types.SortedTypes.{kind_is_type}
 
 abbrev pub leaf_over : Vocabulary → Bool → Head → Type 0
 leaf_over v true (HTyVar j) = Unit {0}

@@ -5,24 +5,24 @@ use Rattle.std.specs.List.{AllByRecursion}
 use Rattle.std.specs.Str.{bytes_eq}
 use Rattle.std.proofs.lemmas.List.Elements.{recursion_from_All}
 use mathlib.Core.List.{reverse-cons}
-use Rattle.trees.specs.Tree.{Tree, Leaf, One, Two, Three, Head, HTyVar, HBound, HParam, HEnd, HCell, binders_over}
-use Rattle.trees.specs.Binding.{change, leaf_by, one_by, typing, TyVar}
-use Rattle.trees.specs.Facts.{TyVarsBelow, leaf_below}
-use Rattle.tasks.specs.Task.{SymbolTree}
-use Rattle.tasks.specs.Equations.{cells, type_variables}
-use Rattle.syntax_why.specs.Lexeme.{Word}
-use Rattle.elab_names.specs.Abstract.{TypeExpression, Pattern, Patterns, wildcard_pattern, variable_pattern, constructor_pattern, tuple_pattern, alias_pattern, no_patterns, more_patterns, Alternatives, no_alternatives, more_alternatives, BoundNames, Expression, Expressions, MatchBranches, applied_expression, infix_expression, integer_expression, true_expression, false_expression, tuple_expression, cast_expression, not_expression, connected_expression, equality_expression, if_expression, let_expression, match_expression, quantified_expression, no_expressions, more_expressions, no_branches, more_branches, count_patterns, count_expressions}
-use Rattle.elab_names.specs.declared.NamingFault.TheVariants.{WrongKind}
-use Rattle.elab_names.specs.Faults.{first_of, fault_if, form_fault, type_fault, name_fault, binders_fault, bound_names, alternatives_fault, alternatives_names, is_formula_trigger, token, fault, faults, triggers_fault, branches_fault}
-use Rattle.elab_names.specs.Where.{Where}
-use Rattle.elab_walk.specs.Patterns.{noted, no_notes, follow, taken, LocalTree, local, local_type, variable_equations, at_unknowns, result_or_int, first_or_int, rest_of, NumberedEntry, entry_of, Matched, part_types, constructed_by, pattern_piece, patterns_piece, later_pieces, alternatives_pieces, all_notes, first_variables, reordering, places_among, later_arms, arms}
-use Rattle.elab_walk.specs.Pieces.{type_at, NotedTree, unknown_after, unknown, noted_before, wanting, piece, pieces, triggers_notes, branches_arms, Arms, Use, Local', Symbol', variable_named, found_local, use_or, use_of_name, tuple_use, symbol_at_types, used_piece, use_vars, parameters, equality, untyped, locals_of_type, binder_locals, binder_vars, binders_vars, quantify, names}
-use Rattle.elab_walk.specs.Pieces as pieces_of
-use Rattle.elab_walk.specs.Scoped.{IsScoped, IsScopedEntry}
-use Rattle.elab_walk.proofs.Below.{both_all, symbol_scoped, form_below}
-use Rattle.elab_walk.proofs.Noting.{count_replicate}
-use Rattle.elab_walk.proofs.Walking.{none_both}
-use Rattle.elab_walk.proofs.Branching.{in_cases}
+use Rattle.elab_parts.specs.trees.Tree.{Tree, Leaf, One, Two, Three, Head, HTyVar, HBound, HParam, HEnd, HCell, binders_over}
+use Rattle.elab_parts.specs.trees.Binding.{change, leaf_by, one_by, typing, TyVar}
+use Rattle.elab_parts.specs.trees.Facts.{TyVarsBelow, leaf_below}
+use Rattle.elab_parts.specs.tasks.Task.{SymbolTree}
+use Rattle.elab_parts.specs.tasks.Equations.{cells, type_variables}
+use Rattle.elab_parts.specs.syntax_why.Lexeme.{Word}
+use Rattle.elab_parts.specs.elab_names.Abstract.{TypeExpression, Pattern, Patterns, wildcard_pattern, variable_pattern, constructor_pattern, tuple_pattern, alias_pattern, no_patterns, more_patterns, Alternatives, no_alternatives, more_alternatives, BoundNames, Expression, Expressions, MatchBranches, applied_expression, infix_expression, integer_expression, true_expression, false_expression, tuple_expression, cast_expression, not_expression, connected_expression, equality_expression, if_expression, let_expression, match_expression, quantified_expression, no_expressions, more_expressions, no_branches, more_branches, count_patterns, count_expressions}
+use Rattle.elab_parts.specs.elab_names.declared.NamingFault.TheVariants.{WrongKind}
+use Rattle.elab_parts.specs.elab_names.Faults.{first_of, fault_if, form_fault, type_fault, name_fault, binders_fault, bound_names, alternatives_fault, alternatives_names, is_formula_trigger, token, fault, faults, triggers_fault, branches_fault}
+use Rattle.elab_parts.specs.elab_names.Where.{Where}
+use Rattle.elab_parts.specs.elab_walk.Patterns.{noted, no_notes, follow, taken, LocalTree, local, local_type, variable_equations, at_unknowns, result_or_int, first_or_int, rest_of, NumberedEntry, entry_of, Matched, part_types, constructed_by, pattern_piece, patterns_piece, later_pieces, alternatives_pieces, all_notes, first_variables, reordering, places_among, later_arms, arms}
+use Rattle.elab_parts.specs.elab_walk.Pieces.{type_at, NotedTree, unknown_after, unknown, noted_before, wanting, piece, pieces, triggers_notes, branches_arms, Arms, Use, Local', Symbol', variable_named, found_local, use_or, use_of_name, tuple_use, symbol_at_types, used_piece, use_vars, parameters, equality, untyped, locals_of_type, binder_locals, binder_vars, binders_vars, quantify, names}
+use Rattle.elab_parts.specs.elab_walk.Pieces as pieces_of
+use Rattle.elab_parts.specs.elab_walk.Scoped.{IsScoped, IsScopedEntry}
+use Rattle.elab_parts.proofs.elab_walk.Below.{both_all, symbol_scoped, form_below}
+use Rattle.elab_parts.proofs.elab_walk.Noting.{count_replicate}
+use Rattle.elab_parts.proofs.elab_walk.Walking.{none_both}
+use Rattle.elab_parts.proofs.elab_walk.Branching.{in_cases}
 
 module _ (P : ℕ → Type 0) where
   abbrev pub leaf_in : Head → Type 0

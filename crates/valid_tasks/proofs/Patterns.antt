@@ -5,24 +5,24 @@ use Rattle.std.specs.Str.{bytes_eq}
 use Rattle.std.proofs.lemmas.Bool.{eqb-true}
 use Rattle.std.proofs.lemmas.List.{map-append, reverse-append}
 use Rattle.std.proofs.Math.ListN.{length-map}
-use Rattle.trees.specs.Tree.{Tree}
-use Rattle.trees.specs.Sorts.{int_type}
-use Rattle.trees.specs.Binding.{inst_types}
-use Rattle.tasks.specs.declared.signature.SymbolKind.{SymbolKind}
-use Rattle.tasks.specs.declared.signature.SymbolKind.TheVariants.{Constructor}
-use Rattle.tasks.specs.Equations.{type_variables}
-use Rattle.tasks.specs.Task.{symbol_or}
-use Rattle.tasks.specs.Vocabulary.{Vocabulary, is_constructor_kind}
-use Rattle.tasks.specs.Typing.{MakesTerms}
-use Rattle.unify_types.specs.Assigned.{assign}
-use Rattle.unify_types.specs.Pairs.{SolvesAll}
-use Rattle.syntax_why.specs.Lexeme.{Word}
-use Rattle.elab_names.specs.Abstract.{Pattern, Patterns, wildcard_pattern, variable_pattern, constructor_pattern, tuple_pattern, alias_pattern, no_patterns, more_patterns, count_patterns}
-use Rattle.elab_names.specs.declared.NamingFault.TheVariants.{WrongKind, Arity, Duplicate}
-use Rattle.elab_names.specs.Faults.{fault_if, pattern_names, constructor_fault, pattern_fault, patterns_fault}
-use Rattle.elab_names.specs.Where.{Where, place_of}
-use Rattle.elab_walk.specs.Patterns.{noted, LocalTree, local, taken, at_unknowns, result_or_int, NumberedEntry, entry_of, Matched, local_type, variable_equations, constructed_by, part_types, pattern_piece, patterns_piece}
-use Rattle.elab_walk.proofs.Walking.{none_both, must_be}
+use Rattle.elab_parts.specs.trees.Tree.{Tree}
+use Rattle.elab_parts.specs.trees.Sorts.{int_type}
+use Rattle.elab_parts.specs.trees.Binding.{inst_types}
+use Rattle.elab_parts.specs.tasks.declared.signature.SymbolKind.{SymbolKind}
+use Rattle.elab_parts.specs.tasks.declared.signature.SymbolKind.TheVariants.{Constructor}
+use Rattle.elab_parts.specs.tasks.Equations.{type_variables}
+use Rattle.elab_parts.specs.tasks.Task.{symbol_or}
+use Rattle.elab_parts.specs.tasks.Vocabulary.{Vocabulary, is_constructor_kind}
+use Rattle.elab_parts.specs.tasks.Typing.{MakesTerms}
+use Rattle.elab_parts.specs.unify_types.Assigned.{assign}
+use Rattle.elab_parts.specs.unify_types.Pairs.{SolvesAll}
+use Rattle.elab_parts.specs.syntax_why.Lexeme.{Word}
+use Rattle.elab_parts.specs.elab_names.Abstract.{Pattern, Patterns, wildcard_pattern, variable_pattern, constructor_pattern, tuple_pattern, alias_pattern, no_patterns, more_patterns, count_patterns}
+use Rattle.elab_parts.specs.elab_names.declared.NamingFault.TheVariants.{WrongKind, Arity, Duplicate}
+use Rattle.elab_parts.specs.elab_names.Faults.{fault_if, pattern_names, constructor_fault, pattern_fault, patterns_fault}
+use Rattle.elab_parts.specs.elab_names.Where.{Where, place_of}
+use Rattle.elab_parts.specs.elab_walk.Patterns.{noted, LocalTree, local, taken, at_unknowns, result_or_int, NumberedEntry, entry_of, Matched, local_type, variable_equations, constructed_by, part_types, pattern_piece, patterns_piece}
+use Rattle.elab_parts.proofs.elab_walk.Walking.{none_both, must_be}
 use Rattle.valid_tasks.specs.Signature.{IsSymbol, IsTuple, IsWellFormed, PatternTuples, PatternsTuples}
 use Rattle.valid_tasks.specs.Typed.{assigned_types}
 use Rattle.valid_tasks.proofs.Over.{IsOver, AreOver, type_over, over_assigned}

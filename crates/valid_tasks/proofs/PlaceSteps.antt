@@ -6,15 +6,15 @@ use Rattle.std.specs.Str.{bytes_eq}
 use Rattle.std.proofs.lemmas.Bool.{cases_lt}
 use Rattle.std.proofs.lemmas.Bool.Decides.{nat_tests}
 use Rattle.std.proofs.lemmas.List.Elements.{All-head, All-tail, All-contains, All-append, All-cons, All-nil, Contains-append_left, Contains-append_right, Contains-append_cases}
-use Rattle.tasks.specs.Task.{BodyTree, MakesType, Makes, Defines, Induces, Constructs, Says, DeclarationTree}
-use Rattle.syntax_why.specs.declared.declarations.PropKind.{PropKind}
-use Rattle.syntax_why.specs.declared.declarations.PropKind.TheVariants as kind
-use Rattle.clones.specs.Copies.{declaration_copied}
+use Rattle.elab_parts.specs.tasks.Task.{BodyTree, MakesType, Makes, Defines, Induces, Constructs, Says, DeclarationTree}
+use Rattle.elab_parts.specs.syntax_why.declared.declarations.PropKind.{PropKind}
+use Rattle.elab_parts.specs.syntax_why.declared.declarations.PropKind.TheVariants as kind
+use Rattle.clone_copies.specs.clones.Copies.{declaration_copied}
 use Rattle.valid_tasks.proofs.Words.{same_word, self_word}
 use Rattle.valid_tasks.specs.Joined.{has_theory}
 use Rattle.valid_tasks.proofs.Distinct.{IsDistinct, distinct_pairs, distinct_both}
-use Rattle.clone_elements.specs.Left.{decl_or}
-use Rattle.clone_elements.specs.Plans.{is_replaced, kind_or}
+use Rattle.clone_copies.specs.clone_elements.Left.{decl_or}
+use Rattle.clone_copies.specs.clone_elements.Plans.{is_replaced, kind_or}
 use Rattle.clone_copies.specs.Origins.{is_own}
 use Rattle.clone_copies.specs.Places.{Copying, goal_with, with_copied_goal, with_kind, with_copy, copy_of, with_joined, with_place, with_places}
 use Rattle.valid_tasks.specs.Cloned.{AreClonedPlaces}

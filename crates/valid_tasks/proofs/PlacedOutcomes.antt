@@ -1,18 +1,18 @@
 -- Of the entries that a declaration makes only those of type variables have no theory.
 use Rattle.std.proofs.Common.{◌≡◌, ℕ, false, List, [], ◌∷◌, ◌++◌, map, length, All, refl, ap}
 use Rattle.std.proofs.lemmas.List.Elements.{All-nil, All-cons, All-append}
-use Rattle.trees.specs.Tree.{Tree}
-use Rattle.tasks.specs.Task.{SymbolTree}
-use Rattle.tasks.specs.Rigid.{rigid_symbol}
-use Rattle.tasks.specs.Vocabulary.{is_empty}
+use Rattle.elab_parts.specs.trees.Tree.{Tree}
+use Rattle.elab_parts.specs.tasks.Task.{SymbolTree}
+use Rattle.elab_parts.specs.tasks.Rigid.{rigid_symbol}
+use Rattle.elab_parts.specs.tasks.Vocabulary.{is_empty}
 use Rattle.elab_parts.specs.Elaborated.{unseen}
 use Rattle.elab_parts.specs.Entries.{builtin, type_entry, wanting_tuples}
 use Rattle.elab_parts.specs.Declarations.{Declaration, abstract_type, alias, algebraic, member_group, inductive, proposition_declaration}
 use Rattle.elab_parts.specs.Outcomes.{Setting, Outcome, full_name}
-use Rattle.elab_members.specs.Members.{signed_entries, signature_trees, members_seen}
-use Rattle.elab_groups.specs.Groups.{group_signatures}
-use Rattle.elab_inductives.specs.Inductives.{as_members, before_inductives, inductives_seen}
-use Rattle.elab_types.specs.Algebraics.{group_seen, type_entries, group_trees, group_entries}
+use Rattle.elab_terms.specs.elab_members.Members.{signed_entries, signature_trees, members_seen}
+use Rattle.elab_terms.specs.elab_groups.Groups.{group_signatures}
+use Rattle.elab_terms.specs.elab_inductives.Inductives.{as_members, before_inductives, inductives_seen}
+use Rattle.elab_terms.specs.elab_types.Algebraics.{group_seen, type_entries, group_trees, group_entries}
 use Rattle.elab_terms.specs.Outcomes.{alias_seen, proposition_seen, rigid_names, IsOutcome}
 use Rattle.valid_tasks.proofs.Made.{tuples_built}
 use Rattle.valid_tasks.proofs.TaskOutcomes.{OfTheory, signed_of, types_of, group_of}

@@ -6,7 +6,7 @@ use Rattle.std.specs.Str.{bytes_eq}
 use Rattle.std.proofs.lemmas.Bool.Decides.{nat_tests}
 use Rattle.std.proofs.lemmas.List.Concat.{flat_map-append}
 use Rattle.std.proofs.lemmas.List.Elements.{All-head, All-tail, Contains-get_or, Contains-append_left, Contains-append_right, Contains-append_cases}
-use Rattle.tasks.specs.Task.{DeclarationTree}
+use Rattle.elab_parts.specs.tasks.Task.{DeclarationTree}
 use Rattle.valid_tasks.proofs.Words.{same_word, self_word}
 use Rattle.theory_states.specs.States.{at_places, joined_places}
 use Rattle.valid_tasks.specs.Joined.{has_theory, fresh, Agree}

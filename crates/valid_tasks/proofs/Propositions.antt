@@ -1,31 +1,31 @@
 -- Axioms, lemmas and goals are valid.
 use Rattle.std.proofs.Common.{◌≡◌, ℕ, ◌+◌, ◌<◌, ◌⊎◌, inl, inr, IsTrue, zero, suc, true, false, List, [], ◌∷◌, ◌++◌, map, length, get_or, slice_get, All, Some, None, refl, sym, ap, subst, ◌∙◌, arith, length-append, append_assoc}
 use Rattle.std.proofs.lemmas.List.Elements.{All-nil, All-cons}
-use Rattle.trees.specs.declared.Sort.TheVariants.{Kind}
-use Rattle.trees.specs.Tree.{Tree, Leaf, One, Two, Three, Head, HTyVar, HTyRigid, HBound, HParam, binders_over}
-use Rattle.trees.specs.Node.{Grows}
-use Rattle.trees.specs.Sorts.{sort_of}
-use Rattle.trees.specs.Binding.{change, typing, inst_types, leaf_by, one_by, TyVar}
-use Rattle.trees.specs.Facts.{IndicesFit, PutsSorts}
-use Rattle.trees.proofs.Sorts.{sort_of-change}
-use Rattle.tasks.specs.Rigid.{rigid_symbol}
-use Rattle.tasks.specs.Task.{SymbolTree, DeclarationTree, Says}
-use Rattle.tasks.specs.Vocabulary.{Vocabulary}
-use Rattle.tasks.specs.Typing.{entry, IsRigid}
-use Rattle.tasks.specs.Valid.{VariablesBelow, LeafBelow, ParametersOf, OneOf, IsTypeIn, HasTypes, IsFormulaOver, IsValidDecl}
-use Rattle.tasks.proofs.TypeInstances.{typed_types}
-use Rattle.names_space.specs.declared.Table.TheVariants.{Propositions}
-use Rattle.names_space.specs.declared.TypeName.TheVariants as stands
-use Rattle.syntax_why.specs.Lexeme.{Word}
-use Rattle.syntax_why.specs.declared.declarations.PropKind.{PropKind}
-use Rattle.syntax_why.specs.declared.declarations.PropKind.TheVariants as kind
-use Rattle.elab_names.specs.Abstract.{Expression}
-use Rattle.elab_names.specs.Faults.{fault}
-use Rattle.elab_variables.proofs.Closing.{closed}
+use Rattle.elab_parts.specs.trees.declared.Sort.TheVariants.{Kind}
+use Rattle.elab_parts.specs.trees.Tree.{Tree, Leaf, One, Two, Three, Head, HTyVar, HTyRigid, HBound, HParam, binders_over}
+use Rattle.elab_parts.specs.trees.Node.{Grows}
+use Rattle.elab_parts.specs.trees.Sorts.{sort_of}
+use Rattle.elab_parts.specs.trees.Binding.{change, typing, inst_types, leaf_by, one_by, TyVar}
+use Rattle.elab_parts.specs.trees.Facts.{IndicesFit, PutsSorts}
+use Rattle.elab_parts.proofs.trees.Sorts.{sort_of-change}
+use Rattle.elab_parts.specs.tasks.Rigid.{rigid_symbol}
+use Rattle.elab_parts.specs.tasks.Task.{SymbolTree, DeclarationTree, Says}
+use Rattle.elab_parts.specs.tasks.Vocabulary.{Vocabulary}
+use Rattle.elab_parts.specs.tasks.Typing.{entry, IsRigid}
+use Rattle.elab_parts.specs.tasks.Valid.{VariablesBelow, LeafBelow, ParametersOf, OneOf, IsTypeIn, HasTypes, IsFormulaOver, IsValidDecl}
+use Rattle.elab_parts.proofs.tasks.TypeInstances.{typed_types}
+use Rattle.elab_parts.specs.names_space.declared.Table.TheVariants.{Propositions}
+use Rattle.elab_parts.specs.names_space.declared.TypeName.TheVariants as stands
+use Rattle.elab_parts.specs.syntax_why.Lexeme.{Word}
+use Rattle.elab_parts.specs.syntax_why.declared.declarations.PropKind.{PropKind}
+use Rattle.elab_parts.specs.syntax_why.declared.declarations.PropKind.TheVariants as kind
+use Rattle.elab_parts.specs.elab_names.Abstract.{Expression}
+use Rattle.elab_parts.specs.elab_names.Faults.{fault}
+use Rattle.elab_parts.proofs.elab_variables.Closing.{closed}
 use Rattle.elab_parts.specs.Elaborated.{unseen}
 use Rattle.elab_parts.specs.Declarations.{TokenName, proposition_declaration}
-use Rattle.elab_variables.specs.Seen.{SeenTree}
-use Rattle.elab_walk.specs.Patterns.{LocalTree}
+use Rattle.elab_parts.specs.elab_variables.Seen.{SeenTree}
+use Rattle.elab_parts.specs.elab_walk.Patterns.{LocalTree}
 use Rattle.elab_parts.specs.Outcomes.{Setting, Outcome, around, tuples_wanting, full_name}
 use Rattle.elab_parts.proofs.Alike.{alike}
 use Rattle.elab_terms.specs.Outcomes.{proposition_seen, rigid_names, entry_numbers, rigid_types, said_as, schematic, IsProposition}

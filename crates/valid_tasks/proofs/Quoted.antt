@@ -1,21 +1,21 @@
 -- The type variables that are seen in a proposition of a source have their quotes.
 use Rattle.std.proofs.Common.{◌≡◌, [], ◌∷◌, ◌++◌, All, Some, None, refl, subst}
 use Rattle.std.proofs.lemmas.List.Elements.{All-weaker}
-use Rattle.tokens_why.specs.declared.terminal.Terminal.{Terminal}
-use Rattle.tokens_why.specs.declared.terminal.Terminal.TheVariants as t
-use Rattle.tasks.specs.Valid.{IsQuoted}
-use Rattle.syntax_why.specs.Lexeme.{Word, mark}
-use Rattle.syntax_why.specs.Forms.{write_called}
-use Rattle.syntax_why.specs.Trees.{write}
-use Rattle.syntax_why.specs.Trees as tree
-use Rattle.syntax_why.specs.Declarations.{write_decl, prop_word}
-use Rattle.syntax_why.specs.Declarations as source
-use Rattle.syntax_why.specs.DeclarationRules.{IsLevelDecl}
-use Rattle.syntax_why.specs.declared.declarations.PropKind.{PropKind}
+use Rattle.elab_parts.specs.tokens_why.declared.terminal.Terminal.{Terminal}
+use Rattle.elab_parts.specs.tokens_why.declared.terminal.Terminal.TheVariants as t
+use Rattle.elab_parts.specs.tasks.Valid.{IsQuoted}
+use Rattle.elab_parts.specs.syntax_why.Lexeme.{Word, mark}
+use Rattle.elab_parts.specs.syntax_why.Forms.{write_called}
+use Rattle.elab_parts.specs.syntax_why.Trees.{write}
+use Rattle.elab_parts.specs.syntax_why.Trees as tree
+use Rattle.elab_parts.specs.syntax_why.Declarations.{write_decl, prop_word}
+use Rattle.elab_parts.specs.syntax_why.Declarations as source
+use Rattle.elab_parts.specs.syntax_why.DeclarationRules.{IsLevelDecl}
+use Rattle.elab_parts.specs.syntax_why.declared.declarations.PropKind.{PropKind}
 use Rattle.elab_parts.specs.Declarations.{TokenName, proposition_declaration, declaration}
 use Rattle.elab_terms.specs.Outcomes.{proposition_seen}
 use Rattle.valid_tasks.specs.Lists.{IsGroupWhole}
-use Rattle.elab_names.specs.Abstract.{Expression, expression}
+use Rattle.elab_parts.specs.elab_names.Abstract.{Expression, expression}
 use Rattle.valid_tasks.specs.Quoted.{QuotedAs, IsQuotedLexeme}
 use Rattle.valid_tasks.proofs.Variables.{VariableAs, IsVariable, tail_of, back_of, variables_told}
 

@@ -3,22 +3,22 @@ use Rattle.std.proofs.Common.{◌≡◌, ℕ, ◌&&◌, ◌||◌, nat_eq, zero, 
 use Rattle.std.specs.List.{list_any, list_all}
 use Rattle.std.proofs.lemmas.Bool.{eqb-true}
 use Rattle.std.proofs.lemmas.List.Elements.{All-nil, All-cons, All-map, All-drop}
-use Rattle.tokens_why.specs.Common.{is_same_word, place_in_words}
-use Rattle.tokens_why.specs.declared.token.Token.{Token}
-use Rattle.tokens_why.specs.declared.token.TokenKind.{TokenKind}
-use Rattle.tokens_why.specs.Bytes.{is_digit, is_upper, is_letter, is_word_byte, is_operator_byte}
-use Rattle.tokens_why.specs.Literal.{is_literal}
-use Rattle.tokens_why.specs.Reserved.{reserved_words, reserved_terminals}
-use Rattle.tokens_why.specs.Strings.{letters_kind, placed_kind, word_kind, level, is_prefix_word, run_kind, mark_kind, marks_kind, only, lead_of, string_kind_by, kind_of}
-use Rattle.tokens_why.specs.Terminals.{terminal_of, level_terminal}
-use Rattle.tokens_why.specs.Tokens.{text_of, Stop, whole, Reads, AreTokens}
-use Rattle.tokens_why.specs.declared.token.TokenKind.TheVariants as k
-use Rattle.tokens_why.specs.declared.terminal.Terminal.{Terminal}
-use Rattle.tokens_why.specs.declared.terminal.Terminal.TheVariants as t
-use Rattle.tokens_why.specs.declared.longest.Lead.{Lead}
-use Rattle.tokens_why.specs.declared.longest.Lead.TheVariants.{Letter, Quote, Digit, Sign, Mark}
-use Rattle.tasks.specs.Valid.{IsQuoted}
-use Rattle.syntax_why.specs.Lexeme.{Word, said, lexeme, rest}
+use Rattle.elab_parts.specs.tokens_why.Common.{is_same_word, place_in_words}
+use Rattle.elab_parts.specs.tokens_why.declared.token.Token.{Token}
+use Rattle.elab_parts.specs.tokens_why.declared.token.TokenKind.{TokenKind}
+use Rattle.elab_parts.specs.tokens_why.Bytes.{is_digit, is_upper, is_letter, is_word_byte, is_operator_byte}
+use Rattle.elab_parts.specs.tokens_why.Literal.{is_literal}
+use Rattle.elab_parts.specs.tokens_why.Reserved.{reserved_words, reserved_terminals}
+use Rattle.elab_parts.specs.tokens_why.Strings.{letters_kind, placed_kind, word_kind, level, is_prefix_word, run_kind, mark_kind, marks_kind, only, lead_of, string_kind_by, kind_of}
+use Rattle.elab_parts.specs.tokens_why.Terminals.{terminal_of, level_terminal}
+use Rattle.elab_parts.specs.tokens_why.Tokens.{text_of, Stop, whole, Reads, AreTokens}
+use Rattle.elab_parts.specs.tokens_why.declared.token.TokenKind.TheVariants as k
+use Rattle.elab_parts.specs.tokens_why.declared.terminal.Terminal.{Terminal}
+use Rattle.elab_parts.specs.tokens_why.declared.terminal.Terminal.TheVariants as t
+use Rattle.elab_parts.specs.tokens_why.declared.longest.Lead.{Lead}
+use Rattle.elab_parts.specs.tokens_why.declared.longest.Lead.TheVariants.{Letter, Quote, Digit, Sign, Mark}
+use Rattle.elab_parts.specs.tasks.Valid.{IsQuoted}
+use Rattle.elab_parts.specs.syntax_why.Lexeme.{Word, said, lexeme, rest}
 use Rattle.valid_tasks.specs.Quoted.{QuotedAs, IsQuotedLexeme}
 
 -- ---- kinds other than that of type variables

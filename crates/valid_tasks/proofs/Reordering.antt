@@ -1,22 +1,22 @@
 -- A tree with its variables in another order, of the same types: it stays well typed.
 use Rattle.std.proofs.Common.{◌≡◌, ℕ, ◌+◌, ◌-◌, ◌<◌, ◌≤◌, zero, suc, Bool, true, false, cond, nat_lt, List, [], ◌∷◌, ◌++◌, map, length, get_or, slice_get, Option, Some, None, IsSomeAnd, inl, inr, refl, sym, ap, ◌∙◌, arith, append_assoc}
 use Rattle.std.proofs.lemmas.List.{length-append}
-use Rattle.trees.specs.declared.Sort.TheVariants.{Kind}
-use Rattle.trees.specs.Tree.{Tree, Leaf, One, Two, Three, Head, HTyVar, HTyApp, HCell, HBound, HParam, HFun, HPred, HEq, HForall, HExists, HLet, HIf, HCase, HArm, HPatAny, HPatVar, HPatCon, HPatAlias, head_of, binders_over}
-use Rattle.trees.specs.Sorts.{Fits, WellSorted, IsList, sort_of, yield_type, type_of, top_type}
-use Rattle.trees.specs.Binding.{change, one_by}
-use Rattle.trees.specs.Facts.{IndicesFit}
-use Rattle.trees.proofs.Types.{OnlyTypes, only_types}
-use Rattle.trees.proofs.Sorts.{sort_of-change, one_fits, two_fits, three_fits}
-use Rattle.tasks.specs.Task.{SymbolTree}
-use Rattle.tasks.specs.Vocabulary.{Vocabulary}
-use Rattle.tasks.specs.Typing.{members, entry, IsUse, option_list, pattern_types, bound_types, BranchFits, BranchesFit, first_body, TwoTyped, ThreeTyped}
-use Rattle.tasks.proofs.Closing.{typed_sorted}
-use Rattle.tasks.proofs.Counts.{bound_count}
-use Rattle.elab_walk.specs.Patterns.{reordering}
-use Rattle.elab_walk.specs.Reordered.{sorts_reordering}
+use Rattle.elab_parts.specs.trees.declared.Sort.TheVariants.{Kind}
+use Rattle.elab_parts.specs.trees.Tree.{Tree, Leaf, One, Two, Three, Head, HTyVar, HTyApp, HCell, HBound, HParam, HFun, HPred, HEq, HForall, HExists, HLet, HIf, HCase, HArm, HPatAny, HPatVar, HPatCon, HPatAlias, head_of, binders_over}
+use Rattle.elab_parts.specs.trees.Sorts.{Fits, WellSorted, IsList, sort_of, yield_type, type_of, top_type}
+use Rattle.elab_parts.specs.trees.Binding.{change, one_by}
+use Rattle.elab_parts.specs.trees.Facts.{IndicesFit}
+use Rattle.elab_parts.proofs.trees.Types.{OnlyTypes, only_types}
+use Rattle.elab_parts.proofs.trees.Sorts.{sort_of-change, one_fits, two_fits, three_fits}
+use Rattle.elab_parts.specs.tasks.Task.{SymbolTree}
+use Rattle.elab_parts.specs.tasks.Vocabulary.{Vocabulary}
+use Rattle.elab_parts.specs.tasks.Typing.{members, entry, IsUse, option_list, pattern_types, bound_types, BranchFits, BranchesFit, first_body, TwoTyped, ThreeTyped}
+use Rattle.elab_parts.proofs.tasks.Closing.{typed_sorted}
+use Rattle.elab_parts.proofs.tasks.Counts.{bound_count}
+use Rattle.elab_parts.specs.elab_walk.Patterns.{reordering}
+use Rattle.elab_parts.specs.elab_walk.Reordered.{sorts_reordering}
 use Rattle.valid_tasks.proofs.Over.{IsGood}
-use Rattle.tasks.proofs.TypeInstances.{further}
+use Rattle.elab_parts.proofs.tasks.TypeInstances.{further}
 
 module _ (places : List ℕ) where
   abbrev pub at : ℕ → Tree → Tree

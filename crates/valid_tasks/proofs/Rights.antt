@@ -2,17 +2,17 @@
 use Rattle.std.proofs.Common.{◌≡◌, ◌⊎◌, inl, inr, ℕ, ◌-◌, ◌<◌, ◌≤◌, ◌&&◌, not, Bool, true, false, List, [], ◌∷◌, ◌++◌, length, slice_get, All, Option, Some, None, IsTrue, refl, sym, ap, subst, ◌∙◌, arith, append_assoc, append-nil}
 use Rattle.std.specs.Str.{bytes_eq}
 use Rattle.std.proofs.lemmas.List.Elements.{All-nil, All-cons}
-use Rattle.tasks.specs.Task.{SymbolTree, int_symbol}
-use Rattle.tasks.specs.Vocabulary.{Vocabulary, of_signature, passes, is_empty, is_constructor_kind}
-use Rattle.tasks.specs.Valid.{IsTypeIn}
-use Rattle.syntax_why.specs.Lexeme.{Word}
-use Rattle.syntax_why.specs.declared.names.Name.{Name}
-use Rattle.syntax_why.specs.Declarations.{Element, type_element, symbol_element, prop_element, all_axioms}
-use Rattle.elab_names.specs.Abstract.{TypeExpression, texts_of_names, type_expression}
-use Rattle.elab_names.specs.declared.NamingFault.{NamingFault}
-use Rattle.elab_names.specs.Faults.{first_of, form_fault}
-use Rattle.elab_variables.specs.Seen.{form_seen}
-use Rattle.elab_walk.specs.Pieces.{type_at}
+use Rattle.elab_parts.specs.tasks.Task.{SymbolTree, int_symbol}
+use Rattle.elab_parts.specs.tasks.Vocabulary.{Vocabulary, of_signature, passes, is_empty, is_constructor_kind}
+use Rattle.elab_parts.specs.tasks.Valid.{IsTypeIn}
+use Rattle.elab_parts.specs.syntax_why.Lexeme.{Word}
+use Rattle.elab_parts.specs.syntax_why.declared.names.Name.{Name}
+use Rattle.elab_parts.specs.syntax_why.Declarations.{Element, type_element, symbol_element, prop_element, all_axioms}
+use Rattle.elab_parts.specs.elab_names.Abstract.{TypeExpression, texts_of_names, type_expression}
+use Rattle.elab_parts.specs.elab_names.declared.NamingFault.{NamingFault}
+use Rattle.elab_parts.specs.elab_names.Faults.{first_of, form_fault}
+use Rattle.elab_parts.specs.elab_variables.Seen.{form_seen}
+use Rattle.elab_parts.specs.elab_walk.Pieces.{type_at}
 use Rattle.elab_parts.specs.Elaborated.{unseen}
 use Rattle.elab_parts.specs.Entries.{builtin, wanting_tuples}
 use Rattle.elab_parts.specs.Outcomes.{Setting, over, around}
@@ -26,8 +26,8 @@ use Rattle.valid_tasks.proofs.Made.{tuples_built}
 use Rattle.valid_tasks.proofs.Settings.{inside_scopes, inside_typed, world, tuples, same_names, form_in}
 use Rattle.valid_tasks.specs.Built.{IsBuiltRight}
 use Rattle.valid_tasks.proofs.Kept.{all_kept}
-use Rattle.clone_elements.specs.Rights.{RightTree, type_right, symbol_right, no_right, right_tuples, right_fault, right_made, rights_tuples, rights_fault}
-use Rattle.clone_elements.specs.Plans.{sides_made}
+use Rattle.clone_copies.specs.clone_elements.Rights.{RightTree, type_right, symbol_right, no_right, right_tuples, right_fault, right_made, rights_tuples, rights_fault}
+use Rattle.clone_copies.specs.clone_elements.Plans.{sides_made}
 use Rattle.valid_tasks.specs.Sides.{IsTypedRight, IsTypedSide, with_rights}
 use Rattle.std.proofs.lemmas.Option.{slice_get-get_or as some_at}
 use Rattle.valid_tasks.proofs.Declarations.{below as slice_below}

@@ -1,15 +1,15 @@
 -- A worked row: `c = 0` over a signature with a constant `c` of the type `int` is a formula by the law.
 use Rattle.std.proofs.Common.{◌≡◌, ℕ, ◌+◌, ◌<◌, zero, suc, true, [], ◌∷◌, Some, None, codes, inl, refl, sym, ap, ◌∙◌, arith}
 use Rattle.std.specs.Prelude.{pos}
-use Rattle.trees.specs.Tree.{Tree, Leaf, Two, Three, HEnd, HNum, HFun, HEq}
-use Rattle.trees.specs.Sorts.{int_type}
-use Rattle.tasks.specs.declared.signature.SymbolKind.TheVariants.{Function}
-use Rattle.tasks.specs.Task.{SymbolTree, int_symbol}
-use Rattle.tasks.specs.Vocabulary.{Vocabulary, of_signature}
-use Rattle.tasks.specs.Valid.{IsTypeIn, HasTypes, IsFormulaOver}
-use Rattle.elab_names.specs.Abstract.{Expression, applied_expression, integer_expression, equality_expression, no_expressions}
-use Rattle.elab_names.specs.Where.{Where, Stands}
-use Rattle.elab_walk.specs.Pieces.{piece}
+use Rattle.elab_parts.specs.trees.Tree.{Tree, Leaf, Two, Three, HEnd, HNum, HFun, HEq}
+use Rattle.elab_parts.specs.trees.Sorts.{int_type}
+use Rattle.elab_parts.specs.tasks.declared.signature.SymbolKind.TheVariants.{Function}
+use Rattle.elab_parts.specs.tasks.Task.{SymbolTree, int_symbol}
+use Rattle.elab_parts.specs.tasks.Vocabulary.{Vocabulary, of_signature}
+use Rattle.elab_parts.specs.tasks.Valid.{IsTypeIn, HasTypes, IsFormulaOver}
+use Rattle.elab_parts.specs.elab_names.Abstract.{Expression, applied_expression, integer_expression, equality_expression, no_expressions}
+use Rattle.elab_parts.specs.elab_names.Where.{Where, Stands}
+use Rattle.elab_parts.specs.elab_walk.Pieces.{piece}
 use Rattle.elab_parts.specs.Elaborated.{IsSolved, IsFixedUnknown}
 use Rattle.valid_tasks.specs.Signature.{IsSymbol, IsWellFormed}
 use Rattle.valid_tasks.specs.Typed.{IsNamedExpression}

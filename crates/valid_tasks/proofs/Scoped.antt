@@ -2,13 +2,13 @@
 use Rattle.std.proofs.Common.{◌≡◌, ℕ, cond, Bool, true, false, List, [], ◌∷◌, ◌++◌, Option, Some, IfSome, sym, subst, arith}
 use Rattle.std.specs.List.{Contains}
 use Rattle.std.proofs.lemmas.List.Elements.{All-append, All-contains}
-use Rattle.trees.specs.Tree.{Tree}
-use Rattle.tasks.specs.Task.{SymbolTree, DeclarationTree}
-use Rattle.tasks.specs.Valid.{AreInts, IsValid}
-use Rattle.syntax_why.specs.declared.names.Name.{Name}
-use Rattle.syntax_why.specs.declared.names.Path.{Path}
-use Rattle.syntax_why.specs.declared.declarations.Link.{Link}
-use Rattle.names_space.specs.Names.{ScopeNames}
+use Rattle.elab_parts.specs.trees.Tree.{Tree}
+use Rattle.elab_parts.specs.tasks.Task.{SymbolTree, DeclarationTree}
+use Rattle.elab_parts.specs.tasks.Valid.{AreInts, IsValid}
+use Rattle.elab_parts.specs.syntax_why.declared.names.Name.{Name}
+use Rattle.elab_parts.specs.syntax_why.declared.names.Path.{Path}
+use Rattle.elab_parts.specs.syntax_why.declared.declarations.Link.{Link}
+use Rattle.elab_parts.specs.names_space.Names.{ScopeNames}
 use Rattle.theory_states.specs.declared.moves.Move.{Move}
 use Rattle.valid_tasks.specs.Scopes.{AreTypedScopes}
 use Rattle.valid_tasks.specs.Moves.{IsTypedMove, AreTypedMoves}

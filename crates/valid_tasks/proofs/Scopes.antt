@@ -3,21 +3,21 @@ use Rattle.std.proofs.Common.{◌≡◌, ℕ, ◌<◌, zero, suc, Bool, true, fa
 use Rattle.std.specs.Str.{bytes_eq}
 use Rattle.std.specs.List.{AllByRecursion}
 use Rattle.std.proofs.lemmas.List.Elements.{recursion_from_All, All-from_recursion, All-cons, All-set}
-use Rattle.trees.specs.Tree.{Tree}
-use Rattle.tasks.specs.Task.{SymbolTree, symbol_or, int_symbol}
-use Rattle.tasks.specs.Vocabulary.{Vocabulary}
-use Rattle.names_space.specs.declared.Table.{Table}
-use Rattle.names_space.specs.declared.Table.TheVariants.{Types, Symbols, Propositions, Scopes}
-use Rattle.names_space.specs.declared.TypeName.{TypeName}
-use Rattle.names_space.specs.declared.TypeName.TheVariants as stands
-use Rattle.names_space.specs.Names.{ScopeNames, ScopeEntry, number_of, same_table, is_named, latest, entries_of, or_else, first_found, table_before, find_within, find_name, innermost, with_name}
-use Rattle.syntax_why.specs.Lexeme.{Word}
-use Rattle.elab_names.specs.Naming.{or_int, type_named, meaning_at}
+use Rattle.elab_parts.specs.trees.Tree.{Tree}
+use Rattle.elab_parts.specs.tasks.Task.{SymbolTree, symbol_or, int_symbol}
+use Rattle.elab_parts.specs.tasks.Vocabulary.{Vocabulary}
+use Rattle.elab_parts.specs.names_space.declared.Table.{Table}
+use Rattle.elab_parts.specs.names_space.declared.Table.TheVariants.{Types, Symbols, Propositions, Scopes}
+use Rattle.elab_parts.specs.names_space.declared.TypeName.{TypeName}
+use Rattle.elab_parts.specs.names_space.declared.TypeName.TheVariants as stands
+use Rattle.elab_parts.specs.names_space.Names.{ScopeNames, ScopeEntry, number_of, same_table, is_named, latest, entries_of, or_else, first_found, table_before, find_within, find_name, innermost, with_name}
+use Rattle.elab_parts.specs.syntax_why.Lexeme.{Word}
+use Rattle.elab_parts.specs.elab_names.Naming.{or_int, type_named, meaning_at}
 use Rattle.elab_parts.specs.Outcomes.{over}
 use Rattle.valid_tasks.specs.Signature.{with_entries, IsSymbol, IsMeaning, IsWellFormed}
 use Rattle.valid_tasks.specs.Scopes.{IsTypedEntry, IsTypedSignature, IsTypeNumber, IsSymbolNumber, IsTypeName, IsTypedThing, AreTypedScopes}
-use Rattle.names_space.proofs.Listed.{same_table_is as same_is}
-use Rattle.plain_laws.proofs.Bools.{and_both as both_true}
+use Rattle.elab_parts.proofs.names_space.Listed.{same_table_is as same_is}
+use Rattle.elab_parts.proofs.plain_laws.Bools.{and_both as both_true}
 use Rattle.std.proofs.lemmas.Option.{slice_get-get_or as some_at}
 
 -- ---- what is found is the thing of an entry

@@ -1,25 +1,25 @@
 -- Where a declaration stands with the entries of its tuples: what is typed there, and what its names mean.
 use Rattle.std.proofs.Common.{◌≡◌, ℕ, ◌<◌, true, false, List, [], ◌∷◌, ◌++◌, length, get_or, slice_get, Option, Some, None, IfSome, refl, arith}
-use Rattle.trees.specs.Tree.{Tree, Leaf, One, Two, Three, Head, HTyVar}
-use Rattle.trees.specs.Node.{tree_at}
-use Rattle.trees.specs.Facts.{TyVarsBelow, leaf_below}
-use Rattle.trees.proofs.Nodes.{Grows_refl}
-use Rattle.tasks.specs.Task.{SymbolTree, int_symbol}
-use Rattle.tasks.specs.Vocabulary.{Vocabulary}
-use Rattle.tasks.specs.Valid.{VariablesBelow, LeafBelow, IsTypeIn}
-use Rattle.names_space.specs.Names.{ScopeNames}
-use Rattle.names_space.specs.declared.Table.{Table}
-use Rattle.names_space.specs.declared.Table.TheVariants.{Types, Symbols, Propositions, Scopes}
-use Rattle.names_space.specs.declared.TypeName.{TypeName}
-use Rattle.names_space.specs.declared.TypeName.TheVariants as stands
-use Rattle.syntax_why.specs.Lexeme.{Word}
-use Rattle.elab_names.specs.Abstract.{TypeExpression}
-use Rattle.elab_names.specs.Faults.{form_fault}
-use Rattle.elab_names.specs.Where.{Where, MeaningTree, Stands, Abbreviates}
-use Rattle.elab_variables.specs.Seen.{SeenTree, has_width}
-use Rattle.elab_walk.specs.Scoped.{IsScoped, IsScopedMeaning}
-use Rattle.elab_walk.specs.Pieces.{type_at}
-use Rattle.elab_walk.proofs.Below.{form_below}
+use Rattle.elab_parts.specs.trees.Tree.{Tree, Leaf, One, Two, Three, Head, HTyVar}
+use Rattle.elab_parts.specs.trees.Node.{tree_at}
+use Rattle.elab_parts.specs.trees.Facts.{TyVarsBelow, leaf_below}
+use Rattle.elab_parts.proofs.trees.Nodes.{Grows_refl}
+use Rattle.elab_parts.specs.tasks.Task.{SymbolTree, int_symbol}
+use Rattle.elab_parts.specs.tasks.Vocabulary.{Vocabulary}
+use Rattle.elab_parts.specs.tasks.Valid.{VariablesBelow, LeafBelow, IsTypeIn}
+use Rattle.elab_parts.specs.names_space.Names.{ScopeNames}
+use Rattle.elab_parts.specs.names_space.declared.Table.{Table}
+use Rattle.elab_parts.specs.names_space.declared.Table.TheVariants.{Types, Symbols, Propositions, Scopes}
+use Rattle.elab_parts.specs.names_space.declared.TypeName.{TypeName}
+use Rattle.elab_parts.specs.names_space.declared.TypeName.TheVariants as stands
+use Rattle.elab_parts.specs.syntax_why.Lexeme.{Word}
+use Rattle.elab_parts.specs.elab_names.Abstract.{TypeExpression}
+use Rattle.elab_parts.specs.elab_names.Faults.{form_fault}
+use Rattle.elab_parts.specs.elab_names.Where.{Where, MeaningTree, Stands, Abbreviates}
+use Rattle.elab_parts.specs.elab_variables.Seen.{SeenTree, has_width}
+use Rattle.elab_parts.specs.elab_walk.Scoped.{IsScoped, IsScopedMeaning}
+use Rattle.elab_parts.specs.elab_walk.Pieces.{type_at}
+use Rattle.elab_parts.proofs.elab_walk.Below.{form_below}
 use Rattle.elab_parts.specs.Alike.{AreScopesAlike}
 use Rattle.elab_parts.specs.Entries.{IsThing, AreScopes}
 use Rattle.elab_parts.specs.Outcomes.{Setting, over, tuples_wanting}
@@ -32,7 +32,7 @@ use Rattle.valid_tasks.proofs.Scopes.{over_well_formed}
 use Rattle.valid_tasks.proofs.Extended.{scopes_extended}
 use Rattle.valid_tasks.proofs.Tuples.{tuples_typed, tuples_there, tuple_of}
 use Rattle.valid_tasks.specs.Valid.{IsTypedSetting}
-use Rattle.tasks.proofs.TypeInstances.{below as below_of}
+use Rattle.elab_parts.proofs.tasks.TypeInstances.{below as below_of}
 
 -- ---- type variables below a number, in both words
 

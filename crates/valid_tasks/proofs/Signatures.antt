@@ -1,20 +1,20 @@
 -- The types of a member's signature are over the signature that has its tuples.
 use Rattle.std.proofs.Common.{◌≡◌, ℕ, true, false, List, [], ◌∷◌, length, All, Option, Some, None, IfSome, option_map, refl, subst}
 use Rattle.std.proofs.lemmas.List.Elements.{All-nil, All-cons, All-append}
-use Rattle.trees.specs.Tree.{Tree}
-use Rattle.tasks.specs.Vocabulary.{Vocabulary}
-use Rattle.tasks.specs.Valid.{IsTypeIn}
-use Rattle.syntax_why.specs.Lexeme.{Word}
-use Rattle.elab_names.specs.Abstract.{TypeExpression, quantified_expression, true_expression, no_expressions}
-use Rattle.elab_names.specs.Faults.{form_fault, binders_fault}
-use Rattle.elab_names.specs.Where.{Where}
-use Rattle.elab_variables.specs.Seen.{SeenTree, has_width, form_seen, type_seen, binders_seen}
-use Rattle.elab_walk.specs.Pieces.{type_at}
-use Rattle.elab_walk.proofs.Walking.{none_both}
+use Rattle.elab_parts.specs.trees.Tree.{Tree}
+use Rattle.elab_parts.specs.tasks.Vocabulary.{Vocabulary}
+use Rattle.elab_parts.specs.tasks.Valid.{IsTypeIn}
+use Rattle.elab_parts.specs.syntax_why.Lexeme.{Word}
+use Rattle.elab_parts.specs.elab_names.Abstract.{TypeExpression, quantified_expression, true_expression, no_expressions}
+use Rattle.elab_parts.specs.elab_names.Faults.{form_fault, binders_fault}
+use Rattle.elab_parts.specs.elab_names.Where.{Where}
+use Rattle.elab_parts.specs.elab_variables.Seen.{SeenTree, has_width, form_seen, type_seen, binders_seen}
+use Rattle.elab_parts.specs.elab_walk.Pieces.{type_at}
+use Rattle.elab_parts.proofs.elab_walk.Walking.{none_both}
 use Rattle.elab_parts.specs.Declarations.{TokenName, Parameter, params_seen}
 use Rattle.elab_parts.specs.Outcomes.{Setting}
-use Rattle.elab_members.specs.Members.{type_copies, parameter_types}
-use Rattle.elab_members.proofs.ParamsClosed.{as_binders}
+use Rattle.elab_terms.specs.elab_members.Members.{type_copies, parameter_types}
+use Rattle.elab_terms.proofs.elab_members.ParamsClosed.{as_binders}
 use Rattle.valid_tasks.specs.Scopes.{NamesNew}
 use Rattle.valid_tasks.specs.Signature.{with_entries, HasTuple, BindersTuples}
 use Rattle.valid_tasks.proofs.Widths.{IsWithin, tuples_seen}

@@ -1,32 +1,32 @@
 -- What a well-formed signature gives: types that forms stand for, and entries at the types of a use.
 use Rattle.std.proofs.Common.{◌≡◌, ◌≢◌, ℕ, ◌<◌, ◌==◌, zero, suc, true, false, List, [], ◌∷◌, map, length, get_or, slice_get, All, Option, Some, None, IfSome, IsSomeAnd, IsTrue, refl, sym, ap, subst, ◌∙◌, arith}
 use Rattle.std.proofs.lemmas.Bool.{eqb-true}
-use Rattle.trees.specs.Tree.{Tree, Leaf, One, Two, Three, Head, HTyVar}
-use Rattle.trees.specs.Sorts.{int_type}
-use Rattle.trees.specs.Binding.{inst_types}
-use Rattle.trees.specs.Facts.{TyVarsBelow, leaf_below}
-use Rattle.tasks.specs.declared.signature.SymbolKind.{SymbolKind}
-use Rattle.tasks.specs.declared.signature.SymbolKind.TheVariants.{Kind, Predicate, Constructor}
-use Rattle.tasks.specs.Equations.{cells, type_variables}
-use Rattle.tasks.specs.Task.{SymbolTree, symbol_or, int_symbol}
-use Rattle.tasks.specs.Vocabulary.{Vocabulary}
-use Rattle.tasks.specs.Typing.{entry, members, MakesTerms}
-use Rattle.tasks.specs.Valid.{VariablesBelow, LeafBelow, IsTypeIn, HasTypes}
-use Rattle.unify_types.specs.Assigned.{assign}
-use Rattle.syntax_why.specs.Lexeme.{Word}
-use Rattle.elab_names.specs.Abstract.{TypeExpression, TypeExpressions, variable_type, composed_type, product_type, no_types, more_types, count_forms}
-use Rattle.elab_names.specs.declared.NamingFault.TheVariants.{Arity}
-use Rattle.elab_names.specs.Faults.{meaning_fault, form_fault, forms_fault, is_predicate}
-use Rattle.elab_names.specs.Where.{Where, MeaningTree, Stands, Abbreviates, place_of}
-use Rattle.elab_walk.specs.Patterns.{at_unknowns, result_or_int, NumberedEntry, entry_of}
-use Rattle.elab_walk.specs.Scoped.{IsScopedEntry}
-use Rattle.elab_walk.specs.Pieces.{type_at, types_at, applied_meaning, variable_at}
-use Rattle.elab_walk.proofs.Walking.{none_both, must_be}
+use Rattle.elab_parts.specs.trees.Tree.{Tree, Leaf, One, Two, Three, Head, HTyVar}
+use Rattle.elab_parts.specs.trees.Sorts.{int_type}
+use Rattle.elab_parts.specs.trees.Binding.{inst_types}
+use Rattle.elab_parts.specs.trees.Facts.{TyVarsBelow, leaf_below}
+use Rattle.elab_parts.specs.tasks.declared.signature.SymbolKind.{SymbolKind}
+use Rattle.elab_parts.specs.tasks.declared.signature.SymbolKind.TheVariants.{Kind, Predicate, Constructor}
+use Rattle.elab_parts.specs.tasks.Equations.{cells, type_variables}
+use Rattle.elab_parts.specs.tasks.Task.{SymbolTree, symbol_or, int_symbol}
+use Rattle.elab_parts.specs.tasks.Vocabulary.{Vocabulary}
+use Rattle.elab_parts.specs.tasks.Typing.{entry, members, MakesTerms}
+use Rattle.elab_parts.specs.tasks.Valid.{VariablesBelow, LeafBelow, IsTypeIn, HasTypes}
+use Rattle.elab_parts.specs.unify_types.Assigned.{assign}
+use Rattle.elab_parts.specs.syntax_why.Lexeme.{Word}
+use Rattle.elab_parts.specs.elab_names.Abstract.{TypeExpression, TypeExpressions, variable_type, composed_type, product_type, no_types, more_types, count_forms}
+use Rattle.elab_parts.specs.elab_names.declared.NamingFault.TheVariants.{Arity}
+use Rattle.elab_parts.specs.elab_names.Faults.{meaning_fault, form_fault, forms_fault, is_predicate}
+use Rattle.elab_parts.specs.elab_names.Where.{Where, MeaningTree, Stands, Abbreviates, place_of}
+use Rattle.elab_parts.specs.elab_walk.Patterns.{at_unknowns, result_or_int, NumberedEntry, entry_of}
+use Rattle.elab_parts.specs.elab_walk.Scoped.{IsScopedEntry}
+use Rattle.elab_parts.specs.elab_walk.Pieces.{type_at, types_at, applied_meaning, variable_at}
+use Rattle.elab_parts.proofs.elab_walk.Walking.{none_both, must_be}
 use Rattle.valid_tasks.specs.Signature.{with_entries, IsSymbol, IsTuple, IsMeaning, IsWellFormed, FormTuples, FormsTuples}
 use Rattle.valid_tasks.proofs.Over.{IsOver, AreOver, type_over, cells_over, members_cells}
 use Rattle.valid_tasks.proofs.Instances.{inst_over, variables_over, inst_assigned}
-use Rattle.elab_types.proofs.Counted.{types_length as count_types}
-use Rattle.tasks.proofs.TypeInstances.{below as is_below}
+use Rattle.elab_terms.proofs.elab_types.Counted.{types_length as count_types}
+use Rattle.elab_parts.proofs.tasks.TypeInstances.{below as is_below}
 use Rattle.std.proofs.lemmas.Option.{slice_get-get_or as some_at}
 use Rattle.goal_tasks.proofs.TuplesMade.{variables_count as count_variables}
 

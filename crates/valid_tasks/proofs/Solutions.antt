@@ -2,20 +2,20 @@
 use Rattle.std.proofs.Common.{◌≡◌, ℕ, suc, true, List, [], ◌∷◌, map, get_or, All, Option, Some, None, IfSome, option_map, refl, sym, ap, subst, ◌∙◌, arith}
 use Rattle.std.specs.List.{AllByRecursion}
 use Rattle.std.proofs.lemmas.List.Elements.{All-cons, All-nil}
-use Rattle.trees.specs.Tree.{Tree, Leaf, One, Two, Three, Head, HTyVar}
-use Rattle.trees.specs.Sorts.{int_type}
-use Rattle.trees.specs.Facts.{IndicesFit}
-use Rattle.tasks.specs.Vocabulary.{Vocabulary}
-use Rattle.tasks.specs.Valid.{VariablesBelow, LeafBelow, IsTypeIn, IsFormulaOver}
-use Rattle.tasks.proofs.Closing.{typed_sorted}
-use Rattle.unify_types.specs.Assigned.{assign, leaf_assigned}
-use Rattle.unify_types.specs.Pairs.{IsKind, SolvesAll}
-use Rattle.unify_types.proofs.Assigning.{assign-assign, assign-rigid}
-use Rattle.unify_types.proofs.SortedTypes.{kind_is_type}
-use Rattle.elab_names.specs.Abstract.{Expression}
-use Rattle.elab_names.specs.Where.{Where}
-use Rattle.elab_walk.specs.Patterns.{LocalTree}
-use Rattle.elab_walk.specs.Pieces.{piece}
+use Rattle.elab_parts.specs.trees.Tree.{Tree, Leaf, One, Two, Three, Head, HTyVar}
+use Rattle.elab_parts.specs.trees.Sorts.{int_type}
+use Rattle.elab_parts.specs.trees.Facts.{IndicesFit}
+use Rattle.elab_parts.specs.tasks.Vocabulary.{Vocabulary}
+use Rattle.elab_parts.specs.tasks.Valid.{VariablesBelow, LeafBelow, IsTypeIn, IsFormulaOver}
+use Rattle.elab_parts.proofs.tasks.Closing.{typed_sorted}
+use Rattle.elab_parts.specs.unify_types.Assigned.{assign, leaf_assigned}
+use Rattle.elab_parts.specs.unify_types.Pairs.{IsKind, SolvesAll}
+use Rattle.elab_parts.proofs.unify_types.Assigning.{assign-assign, assign-rigid}
+use Rattle.elab_parts.proofs.unify_types.SortedTypes.{kind_is_type}
+use Rattle.elab_parts.specs.elab_names.Abstract.{Expression}
+use Rattle.elab_parts.specs.elab_names.Where.{Where}
+use Rattle.elab_parts.specs.elab_walk.Patterns.{LocalTree}
+use Rattle.elab_parts.specs.elab_walk.Pieces.{piece}
 use Rattle.elab_parts.specs.Elaborated.{IsSolved, matches_assigned}
 use Rattle.valid_tasks.specs.Signature.{with_entries, IsWellFormed}
 use Rattle.valid_tasks.specs.Typed.{assigned_types, IsTypeOf, IsTypedAs, IsNamedExpression, local_types, AreTypedLocals, AreTypesIn, IsTypedIn, IsPatternOf, ArePatterns}

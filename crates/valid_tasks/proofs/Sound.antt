@@ -5,35 +5,35 @@ use Rattle.std.specs.List.{AllByRecursion}
 use Rattle.std.specs.Str.{bytes_eq}
 use Rattle.std.proofs.lemmas.Bool.{eqb-true}
 use Rattle.std.proofs.Math.ListN.{length-map}
-use Rattle.trees.specs.declared.Sort.TheVariants.{Term, Pattern}
-use Rattle.trees.specs.Tree.{Tree, Leaf, One, Two, HEnd, HCell, HBound}
-use Rattle.trees.specs.Sorts.{int_type, sort_of, type_of}
-use Rattle.trees.specs.Binding.{inst_types}
-use Rattle.trees.specs.Facts.{IndicesFit}
-use Rattle.tasks.specs.declared.signature.SymbolKind.{SymbolKind}
-use Rattle.tasks.specs.declared.signature.SymbolKind.TheVariants.{Predicate}
-use Rattle.tasks.specs.Equations.{type_variables}
-use Rattle.tasks.specs.Task.{symbol_or}
-use Rattle.tasks.specs.Vocabulary.{Vocabulary}
-use Rattle.tasks.specs.Typing.{MakesTerms}
-use Rattle.tasks.specs.Valid.{IsTypeIn}
-use Rattle.unify_types.specs.Assigned.{assign}
-use Rattle.unify_types.specs.Pairs.{SolvesAll}
-use Rattle.syntax_why.specs.Lexeme.{Word}
-use Rattle.elab_names.specs.declared.NamingFault.TheVariants.{WrongKind, Arity}
-use Rattle.elab_names.specs.Faults.{fault_if, name_fault, local_fault, symbol_fault, is_variable, is_predicate, differ}
-use Rattle.elab_names.specs.Where.{Where, place_of}
-use Rattle.elab_walk.specs.Patterns.{Notes, noted, no_notes, follow, LocalTree, at_unknowns, result_or_int, first_or_int, rest_of, NumberedEntry, entry_of}
-use Rattle.elab_walk.specs.Pieces.{NotedTree, bare_piece, both_pieces, Use, Local', Symbol', variable_named, found_local, use_or, use_of_name, tuple_use, parameters, used_piece, names}
-use Rattle.elab_walk.proofs.Below.{both_all}
-use Rattle.elab_walk.proofs.Walking.{none_both, not_if, must_be}
+use Rattle.elab_parts.specs.trees.declared.Sort.TheVariants.{Term, Pattern}
+use Rattle.elab_parts.specs.trees.Tree.{Tree, Leaf, One, Two, HEnd, HCell, HBound}
+use Rattle.elab_parts.specs.trees.Sorts.{int_type, sort_of, type_of}
+use Rattle.elab_parts.specs.trees.Binding.{inst_types}
+use Rattle.elab_parts.specs.trees.Facts.{IndicesFit}
+use Rattle.elab_parts.specs.tasks.declared.signature.SymbolKind.{SymbolKind}
+use Rattle.elab_parts.specs.tasks.declared.signature.SymbolKind.TheVariants.{Predicate}
+use Rattle.elab_parts.specs.tasks.Equations.{type_variables}
+use Rattle.elab_parts.specs.tasks.Task.{symbol_or}
+use Rattle.elab_parts.specs.tasks.Vocabulary.{Vocabulary}
+use Rattle.elab_parts.specs.tasks.Typing.{MakesTerms}
+use Rattle.elab_parts.specs.tasks.Valid.{IsTypeIn}
+use Rattle.elab_parts.specs.unify_types.Assigned.{assign}
+use Rattle.elab_parts.specs.unify_types.Pairs.{SolvesAll}
+use Rattle.elab_parts.specs.syntax_why.Lexeme.{Word}
+use Rattle.elab_parts.specs.elab_names.declared.NamingFault.TheVariants.{WrongKind, Arity}
+use Rattle.elab_parts.specs.elab_names.Faults.{fault_if, name_fault, local_fault, symbol_fault, is_variable, is_predicate, differ}
+use Rattle.elab_parts.specs.elab_names.Where.{Where, place_of}
+use Rattle.elab_parts.specs.elab_walk.Patterns.{Notes, noted, no_notes, follow, LocalTree, at_unknowns, result_or_int, first_or_int, rest_of, NumberedEntry, entry_of}
+use Rattle.elab_parts.specs.elab_walk.Pieces.{NotedTree, bare_piece, both_pieces, Use, Local', Symbol', variable_named, found_local, use_or, use_of_name, tuple_use, parameters, used_piece, names}
+use Rattle.elab_parts.proofs.elab_walk.Below.{both_all}
+use Rattle.elab_parts.proofs.elab_walk.Walking.{none_both, not_if, must_be}
 use Rattle.valid_tasks.specs.Signature.{with_entries, IsSymbol, IsTuple, IsWellFormed, HasTuple}
 use Rattle.valid_tasks.specs.Typed.{assigned_types}
 use Rattle.valid_tasks.proofs.Over.{IsGood, IsOver, AreOver, type_over, over_assigned}
 use Rattle.valid_tasks.proofs.Instances.{inst_over, variables_over, cells_assigned, all_assigned_over}
 use Rattle.valid_tasks.proofs.Forms.{TypedAs, ListTyped, variable_typed, predicate_typed, function_typed, end_typed, cell_typed}
 use Rattle.valid_tasks.proofs.Signed.{IsEntry, named_symbol, parameters_over, instance_at, at_assigned, parameters_assigned, is_predicate_kind, makes_terms}
-use Rattle.elab_walk.proofs.Arguments.{either_way, found_name}
+use Rattle.elab_parts.proofs.elab_walk.Arguments.{either_way, found_name}
 use Rattle.goal_tasks.proofs.TuplesMade.{variables_count as count_variables}
 
 pub suc_same : {m n : ℕ} → suc m ≡ suc n → m ≡ n

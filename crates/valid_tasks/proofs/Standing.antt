@@ -2,33 +2,33 @@
 use Rattle.std.proofs.Common.{◌≡◌, ◌≢◌, ℕ, ◌+◌, ◌<◌, ◌≤◌, suc, true, false, List, [], ◌∷◌, ◌++◌, map, length, slice_get, All, Option, Some, None, IsSomeAnd, option_map, IsTrue, refl, sym, ap, subst, ◌∙◌, arith, append-nil, length-append}
 use Rattle.std.specs.Option.{is_some, is_none}
 use Rattle.std.proofs.lemmas.List.Elements.{All-nil, All-cons}
-use Rattle.trees.specs.Tree.{Tree}
-use Rattle.trees.specs.Node.{Grows}
-use Rattle.tasks.specs.declared.signature.SymbolKind.TheVariants.{Kind}
-use Rattle.tasks.specs.Task.{SymbolTree, int_symbol}
-use Rattle.tasks.specs.Vocabulary.{Vocabulary, is_empty}
-use Rattle.tasks.specs.Typing.{MakesTerms}
-use Rattle.tasks.specs.Valid.{IsSignatureOf}
-use Rattle.names_space.specs.Names.{ScopeNames, with_name}
-use Rattle.names_space.specs.declared.Table.TheVariants.{Symbols}
-use Rattle.names_space.specs.declared.TypeName.{TypeName}
-use Rattle.names_space.specs.declared.TypeName.TheVariants as stands
-use Rattle.syntax_why.specs.Lexeme.{Word}
-use Rattle.elab_names.specs.Abstract.{TypeExpression}
-use Rattle.elab_names.specs.Faults.{first_of, type_fault, binders_fault}
-use Rattle.elab_names.specs.Naming.{meaning_at, type_named}
-use Rattle.elab_names.specs.Where.{Where}
-use Rattle.elab_variables.specs.Seen.{SeenTree, has_width, type_seen}
-use Rattle.elab_walk.specs.Pieces.{type_at, names}
-use Rattle.elab_walk.proofs.Walking.{none_both, both_none}
+use Rattle.elab_parts.specs.trees.Tree.{Tree}
+use Rattle.elab_parts.specs.trees.Node.{Grows}
+use Rattle.elab_parts.specs.tasks.declared.signature.SymbolKind.TheVariants.{Kind}
+use Rattle.elab_parts.specs.tasks.Task.{SymbolTree, int_symbol}
+use Rattle.elab_parts.specs.tasks.Vocabulary.{Vocabulary, is_empty}
+use Rattle.elab_parts.specs.tasks.Typing.{MakesTerms}
+use Rattle.elab_parts.specs.tasks.Valid.{IsSignatureOf}
+use Rattle.elab_parts.specs.names_space.Names.{ScopeNames, with_name}
+use Rattle.elab_parts.specs.names_space.declared.Table.TheVariants.{Symbols}
+use Rattle.elab_parts.specs.names_space.declared.TypeName.{TypeName}
+use Rattle.elab_parts.specs.names_space.declared.TypeName.TheVariants as stands
+use Rattle.elab_parts.specs.syntax_why.Lexeme.{Word}
+use Rattle.elab_parts.specs.elab_names.Abstract.{TypeExpression}
+use Rattle.elab_parts.specs.elab_names.Faults.{first_of, type_fault, binders_fault}
+use Rattle.elab_parts.specs.elab_names.Naming.{meaning_at, type_named}
+use Rattle.elab_parts.specs.elab_names.Where.{Where}
+use Rattle.elab_parts.specs.elab_variables.Seen.{SeenTree, has_width, type_seen}
+use Rattle.elab_parts.specs.elab_walk.Pieces.{type_at, names}
+use Rattle.elab_parts.proofs.elab_walk.Walking.{none_both, both_none}
 use Rattle.elab_parts.specs.Alike.{meaning_arity, TypesAlike}
 use Rattle.elab_parts.specs.Entries.{tuple_in}
 use Rattle.elab_parts.specs.Declarations.{GroupMember, own_variables, params_seen, params_fault}
 use Rattle.elab_parts.specs.Outcomes.{Setting, over, tuples_wanting}
 use Rattle.elab_parts.proofs.Alike.{binders_alike}
 use Rattle.elab_parts.proofs.Scopes.{type_thing, arity_kept}
-use Rattle.elab_members.specs.Members.{SignatureTree, signature_of, signed_entries, with_members, symbol_kind_of, body_fault, member_fault, members_fault}
-use Rattle.elab_members.proofs.ParamsClosed.{as_binders, signature_closed}
+use Rattle.elab_terms.specs.elab_members.Members.{SignatureTree, signature_of, signed_entries, with_members, symbol_kind_of, body_fault, member_fault, members_fault}
+use Rattle.elab_terms.proofs.elab_members.ParamsClosed.{as_binders, signature_closed}
 use Rattle.valid_tasks.specs.Signature.{with_entries}
 use Rattle.valid_tasks.specs.Scopes.{is_projection_kind, is_nameable, NamesNew, IsTypedEntry, IsTypedSignature, IsSymbolNumber, IsTypedThing, AreTypedScopes}
 use Rattle.valid_tasks.proofs.Widths.{IsWithin}
@@ -40,7 +40,7 @@ use Rattle.valid_tasks.proofs.Settings.{inside, inside_typed, inside_scopes, sco
 use Rattle.valid_tasks.proofs.Signatures.{SignatureIn, signature_in}
 use Rattle.valid_tasks.proofs.Algebraics.{IsThere, EntriesAt, entries_at, got}
 use Rattle.valid_tasks.proofs.Bodies.{AreSigned, signed_more}
-use Rattle.elab_members.proofs.MembersScoped.{same_kind}
+use Rattle.elab_terms.proofs.elab_members.MembersScoped.{same_kind}
 
 no_kind : (f : Option TypeExpression) → symbol_kind_of f ≢ Kind
 no_kind None = λ q. cc

@@ -1,11 +1,11 @@
 -- The name of a symbol stands for a symbol under a morphism.
 use Rattle.std.proofs.Common.{◌≡◌, ◌≢◌, ℕ, ◌<◌, zero, suc, List, [], ◌∷◌, length, slice_get, IsSomeAnd, refl, sym, ◌∙◌, arith}
-use Rattle.tasks.specs.declared.signature.SymbolKind.{SymbolKind}
-use Rattle.tasks.specs.declared.signature.SymbolKind.TheVariants.{Kind, Predicate}
-use Rattle.tasks.specs.Task.{SymbolTree, symbol_or, int_symbol}
-use Rattle.tasks.specs.Vocabulary.{Vocabulary}
-use Rattle.tasks.specs.Typing.{MakesTerms}
-use Rattle.clones.specs.Mapped.{Map}
+use Rattle.elab_parts.specs.tasks.declared.signature.SymbolKind.{SymbolKind}
+use Rattle.elab_parts.specs.tasks.declared.signature.SymbolKind.TheVariants.{Kind, Predicate}
+use Rattle.elab_parts.specs.tasks.Task.{SymbolTree, symbol_or, int_symbol}
+use Rattle.elab_parts.specs.tasks.Vocabulary.{Vocabulary}
+use Rattle.elab_parts.specs.tasks.Typing.{MakesTerms}
+use Rattle.clone_copies.specs.clones.Mapped.{Map}
 use Rattle.valid_tasks.specs.Scopes.{IsSymbolNumber}
 use Rattle.valid_tasks.specs.Morphisms.{KindBecomes, HasMappedTypes, IsMorphism}
 use Rattle.valid_tasks.proofs.ClonedNames.{slice_there}

@@ -2,9 +2,9 @@
 use Rattle.std.proofs.Common.{◌≡◌, ◌≢◌, ℕ, ◌<◌, not, suc, cond, Bool, true, false, List, [], ◌∷◌, ◌++◌, length, All, Contains, refl, sym, ap, ◌∙◌, arith}
 use Rattle.std.specs.Str.{bytes_eq}
 use Rattle.std.proofs.lemmas.List.Elements.{All-nil, All-cons, All-head, All-tail, All-append}
-use Rattle.tasks.specs.Task.{SymbolTree, DeclarationTree, made_by}
-use Rattle.clones.specs.Mapped.{Map}
-use Rattle.clones.specs.Copies.{declaration_copied}
+use Rattle.elab_parts.specs.tasks.Task.{SymbolTree, DeclarationTree, made_by}
+use Rattle.clone_copies.specs.clones.Mapped.{Map}
+use Rattle.clone_copies.specs.clones.Copies.{declaration_copied}
 use Rattle.valid_tasks.proofs.Words.{self_word}
 use Rattle.valid_tasks.specs.Joined.{has_theory, fresh}
 use Rattle.valid_tasks.specs.Sound.{others}

@@ -1,11 +1,11 @@
 -- A declaration that is valid over a vocabulary is valid over one of which that is a part.
 use Rattle.std.proofs.Common.{◌≡◌, ℕ, ◌<◌, List, [], ◌∷◌, map, length, get_or, All, sym, ap, subst, ◌∙◌}
-use Rattle.trees.specs.Tree.{Tree}
-use Rattle.tasks.specs.Task.{SymbolTree, symbol_or, int_symbol, DefinitionTree, InductiveTree, ConstructorTree, AlgebraicTree, BodyTree, MakesType, Makes, Defines, Induces, Constructs, Says, DeclarationTree}
-use Rattle.tasks.specs.Equations.{cells, type_variables, IsEquationOf}
-use Rattle.tasks.specs.Clauses.{IsClauseOf}
-use Rattle.tasks.specs.Vocabulary.{Vocabulary}
-use Rattle.tasks.specs.Valid.{HasTypes, IsFormulaOver, IsTypeEntry, IsSignatureOf, IsDefinition, IsInductive, IsProjectionOf, AreProjections, IsConstructorOf, IsAlgebraic, IsValidBody, IsValidDecl}
+use Rattle.elab_parts.specs.trees.Tree.{Tree}
+use Rattle.elab_parts.specs.tasks.Task.{SymbolTree, symbol_or, int_symbol, DefinitionTree, InductiveTree, ConstructorTree, AlgebraicTree, BodyTree, MakesType, Makes, Defines, Induces, Constructs, Says, DeclarationTree}
+use Rattle.elab_parts.specs.tasks.Equations.{cells, type_variables, IsEquationOf}
+use Rattle.elab_parts.specs.tasks.Clauses.{IsClauseOf}
+use Rattle.elab_parts.specs.tasks.Vocabulary.{Vocabulary}
+use Rattle.elab_parts.specs.tasks.Valid.{HasTypes, IsFormulaOver, IsTypeEntry, IsSignatureOf, IsDefinition, IsInductive, IsProjectionOf, AreProjections, IsConstructorOf, IsAlgebraic, IsValidBody, IsValidDecl}
 use Rattle.valid_tasks.specs.Scopes.{IsSubvocabulary}
 use Rattle.valid_tasks.proofs.Extended.{types_more}
 use Rattle.valid_tasks.proofs.Algebraics.{got}

@@ -3,21 +3,21 @@ use Rattle.std.proofs.Common.{◌≡◌, ◌⊎◌, inl, inr, ℕ, ◌+◌, ◌-
 use Rattle.std.specs.Option.{is_some, option_or}
 use Rattle.std.specs.List.{list_any}
 use Rattle.std.proofs.lemmas.List.Elements.{All-append}
-use Rattle.trees.specs.Tree.{Tree}
-use Rattle.trees.specs.declared.TermId.{TermId}
-use Rattle.trees.specs.Node.{Grows, Holds, tree_at}
-use Rattle.trees.specs.Sorts.{WellSorted}
-use Rattle.tasks.specs.declared.signature.SymbolKind.TheVariants.{Kind, Constructor}
-use Rattle.tasks.specs.declared.signature.Signature.{Signature}
-use Rattle.tasks.specs.Task.{SymbolTree, int_symbol, DeclarationTree, made, made_by}
-use Rattle.tasks.specs.Meaning.{symbols_at, declarations_at, DeclHeld}
-use Rattle.tasks.specs.Roles.{is_constructor, maker, role_by}
-use Rattle.tasks.specs.Vocabulary.{Vocabulary, passes, is_constructor_kind}
-use Rattle.tasks.specs.Valid.{IsValidDecl}
-use Rattle.tasks.proofs.Declared.{maker_made, made_maker, con_maker as con_some}
-use Rattle.names_space.specs.Names.{ScopeNames}
-use Rattle.syntax_why.specs.declared.declarations.PropKind.TheVariants as kind
-use Rattle.syntax_why.specs.Declarations as source
+use Rattle.elab_parts.specs.trees.Tree.{Tree}
+use Rattle.elab_parts.specs.trees.declared.TermId.{TermId}
+use Rattle.elab_parts.specs.trees.Node.{Grows, Holds, tree_at}
+use Rattle.elab_parts.specs.trees.Sorts.{WellSorted}
+use Rattle.elab_parts.specs.tasks.declared.signature.SymbolKind.TheVariants.{Kind, Constructor}
+use Rattle.elab_parts.specs.tasks.declared.signature.Signature.{Signature}
+use Rattle.elab_parts.specs.tasks.Task.{SymbolTree, int_symbol, DeclarationTree, made, made_by}
+use Rattle.elab_parts.specs.tasks.Meaning.{symbols_at, declarations_at, DeclHeld}
+use Rattle.elab_parts.specs.tasks.Roles.{is_constructor, maker, role_by}
+use Rattle.elab_parts.specs.tasks.Vocabulary.{Vocabulary, passes, is_constructor_kind}
+use Rattle.elab_parts.specs.tasks.Valid.{IsValidDecl}
+use Rattle.elab_parts.proofs.tasks.Declared.{maker_made, made_maker, con_maker as con_some}
+use Rattle.elab_parts.specs.names_space.Names.{ScopeNames}
+use Rattle.elab_parts.specs.syntax_why.declared.declarations.PropKind.TheVariants as kind
+use Rattle.elab_parts.specs.syntax_why.Declarations as source
 use Rattle.elab_parts.specs.declared.made.Elaborated.{Elaborated}
 use Rattle.elab_parts.specs.Entries.{builtin}
 use Rattle.elab_parts.specs.Declarations.{Declaration, group_member, declaration}

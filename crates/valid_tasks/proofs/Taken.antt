@@ -1,10 +1,10 @@
 -- A declaration that stays as it is, or is replaced: what it makes may be named where its symbols have images.
 use Rattle.std.proofs.Common.{◌≡◌, ℕ, List, [], ◌∷◌, ◌++◌, All, Contains, sym, ap, subst, ◌∙◌, append-nil}
 use Rattle.std.proofs.lemmas.List.Elements.{All-nil, All-cons, All-append}
-use Rattle.tasks.specs.Task.{SymbolTree, symbol_or, DeclarationTree, made, made_by}
-use Rattle.tasks.specs.Roles.{is_constructor, role_in}
-use Rattle.tasks.specs.Valid.{IsValidDecl}
-use Rattle.clones.specs.Mapped.{Map}
+use Rattle.elab_parts.specs.tasks.Task.{SymbolTree, symbol_or, DeclarationTree, made, made_by}
+use Rattle.elab_parts.specs.tasks.Roles.{is_constructor, role_in}
+use Rattle.elab_parts.specs.tasks.Valid.{IsValidDecl}
+use Rattle.clone_copies.specs.clones.Mapped.{Map}
 use Rattle.valid_tasks.specs.Lists.{after}
 use Rattle.valid_tasks.proofs.Lists.{list_part}
 use Rattle.valid_tasks.specs.Built.{IsBuiltRight}

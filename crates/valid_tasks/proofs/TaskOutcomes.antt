@@ -2,23 +2,23 @@
 use Rattle.std.proofs.Common.{◌≡◌, ◌⊎◌, inl, ℕ, zero, suc, Some, false, List, [], ◌∷◌, ◌++◌, map, length, slice_get, get_or, All, refl, sym, ap, ◌∙◌, append-nil}
 use Rattle.std.specs.Str.{bytes_eq}
 use Rattle.std.proofs.lemmas.List.Elements.{All-nil, All-cons, All-append}
-use Rattle.trees.specs.Tree.{Tree}
-use Rattle.tasks.specs.Rigid.{rigid_symbol}
-use Rattle.tasks.specs.Meaning.{symbols_at}
-use Rattle.tasks.specs.declared.signature.Signature.{Signature}
-use Rattle.names_space.specs.Names.{ScopeNames}
+use Rattle.elab_parts.specs.trees.Tree.{Tree}
+use Rattle.elab_parts.specs.tasks.Rigid.{rigid_symbol}
+use Rattle.elab_parts.specs.tasks.Meaning.{symbols_at}
+use Rattle.elab_parts.specs.tasks.declared.signature.Signature.{Signature}
+use Rattle.elab_parts.specs.names_space.Names.{ScopeNames}
 use Rattle.elab_parts.specs.declared.made.Elaborated.{Elaborated}
-use Rattle.tasks.specs.Task.{SymbolTree, int_symbol, ConstructorTree, AlgebraicTree}
-use Rattle.tasks.specs.Valid.{own_type}
-use Rattle.syntax_why.specs.Lexeme.{Word}
+use Rattle.elab_parts.specs.tasks.Task.{SymbolTree, int_symbol, ConstructorTree, AlgebraicTree}
+use Rattle.elab_parts.specs.tasks.Valid.{own_type}
+use Rattle.elab_parts.specs.syntax_why.Lexeme.{Word}
 use Rattle.elab_parts.specs.Elaborated.{unseen}
 use Rattle.elab_parts.specs.Entries.{tuple_in, type_entry, projections, constructor_entries, builtin, wanting_tuples}
 use Rattle.elab_parts.specs.Declarations.{AlgebraicConstructor, AlgebraicType, GroupMember, Declaration, abstract_type, alias, algebraic, member_group, inductive, proposition_declaration}
 use Rattle.elab_parts.specs.Outcomes.{Setting, Outcome, full_name}
-use Rattle.elab_members.specs.Members.{SignatureTree, signed_entries, signature_trees, members_seen}
-use Rattle.elab_groups.specs.Groups.{group_signatures}
-use Rattle.elab_inductives.specs.Inductives.{as_members, before_inductives, inductives_seen}
-use Rattle.elab_types.specs.Algebraics.{group_seen, type_entries, constructors_entries, group_trees, group_entries}
+use Rattle.elab_terms.specs.elab_members.Members.{SignatureTree, signed_entries, signature_trees, members_seen}
+use Rattle.elab_terms.specs.elab_groups.Groups.{group_signatures}
+use Rattle.elab_terms.specs.elab_inductives.Inductives.{as_members, before_inductives, inductives_seen}
+use Rattle.elab_terms.specs.elab_types.Algebraics.{group_seen, type_entries, constructors_entries, group_trees, group_entries}
 use Rattle.elab_terms.specs.Outcomes.{alias_seen, proposition_seen, rigid_names, IsOutcome, IsElaborated}
 use Rattle.valid_tasks.specs.Built.{IsOfTuple, IsBuiltRight}
 use Rattle.valid_tasks.proofs.Kept.{IsOfSource, all_kept}

@@ -4,14 +4,14 @@ use Rattle.std.specs.List.{Contains}
 use Rattle.std.specs.Option.{is_some, option_or}
 use Rattle.std.specs.Str.{bytes_eq}
 use Rattle.std.proofs.lemmas.List.Elements.{All-nil, All-cons, All-append, All-contains, Contains-append_left, Contains-append_right, Contains-append_cases}
-use Rattle.tasks.specs.declared.signature.SymbolKind.{SymbolKind}
-use Rattle.tasks.specs.declared.signature.SymbolKind.TheVariants.{Kind, Function, Predicate, Constructor, Projection}
-use Rattle.tasks.specs.Task.{SymbolTree, symbol_or, int_symbol, DeclarationTree, TaskTree, made, made_by, declared}
-use Rattle.tasks.specs.Roles.{is_constructor, is_made_by, maker, role_in, role_by}
-use Rattle.tasks.specs.Rigid.{rigid_symbol}
-use Rattle.tasks.specs.Vocabulary.{Vocabulary, of_task, passes, is_empty, is_constructor_kind}
-use Rattle.tasks.specs.Valid.{IsFormula, IsTypeOver, IsValidDecl, IsRigidEntry, AreInts, IsValid}
-use Rattle.tasks.proofs.Declared.{contains_step, any_iff, maker_made, made_maker, made_usable, con_maker}
+use Rattle.elab_parts.specs.tasks.declared.signature.SymbolKind.{SymbolKind}
+use Rattle.elab_parts.specs.tasks.declared.signature.SymbolKind.TheVariants.{Kind, Function, Predicate, Constructor, Projection}
+use Rattle.elab_parts.specs.tasks.Task.{SymbolTree, symbol_or, int_symbol, DeclarationTree, TaskTree, made, made_by, declared}
+use Rattle.elab_parts.specs.tasks.Roles.{is_constructor, is_made_by, maker, role_in, role_by}
+use Rattle.elab_parts.specs.tasks.Rigid.{rigid_symbol}
+use Rattle.elab_parts.specs.tasks.Vocabulary.{Vocabulary, of_task, passes, is_empty, is_constructor_kind}
+use Rattle.elab_parts.specs.tasks.Valid.{IsFormula, IsTypeOver, IsValidDecl, IsRigidEntry, AreInts, IsValid}
+use Rattle.elab_parts.proofs.tasks.Declared.{contains_step, any_iff, maker_made, made_maker, made_usable, con_maker}
 use Rattle.goal_tasks.specs.Named.{named, body_named, declarations_named, is_among}
 use Rattle.elab_parts.specs.Entries.{builtin}
 use Rattle.valid_tasks.specs.Lists.{is_built, after}

@@ -2,27 +2,27 @@
 use Rattle.std.proofs.Common.{◌≡◌, ◌≢◌, ℕ, inl, inr, suc, Bool, true, false, List, [], ◌∷◌, ◌++◌, map, length, All, Option, Some, None, IfSome, IsSomeAnd, option_map, refl, sym, ap, subst, ◌∙◌, arith}
 use Rattle.std.proofs.lemmas.List.{map-append, length-map}
 use Rattle.std.proofs.lemmas.Option.{slice_get-map}
-use Rattle.trees.specs.declared.Sort.TheVariants.{Kind}
-use Rattle.trees.specs.Tree.{Tree, Leaf, One, Two, Three, Head, HTyRigid, HTyApp, HCell, HBound, HParam, HNum, HFun, HPred, HEq, HForall, HExists, HLet, HIf, HCase, HArm, HPatCon, HPatAlias, head_of}
-use Rattle.trees.specs.Binding.{inst_types}
-use Rattle.trees.specs.Sorts.{sort_of, yield_type, type_of, top_type, two_type, three_type}
-use Rattle.unify_types.specs.Assigned.{IsTypeOrTypes}
-use Rattle.unify_types.proofs.SortedTypes.{kind_is_type}
-use Rattle.tasks.specs.declared.signature.SymbolKind.{SymbolKind}
-use Rattle.tasks.specs.declared.signature.SymbolKind.TheVariants.{Predicate, Constructor}
-use Rattle.tasks.specs.declared.signature.SymbolKind.TheVariants as kinds
-use Rattle.tasks.specs.Task.{SymbolTree}
-use Rattle.tasks.specs.Vocabulary.{Vocabulary}
-use Rattle.tasks.specs.Typing.{members, entry, IsUse, HasResult, MakesTerms, option_list, two_pattern, three_pattern, pattern_types, bound_types, BranchFits, BranchesFit, first_body, LeafTyped, OneTyped, TwoTyped, ThreeTyped, TypedUnder}
-use Rattle.tasks.specs.Valid.{VariablesBelow, ParametersOf, IsTypeIn, HasTypes, IsFormulaOver}
-use Rattle.tasks.proofs.Closing.{typed_sorted}
-use Rattle.clones.specs.Mapped.{Map, head_mapped, mapped}
-use Rattle.clones.specs.Meaning.{IsAlike}
-use Rattle.clones.proofs.Alike.{alike_itself, kinds_alike, one_alike, two_alike, three_alike, one_fits, two_fits, three_fits}
+use Rattle.elab_parts.specs.trees.declared.Sort.TheVariants.{Kind}
+use Rattle.elab_parts.specs.trees.Tree.{Tree, Leaf, One, Two, Three, Head, HTyRigid, HTyApp, HCell, HBound, HParam, HNum, HFun, HPred, HEq, HForall, HExists, HLet, HIf, HCase, HArm, HPatCon, HPatAlias, head_of}
+use Rattle.elab_parts.specs.trees.Binding.{inst_types}
+use Rattle.elab_parts.specs.trees.Sorts.{sort_of, yield_type, type_of, top_type, two_type, three_type}
+use Rattle.elab_parts.specs.unify_types.Assigned.{IsTypeOrTypes}
+use Rattle.elab_parts.proofs.unify_types.SortedTypes.{kind_is_type}
+use Rattle.elab_parts.specs.tasks.declared.signature.SymbolKind.{SymbolKind}
+use Rattle.elab_parts.specs.tasks.declared.signature.SymbolKind.TheVariants.{Predicate, Constructor}
+use Rattle.elab_parts.specs.tasks.declared.signature.SymbolKind.TheVariants as kinds
+use Rattle.elab_parts.specs.tasks.Task.{SymbolTree}
+use Rattle.elab_parts.specs.tasks.Vocabulary.{Vocabulary}
+use Rattle.elab_parts.specs.tasks.Typing.{members, entry, IsUse, HasResult, MakesTerms, option_list, two_pattern, three_pattern, pattern_types, bound_types, BranchFits, BranchesFit, first_body, LeafTyped, OneTyped, TwoTyped, ThreeTyped, TypedUnder}
+use Rattle.elab_parts.specs.tasks.Valid.{VariablesBelow, ParametersOf, IsTypeIn, HasTypes, IsFormulaOver}
+use Rattle.elab_parts.proofs.tasks.Closing.{typed_sorted}
+use Rattle.clone_copies.specs.clones.Mapped.{Map, head_mapped, mapped}
+use Rattle.clone_copies.specs.clones.Meaning.{IsAlike}
+use Rattle.clone_copies.proofs.clones.Alike.{alike_itself, kinds_alike, one_alike, two_alike, three_alike, one_fits, two_fits, three_fits}
 use Rattle.valid_tasks.specs.Morphisms.{HasMappedTypes, KindBecomes, IsMorphism, AreTyped}
 use Rattle.valid_tasks.proofs.Over.{IsOver, sorted_over, type_over, over_good}
 use Rattle.valid_tasks.proofs.CopiedTypes.{over_members, over_yields, over_untyped, over_variables, over_branches, over_mapped, inst_mapped, variables_over}
-use Rattle.tasks.proofs.TypeInstances.{some_kept, terms_not_kind, list_map, top_map}
+use Rattle.elab_parts.proofs.tasks.TypeInstances.{some_kept, terms_not_kind, list_map, top_map}
 
 pub found : (o : Option SymbolTree) (P : SymbolTree → Type 0) → IsSomeAnd o P → (e : SymbolTree) × ((o ≡ Some e) × P e)
 found None P h = absurd h

@@ -1,13 +1,13 @@
 -- A type that becomes one over a signature under a trial map becomes the same under the map of a clone.
 use Rattle.std.proofs.Common.{◌≡◌, ℕ, ◌<◌, zero, suc, Bool, true, false, List, [], ◌∷◌, map, length, get_or, slice_get, All, Option, Some, None, IfSome, option_map, IsSomeAnd, refl, sym, ap, subst, ◌∙◌, arith}
 use Rattle.std.proofs.lemmas.List.Elements.{All-head, All-tail}
-use Rattle.trees.specs.Tree.{Tree, Leaf, One, Two, Three, Head, HTyVar, HTyApp, HCell}
-use Rattle.trees.specs.Binding.{inst_types, TyVar}
-use Rattle.tasks.specs.Task.{SymbolTree}
-use Rattle.tasks.specs.Vocabulary.{Vocabulary}
-use Rattle.tasks.specs.Typing.{members, IsTypeSymbol}
-use Rattle.tasks.specs.Valid.{IsTypeIn, HasTypes}
-use Rattle.clones.specs.Mapped.{Map, type_mapped, mapped}
+use Rattle.elab_parts.specs.trees.Tree.{Tree, Leaf, One, Two, Three, Head, HTyVar, HTyApp, HCell}
+use Rattle.elab_parts.specs.trees.Binding.{inst_types, TyVar}
+use Rattle.elab_parts.specs.tasks.Task.{SymbolTree}
+use Rattle.elab_parts.specs.tasks.Vocabulary.{Vocabulary}
+use Rattle.elab_parts.specs.tasks.Typing.{members, IsTypeSymbol}
+use Rattle.elab_parts.specs.tasks.Valid.{IsTypeIn, HasTypes}
+use Rattle.clone_copies.specs.clones.Mapped.{Map, type_mapped, mapped}
 use Rattle.valid_tasks.proofs.Over.{IsOver, type_over}
 use Rattle.valid_tasks.specs.Morphisms.{HasMappedTypes}
 use Rattle.valid_tasks.specs.Trials.{AgreeOn}

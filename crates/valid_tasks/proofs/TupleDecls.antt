@@ -4,15 +4,15 @@ use Rattle.std.specs.List.{flat_map, range_with_len, Contains}
 use Rattle.std.proofs.lemmas.Bool.Decides.{nat_tests}
 use Rattle.std.proofs.lemmas.List.{get_or-take, get_or-drop}
 use Rattle.std.proofs.lemmas.List.Elements.{All-nil, All-cons, Contains-append_left, Contains-append_right}
-use Rattle.trees.specs.Tree.{Tree}
-use Rattle.tasks.specs.declared.signature.SymbolKind.TheVariants.{Kind, Constructor, Projection}
-use Rattle.tasks.specs.Task.{SymbolTree, symbol_or, int_symbol, DeclarationTree, made, made_by}
-use Rattle.tasks.specs.Equations.{type_variables}
-use Rattle.tasks.specs.Vocabulary.{Vocabulary}
-use Rattle.tasks.specs.Typing.{IsTypeSymbol}
-use Rattle.tasks.specs.Valid.{own_type, IsTypeIn, AreProjections, IsConstructorOf, IsAlgebraic, IsValidDecl}
-use Rattle.tasks.proofs.Declared.{contains_cases, contains_step}
-use Rattle.syntax_why.specs.Lexeme.{Word}
+use Rattle.elab_parts.specs.trees.Tree.{Tree}
+use Rattle.elab_parts.specs.tasks.declared.signature.SymbolKind.TheVariants.{Kind, Constructor, Projection}
+use Rattle.elab_parts.specs.tasks.Task.{SymbolTree, symbol_or, int_symbol, DeclarationTree, made, made_by}
+use Rattle.elab_parts.specs.tasks.Equations.{type_variables}
+use Rattle.elab_parts.specs.tasks.Vocabulary.{Vocabulary}
+use Rattle.elab_parts.specs.tasks.Typing.{IsTypeSymbol}
+use Rattle.elab_parts.specs.tasks.Valid.{own_type, IsTypeIn, AreProjections, IsConstructorOf, IsAlgebraic, IsValidDecl}
+use Rattle.elab_parts.proofs.tasks.Declared.{contains_cases, contains_step}
+use Rattle.elab_parts.specs.syntax_why.Lexeme.{Word}
 use Rattle.elab_parts.specs.Entries.{type_entry, projections, builtin, tuple_entries}
 use Rattle.valid_tasks.proofs.Tuples.{own_in, variables_in}
 use Rattle.goal_tasks.specs.Tuples.{tuple_constructor, tuple_algebraic, tuple_declaration}

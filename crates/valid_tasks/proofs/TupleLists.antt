@@ -2,13 +2,13 @@
 use Rattle.std.proofs.Common.{◌≡◌, ◌≢◌, ◌⊎◌, inl, inr, ℕ, ◌+◌, ◌-◌, ◌<◌, ◌≤◌, zero, suc, Bool, true, false, if◌then◌else◌, List, [], ◌∷◌, ◌++◌, length, get_or, All, Option, Some, None, IsTrue, codes, decimal, refl, sym, ap, subst, ◌∙◌, arith}
 use Rattle.std.specs.List.{flat_map, range_with_len, Contains}
 use Rattle.std.proofs.lemmas.List.Elements.{All-nil, All-cons, All-append, Contains-append_cases}
-use Rattle.trees.specs.Tree.{Tree}
-use Rattle.tasks.specs.declared.signature.SymbolKind.TheVariants.{Kind, Constructor, Projection}
-use Rattle.tasks.specs.Task.{SymbolTree, symbol_or, int_symbol, DeclarationTree, made}
-use Rattle.tasks.specs.Equations.{type_variables}
-use Rattle.tasks.specs.Valid.{own_type}
-use Rattle.tasks.proofs.Declared.{none_in}
-use Rattle.syntax_why.specs.Lexeme.{Word}
+use Rattle.elab_parts.specs.trees.Tree.{Tree}
+use Rattle.elab_parts.specs.tasks.declared.signature.SymbolKind.TheVariants.{Kind, Constructor, Projection}
+use Rattle.elab_parts.specs.tasks.Task.{SymbolTree, symbol_or, int_symbol, DeclarationTree, made}
+use Rattle.elab_parts.specs.tasks.Equations.{type_variables}
+use Rattle.elab_parts.specs.tasks.Valid.{own_type}
+use Rattle.elab_parts.proofs.tasks.Declared.{none_in}
+use Rattle.elab_parts.specs.syntax_why.Lexeme.{Word}
 use Rattle.elab_parts.specs.Entries.{type_entry, projections, builtin, tuple_in}
 use Rattle.valid_tasks.proofs.Algebraics.{got}
 use Rattle.goal_tasks.specs.Tuples.{tuple_declaration, tuple_occurs, tuples_of, tuples_in}

@@ -4,16 +4,16 @@ use Rattle.std.specs.Option.{is_some}
 use Rattle.std.specs.Str.{bytes_eq}
 use Rattle.std.proofs.lemmas.Bool.{eqb-true}
 use Rattle.std.proofs.lemmas.List.Elements.{All-nil, All-cons}
-use Rattle.trees.specs.Tree.{Tree, Leaf, HTyVar}
-use Rattle.tasks.specs.declared.signature.SymbolKind.{SymbolKind}
-use Rattle.tasks.specs.declared.signature.SymbolKind.TheVariants.{Kind, Constructor}
-use Rattle.tasks.specs.Equations.{cells, type_variables}
-use Rattle.tasks.specs.Task.{SymbolTree, symbol_or}
-use Rattle.tasks.specs.Vocabulary.{Vocabulary, is_empty, is_constructor_kind}
-use Rattle.tasks.specs.Typing.{members, IsTypeSymbol}
-use Rattle.tasks.specs.Valid.{VariablesBelow, IsTypeIn, own_type}
-use Rattle.syntax_why.specs.Lexeme.{Word}
-use Rattle.elab_variables.specs.Seen.{has_width}
+use Rattle.elab_parts.specs.trees.Tree.{Tree, Leaf, HTyVar}
+use Rattle.elab_parts.specs.tasks.declared.signature.SymbolKind.{SymbolKind}
+use Rattle.elab_parts.specs.tasks.declared.signature.SymbolKind.TheVariants.{Kind, Constructor}
+use Rattle.elab_parts.specs.tasks.Equations.{cells, type_variables}
+use Rattle.elab_parts.specs.tasks.Task.{SymbolTree, symbol_or}
+use Rattle.elab_parts.specs.tasks.Vocabulary.{Vocabulary, is_empty, is_constructor_kind}
+use Rattle.elab_parts.specs.tasks.Typing.{members, IsTypeSymbol}
+use Rattle.elab_parts.specs.tasks.Valid.{VariablesBelow, IsTypeIn, own_type}
+use Rattle.elab_parts.specs.syntax_why.Lexeme.{Word}
+use Rattle.elab_parts.specs.elab_variables.Seen.{has_width}
 use Rattle.elab_parts.specs.Entries.{type_entry, projections, constructor_entries, builtin, tuple_entries, is_tuple, tuple_from, tuple_in, wanting_tuple, wanting_tuples}
 use Rattle.valid_tasks.specs.Signature.{with_entries, IsTuple}
 use Rattle.valid_tasks.specs.Scopes.{NamesNew, IsTypedEntry, IsTypedSignature}
@@ -21,7 +21,7 @@ use Rattle.valid_tasks.proofs.Over.{IsOver, over_good, cells_over, members_cells
 use Rattle.valid_tasks.proofs.Instances.{variables_over}
 use Rattle.valid_tasks.proofs.Extended.{signature_more, news_front, news_later}
 use Rattle.valid_tasks.proofs.Scopes.{typed_entry}
-use Rattle.plain_laws.proofs.Bools.{and_both as both_true}
+use Rattle.elab_parts.proofs.plain_laws.Bools.{and_both as both_true}
 use Rattle.goal_tasks.proofs.TuplesMade.{variables_count as count_variables}
 
 -- ---- a type symbol at its own type variables

@@ -2,31 +2,31 @@
 use Rattle.std.proofs.Common.{◌≡◌, ◌⊎◌, inl, inr, ℕ, ◌-◌, ◌<◌, ◌≤◌, ◌&&◌, not, Bool, true, false, List, [], ◌∷◌, ◌++◌, map, length, get_or, slice_get, All, Some, IsTrue, refl, sym, ap, subst, ◌∙◌, arith, append_assoc}
 use Rattle.std.specs.Str.{bytes_eq}
 use Rattle.std.proofs.lemmas.List.Elements.{All-nil, All-cons, All-append}
-use Rattle.trees.specs.Tree.{Tree}
-use Rattle.trees.specs.Node.{Grows, Holds, tree_at}
-use Rattle.trees.specs.Sorts.{WellSorted}
-use Rattle.trees.specs.declared.TermId.{TermId}
-use Rattle.tasks.specs.declared.signature.SymbolKind.{SymbolKind}
-use Rattle.tasks.specs.declared.signature.SymbolKind.TheVariants.{Kind, Function, Predicate, Constructor, Projection}
-use Rattle.tasks.specs.declared.signature.Signature.{Signature}
-use Rattle.tasks.specs.Rigid.{rigid_symbol}
-use Rattle.tasks.specs.Task.{SymbolTree, int_symbol}
-use Rattle.tasks.specs.Meaning.{symbols_at, declarations_at, DeclHeld}
-use Rattle.tasks.specs.Vocabulary.{Vocabulary, of_signature, passes, is_empty, is_constructor_kind}
-use Rattle.names_space.specs.Names.{ScopeNames}
-use Rattle.syntax_why.specs.Lexeme.{Word}
-use Rattle.syntax_why.specs.declared.declarations.PropKind.TheVariants as kind
-use Rattle.syntax_why.specs.Declarations as source
-use Rattle.elab_walk.specs.Drafts.{match_at}
+use Rattle.elab_parts.specs.trees.Tree.{Tree}
+use Rattle.elab_parts.specs.trees.Node.{Grows, Holds, tree_at}
+use Rattle.elab_parts.specs.trees.Sorts.{WellSorted}
+use Rattle.elab_parts.specs.trees.declared.TermId.{TermId}
+use Rattle.elab_parts.specs.tasks.declared.signature.SymbolKind.{SymbolKind}
+use Rattle.elab_parts.specs.tasks.declared.signature.SymbolKind.TheVariants.{Kind, Function, Predicate, Constructor, Projection}
+use Rattle.elab_parts.specs.tasks.declared.signature.Signature.{Signature}
+use Rattle.elab_parts.specs.tasks.Rigid.{rigid_symbol}
+use Rattle.elab_parts.specs.tasks.Task.{SymbolTree, int_symbol}
+use Rattle.elab_parts.specs.tasks.Meaning.{symbols_at, declarations_at, DeclHeld}
+use Rattle.elab_parts.specs.tasks.Vocabulary.{Vocabulary, of_signature, passes, is_empty, is_constructor_kind}
+use Rattle.elab_parts.specs.names_space.Names.{ScopeNames}
+use Rattle.elab_parts.specs.syntax_why.Lexeme.{Word}
+use Rattle.elab_parts.specs.syntax_why.declared.declarations.PropKind.TheVariants as kind
+use Rattle.elab_parts.specs.syntax_why.Declarations as source
+use Rattle.elab_parts.specs.elab_walk.Drafts.{match_at}
 use Rattle.elab_parts.specs.declared.made.Elaborated.{Elaborated}
 use Rattle.elab_parts.specs.Elaborated.{unseen}
 use Rattle.elab_parts.specs.Entries.{builtin, type_entry, wanting_tuples}
 use Rattle.elab_parts.specs.Declarations.{Declaration, abstract_type, alias, algebraic, member_group, inductive, proposition_declaration, declaration}
 use Rattle.elab_parts.specs.Outcomes.{Setting, Outcome, full_name, tuples_wanting}
-use Rattle.elab_members.specs.Members.{signed_entries, signature_trees, members_seen}
-use Rattle.elab_groups.specs.Groups.{group_signatures}
-use Rattle.elab_inductives.specs.Inductives.{as_members, before_inductives, inductives_seen}
-use Rattle.elab_types.specs.Algebraics.{group_seen, type_entries, group_trees, group_entries}
+use Rattle.elab_terms.specs.elab_members.Members.{signed_entries, signature_trees, members_seen}
+use Rattle.elab_terms.specs.elab_groups.Groups.{group_signatures}
+use Rattle.elab_terms.specs.elab_inductives.Inductives.{as_members, before_inductives, inductives_seen}
+use Rattle.elab_terms.specs.elab_types.Algebraics.{group_seen, type_entries, group_trees, group_entries}
 use Rattle.elab_terms.specs.Outcomes.{alias_seen, proposition_seen, rigid_names, entry_numbers, IsProposition, IsOutcome, IsElaborated}
 use Rattle.valid_tasks.specs.Scopes.{is_projection_kind, IsNamedBy, NamesNew, AgreeBelow}
 use Rattle.valid_tasks.specs.Typed.{IsPatternOf, ArePatterns}

@@ -2,17 +2,17 @@
 use Rattle.std.proofs.Common.{◌≡◌, ℕ, ◌<◌, true, false, List, [], ◌∷◌, ◌++◌, length, slice_get, Some, None, refl, sym, ap, ◌∙◌, arith, length-append}
 use Rattle.std.proofs.lemmas.List.Elements.{All-nil, All-cons}
 use Rattle.std.proofs.Math.ListN.{length-map}
-use Rattle.trees.specs.Tree.{Tree}
-use Rattle.trees.specs.Node.{tree_at, Grows}
-use Rattle.tasks.specs.declared.signature.SymbolKind.TheVariants.{Kind}
-use Rattle.tasks.specs.Task.{SymbolTree, symbol_or}
-use Rattle.tasks.specs.Vocabulary.{Vocabulary}
-use Rattle.tasks.specs.Valid.{IsTypeIn, IsValidDecl}
-use Rattle.names_space.specs.declared.Table.TheVariants.{Types}
-use Rattle.names_space.specs.declared.TypeName.TheVariants as stands
-use Rattle.elab_names.specs.Abstract.{TypeExpression}
-use Rattle.elab_names.specs.Faults.{form_fault}
-use Rattle.elab_walk.specs.Pieces.{type_at}
+use Rattle.elab_parts.specs.trees.Tree.{Tree}
+use Rattle.elab_parts.specs.trees.Node.{tree_at, Grows}
+use Rattle.elab_parts.specs.tasks.declared.signature.SymbolKind.TheVariants.{Kind}
+use Rattle.elab_parts.specs.tasks.Task.{SymbolTree, symbol_or}
+use Rattle.elab_parts.specs.tasks.Vocabulary.{Vocabulary}
+use Rattle.elab_parts.specs.tasks.Valid.{IsTypeIn, IsValidDecl}
+use Rattle.elab_parts.specs.names_space.declared.Table.TheVariants.{Types}
+use Rattle.elab_parts.specs.names_space.declared.TypeName.TheVariants as stands
+use Rattle.elab_parts.specs.elab_names.Abstract.{TypeExpression}
+use Rattle.elab_parts.specs.elab_names.Faults.{form_fault}
+use Rattle.elab_parts.specs.elab_walk.Pieces.{type_at}
 use Rattle.elab_parts.specs.Elaborated.{unseen}
 use Rattle.elab_parts.specs.Entries.{type_entry}
 use Rattle.elab_parts.specs.Declarations.{TokenName, words}

@@ -4,11 +4,11 @@ use Rattle.std.specs.List.{Contains}
 use Rattle.std.specs.Str.{bytes_eq}
 use Rattle.std.proofs.lemmas.List.{take-append-le}
 use Rattle.std.proofs.lemmas.List.Elements.{All-append, All-contains, All-head, All-tail, Contains-get_or, filter-append}
-use Rattle.trees.specs.Tree.{Tree}
-use Rattle.trees.specs.Node.{Grows}
-use Rattle.tasks.specs.Task.{SymbolTree, DeclarationTree}
-use Rattle.tasks.specs.Vocabulary.{Vocabulary}
-use Rattle.syntax_why.specs.declared.declarations.Link.{Link}
+use Rattle.elab_parts.specs.trees.Tree.{Tree}
+use Rattle.elab_parts.specs.trees.Node.{Grows}
+use Rattle.elab_parts.specs.tasks.Task.{SymbolTree, DeclarationTree}
+use Rattle.elab_parts.specs.tasks.Vocabulary.{Vocabulary}
+use Rattle.elab_parts.specs.syntax_why.declared.declarations.Link.{Link}
 use Rattle.theory_states.specs.Moves.{brought, handed}
 use Rattle.goal_tasks.specs.Theories.{GoalTree}
 use Rattle.valid_tasks.specs.Scopes.{IsSubvocabulary, IsTypedSignature, AreTypedScopes}
@@ -25,7 +25,7 @@ use Rattle.theory_states.specs.States.{KnownTree, OpenedTree, at_places, joined_
 use Rattle.theory_states.specs.Uses.{theory_used}
 use Rattle.valid_tasks.specs.Sound.{is_other, others, IsSoundAmong, IsSoundTheory, IsSoundOpened}
 use Rattle.valid_tasks.proofs.Places.{cases_of, here, joined_cases, joined_old, joined_distinct, places_agree, places_joined, joined_whole}
-use Rattle.trees.proofs.Nodes.{Grows_refl as grows_itself}
+use Rattle.elab_parts.proofs.trees.Nodes.{Grows_refl as grows_itself}
 use Rattle.valid_tasks.proofs.Numbers.{later}
 
 pub is_part_itself : (v : Vocabulary) → IsSubvocabulary v v

@@ -2,16 +2,16 @@
 use Rattle.std.proofs.Common.{◌≡◌, ℕ, suc, Bool, true, false, cond, List, [], ◌∷◌, ◌++◌, map, All, Option, Some, None, option_map, refl, sym, subst, arith}
 use Rattle.std.specs.Option.{is_some}
 use Rattle.std.proofs.lemmas.List.Elements.{All-nil, All-cons, All-append}
-use Rattle.tokens_why.specs.declared.terminal.Terminal.{Terminal}
-use Rattle.tokens_why.specs.declared.terminal.Terminal.TheVariants as t
-use Rattle.syntax_why.specs.Lexeme.{Word, Lexeme, mark, lx}
-use Rattle.syntax_why.specs.Forms.{SyntaxForms, write_called, write_form, form_row, form_list, form_tail}
-use Rattle.syntax_why.specs.Forms as surface
-use Rattle.syntax_why.specs.Trees.{write, write_op, write_row, write_list, write_tail, write_branches, write_others, write_trigger, write_terms, terms_tail, write_binder, binder_tail, binder_list, name_row, type_part, alternative_list, bar_before, separator, quantifier}
-use Rattle.syntax_why.specs.Trees as tree
-use Rattle.elab_names.specs.Abstract.{OperatorMeaning, connective_operator, equality_operator, symbol_operator, operator_meaning, operated, Pattern, Patterns, Alternatives, Expression, wildcard_pattern, variable_pattern, constructor_pattern, tuple_pattern, alias_pattern, no_patterns, more_patterns, no_alternatives, more_alternatives, type_expression, type_expressions, grouped_forms, count_forms, count_expressions, expression, expressions, match_branches, triggers, grouped, let_name, let_by, binder, branch_alternatives, first_tree, first_form, side_by_side}
-use Rattle.elab_names.specs.Where.{place_of}
-use Rattle.elab_variables.specs.Seen.{SeenTree, with_variable, with_width, form_seen, forms_seen, type_seen, binders_seen, pattern_seen, patterns_seen, alternatives_seen, seen, all_seen, branches_seen}
+use Rattle.elab_parts.specs.tokens_why.declared.terminal.Terminal.{Terminal}
+use Rattle.elab_parts.specs.tokens_why.declared.terminal.Terminal.TheVariants as t
+use Rattle.elab_parts.specs.syntax_why.Lexeme.{Word, Lexeme, mark, lx}
+use Rattle.elab_parts.specs.syntax_why.Forms.{SyntaxForms, write_called, write_form, form_row, form_list, form_tail}
+use Rattle.elab_parts.specs.syntax_why.Forms as surface
+use Rattle.elab_parts.specs.syntax_why.Trees.{write, write_op, write_row, write_list, write_tail, write_branches, write_others, write_trigger, write_terms, terms_tail, write_binder, binder_tail, binder_list, name_row, type_part, alternative_list, bar_before, separator, quantifier}
+use Rattle.elab_parts.specs.syntax_why.Trees as tree
+use Rattle.elab_parts.specs.elab_names.Abstract.{OperatorMeaning, connective_operator, equality_operator, symbol_operator, operator_meaning, operated, Pattern, Patterns, Alternatives, Expression, wildcard_pattern, variable_pattern, constructor_pattern, tuple_pattern, alias_pattern, no_patterns, more_patterns, no_alternatives, more_alternatives, type_expression, type_expressions, grouped_forms, count_forms, count_expressions, expression, expressions, match_branches, triggers, grouped, let_name, let_by, binder, branch_alternatives, first_tree, first_form, side_by_side}
+use Rattle.elab_parts.specs.elab_names.Where.{place_of}
+use Rattle.elab_parts.specs.elab_variables.Seen.{SeenTree, with_variable, with_width, form_seen, forms_seen, type_seen, binders_seen, pattern_seen, patterns_seen, alternatives_seen, seen, all_seen, branches_seen}
 use Rattle.elab_parts.specs.Elaborated.{unseen}
 
 -- what is said of the text of a type variable

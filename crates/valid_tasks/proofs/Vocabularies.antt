@@ -2,13 +2,13 @@
 use Rattle.std.proofs.Common.{◌≡◌, ◌⊎◌, inl, inr, ℕ, ◌<◌, ◌||◌, zero, suc, Bool, true, false, List, [], ◌∷◌, length, slice_get, Contains, Option, Some, IsTrue, refl, sym, subst}
 use Rattle.std.specs.Option.{is_some}
 use Rattle.std.proofs.lemmas.List.Elements.{All-contains}
-use Rattle.tasks.specs.Task.{SymbolTree, symbol_or, DeclarationTree, made}
-use Rattle.tasks.specs.Roles.{maker}
-use Rattle.tasks.specs.Vocabulary.{Vocabulary, passes}
-use Rattle.tasks.specs.Typing.{entry}
-use Rattle.tasks.specs.Valid.{HasTypes}
-use Rattle.tasks.proofs.Declared.{maker_made}
-use Rattle.tasks.proofs.MadeEntries.{made_entry}
+use Rattle.elab_parts.specs.tasks.Task.{SymbolTree, symbol_or, DeclarationTree, made}
+use Rattle.elab_parts.specs.tasks.Roles.{maker}
+use Rattle.elab_parts.specs.tasks.Vocabulary.{Vocabulary, passes}
+use Rattle.elab_parts.specs.tasks.Typing.{entry}
+use Rattle.elab_parts.specs.tasks.Valid.{HasTypes}
+use Rattle.elab_parts.proofs.tasks.Declared.{maker_made}
+use Rattle.elab_parts.proofs.tasks.MadeEntries.{made_entry}
 use Rattle.valid_tasks.specs.Scopes.{IsTypedEntry}
 use Rattle.valid_tasks.proofs.Extended.{entry_more}
 use Rattle.valid_tasks.specs.Lists.{is_built, after}

@@ -5,14 +5,14 @@ use Rattle.std.specs.Str.{bytes_eq}
 use Rattle.std.specs.List.{AllByRecursion}
 use Rattle.std.proofs.lemmas.Slice.Eq.{bytes_eq-Decides}
 use mathlib.Core.List.{reverse-cons}
-use Rattle.syntax_why.specs.Lexeme.{Word}
-use Rattle.elab_names.specs.Abstract.{Pattern, Patterns, wildcard_pattern, variable_pattern, constructor_pattern, tuple_pattern, alias_pattern, no_patterns, more_patterns, count_patterns}
-use Rattle.elab_names.specs.declared.NamingFault.TheVariants.{Duplicate}
-use Rattle.elab_names.specs.Faults.{fault_if, pattern_names, patterns_names, constructor_fault, pattern_fault, patterns_fault, all_among}
-use Rattle.elab_names.specs.Where.{Where, place_of}
-use Rattle.elab_walk.proofs.Walking.{none_both, not_if}
-use Rattle.elab_types.proofs.Declared.{or_assoc}
-use Rattle.plain_laws.proofs.Bools.{and_both as both_true}
+use Rattle.elab_parts.specs.syntax_why.Lexeme.{Word}
+use Rattle.elab_parts.specs.elab_names.Abstract.{Pattern, Patterns, wildcard_pattern, variable_pattern, constructor_pattern, tuple_pattern, alias_pattern, no_patterns, more_patterns, count_patterns}
+use Rattle.elab_parts.specs.elab_names.declared.NamingFault.TheVariants.{Duplicate}
+use Rattle.elab_parts.specs.elab_names.Faults.{fault_if, pattern_names, patterns_names, constructor_fault, pattern_fault, patterns_fault, all_among}
+use Rattle.elab_parts.specs.elab_names.Where.{Where, place_of}
+use Rattle.elab_parts.proofs.elab_walk.Walking.{none_both, not_if}
+use Rattle.elab_terms.proofs.elab_types.Declared.{or_assoc}
+use Rattle.elab_parts.proofs.plain_laws.Bools.{and_both as both_true}
 use Rattle.std.proofs.lemmas.Bool.{or_parts as neither}
 
 pub same_word : (x y : Word) → bytes_eq x y ≡ true → x ≡ y

@@ -1,6 +1,6 @@
 -- What is built in: `int`, and the types and constructors of tuples.
 use Rattle.std.specs.Prelude.{◌≡◌, ◌⊎◌, ℕ, suc, true, List, slice_get, Some}
-use Rattle.tasks.specs.Task.{SymbolTree, int_symbol}
+use Rattle.elab_parts.specs.tasks.Task.{SymbolTree, int_symbol}
 use Rattle.elab_parts.specs.Entries.{tuple_in}
 use Rattle.valid_tasks.specs.Lists.{is_built}
 use Rattle.goal_tasks.specs.Meaning.{AreTuples}

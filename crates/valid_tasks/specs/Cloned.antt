@@ -1,13 +1,13 @@
 -- A state after a clone: what the clone makes of a theory, beside what was visible (Why3 manual, "theory cloning").
 use Rattle.std.specs.Prelude.{◌≡◌, ◌≢◌, ◌⊎◌, ℕ, ◌<◌, ◌≤◌, List, [], ◌++◌, length, slice_get, All, AllPairs, Option, Some}
 use Rattle.std.specs.List.{Contains}
-use Rattle.trees.specs.Node.{Grows}
-use Rattle.tasks.specs.Task.{SymbolTree, DeclarationTree}
-use Rattle.clones.specs.Mapped.{Map}
-use Rattle.syntax_why.specs.declared.declarations.Link.{Link}
+use Rattle.elab_parts.specs.trees.Node.{Grows}
+use Rattle.elab_parts.specs.tasks.Task.{SymbolTree, DeclarationTree}
+use Rattle.clone_copies.specs.clones.Mapped.{Map}
+use Rattle.elab_parts.specs.syntax_why.declared.declarations.Link.{Link}
 use Rattle.theory_states.specs.declared.moves.Move.{Move}
 use Rattle.theory_states.specs.Moves.{brought, handed}
-use Rattle.elab_walk.specs.Scoped.{IsScopedEntry}
+use Rattle.elab_parts.specs.elab_walk.Scoped.{IsScopedEntry}
 use Rattle.valid_tasks.specs.Moves.{AreTypedMoves}
 use Rattle.valid_tasks.specs.Lists.{after}
 use Rattle.goal_tasks.specs.Theories.{GoalTree}

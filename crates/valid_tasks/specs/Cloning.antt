@@ -1,12 +1,12 @@
 -- Declarations that are copied or taken over under a map of symbols, one after the other: what those before became may be named.
 use Rattle.std.specs.Prelude.{◌≡◌, ◌≢◌, ℕ, ◌<◌, Bool, true, List, [], length, slice_get, All, Some, None, IsSomeAnd, IsTrue}
-use Rattle.tasks.specs.declared.signature.SymbolKind.TheVariants.{Kind, Constructor}
-use Rattle.tasks.specs.Task.{SymbolTree, symbol_or, DeclarationTree, made_by}
-use Rattle.tasks.specs.Roles.{is_constructor, role_in}
-use Rattle.tasks.specs.Vocabulary.{Vocabulary}
-use Rattle.tasks.specs.Typing.{entry, MakesTerms}
-use Rattle.clones.specs.Mapped.{Map}
-use Rattle.clones.specs.Copies.{entry_copied}
+use Rattle.elab_parts.specs.tasks.declared.signature.SymbolKind.TheVariants.{Kind, Constructor}
+use Rattle.elab_parts.specs.tasks.Task.{SymbolTree, symbol_or, DeclarationTree, made_by}
+use Rattle.elab_parts.specs.tasks.Roles.{is_constructor, role_in}
+use Rattle.elab_parts.specs.tasks.Vocabulary.{Vocabulary}
+use Rattle.elab_parts.specs.tasks.Typing.{entry, MakesTerms}
+use Rattle.clone_copies.specs.clones.Mapped.{Map}
+use Rattle.clone_copies.specs.clones.Copies.{entry_copied}
 use Rattle.valid_tasks.specs.Lists.{is_built, after}
 use Rattle.valid_tasks.specs.Tasks.{AreSound}
 use Rattle.valid_tasks.specs.Morphisms.{TypeBecomes, KindBecomes, HasMappedTypes, IsMorphism}

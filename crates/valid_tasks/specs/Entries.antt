@@ -1,9 +1,9 @@
 -- Entries that a clone adds to a signature (Why3 manual, "theory cloning").
 use Rattle.std.specs.Prelude.{◌≡◌, ℕ, ◌<◌, false, List, map, length, IsTrue}
-use Rattle.tasks.specs.Task.{SymbolTree, symbol_or}
-use Rattle.tasks.specs.Vocabulary.{is_empty, is_constructor_kind}
-use Rattle.clones.specs.Mapped.{Map}
-use Rattle.clones.specs.Copies.{entry_copied}
+use Rattle.elab_parts.specs.tasks.Task.{SymbolTree, symbol_or}
+use Rattle.elab_parts.specs.tasks.Vocabulary.{is_empty, is_constructor_kind}
+use Rattle.clone_copies.specs.clones.Mapped.{Map}
+use Rattle.clone_copies.specs.clones.Copies.{entry_copied}
 
 -- the copies of these entries
 abbrev pub copied_entries : List SymbolTree → Map → List ℕ → List ℕ → List ℕ → List SymbolTree

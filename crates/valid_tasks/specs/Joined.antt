@@ -2,7 +2,7 @@
 use Rattle.std.specs.Prelude.{ℕ, not, Bool, List, [], ◌++◌, All, IsTrue}
 use Rattle.std.specs.List.{list_any, filter, Contains}
 use Rattle.std.specs.Str.{bytes_eq}
-use Rattle.tasks.specs.Task.{SymbolTree, DeclarationTree}
+use Rattle.elab_parts.specs.tasks.Task.{SymbolTree, DeclarationTree}
 use Rattle.valid_tasks.specs.Scopes.{IsSubvocabulary, IsTypedSignature}
 use Rattle.valid_tasks.specs.Lists.{after}
 use Rattle.valid_tasks.specs.Tasks.{AreSound}

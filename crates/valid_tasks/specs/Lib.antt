@@ -1,3 +1,11 @@
+pub use Rattle.clone_copies.specs as clone_copies
+pub use Rattle.clone_copies.specs.clone_elements as clone_elements
+pub use Rattle.clone_copies.specs.clones as clones
+pub use Rattle.elab_terms.specs.elab_groups as elab_groups
+pub use Rattle.elab_terms.specs.elab_inductives as elab_inductives
+pub use Rattle.elab_terms.specs.elab_members as elab_members
+pub use Rattle.elab_terms.specs as elab_terms
+pub use Rattle.elab_terms.specs.elab_types as elab_types
 pub mod Signature
 pub mod Typed
 pub mod Scopes

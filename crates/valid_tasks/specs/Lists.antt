@@ -3,15 +3,15 @@ use Rattle.std.specs.Prelude.{◌≡◌, ℕ, ◌<◌, ◌==◌, not, ◌&&◌, 
 use Rattle.std.specs.List.{list_any}
 use Rattle.std.specs.Option.{is_some}
 use Rattle.std.specs.Str.{bytes_eq}
-use Rattle.trees.specs.Tree.{Tree}
-use Rattle.tasks.specs.Task.{SymbolTree, DeclarationTree, made}
-use Rattle.tasks.specs.Roles.{is_constructor, maker, role_by}
-use Rattle.tasks.specs.Rigid.{rigid_symbol}
-use Rattle.tasks.specs.Vocabulary.{Vocabulary, passes, is_constructor_kind}
-use Rattle.tasks.specs.Valid.{IsValidDecl}
-use Rattle.names_space.specs.Names.{ScopeNames}
-use Rattle.syntax_why.specs.declared.declarations.PropKind.TheVariants.{Goal}
-use Rattle.syntax_why.specs.Declarations.{SyntaxDeclaration, function_decl, predicate_decl, prop_decl}
+use Rattle.elab_parts.specs.trees.Tree.{Tree}
+use Rattle.elab_parts.specs.tasks.Task.{SymbolTree, DeclarationTree, made}
+use Rattle.elab_parts.specs.tasks.Roles.{is_constructor, maker, role_by}
+use Rattle.elab_parts.specs.tasks.Rigid.{rigid_symbol}
+use Rattle.elab_parts.specs.tasks.Vocabulary.{Vocabulary, passes, is_constructor_kind}
+use Rattle.elab_parts.specs.tasks.Valid.{IsValidDecl}
+use Rattle.elab_parts.specs.names_space.Names.{ScopeNames}
+use Rattle.elab_parts.specs.syntax_why.declared.declarations.PropKind.TheVariants.{Goal}
+use Rattle.elab_parts.specs.syntax_why.Declarations.{SyntaxDeclaration, function_decl, predicate_decl, prop_decl}
 use Rattle.elab_parts.specs.Entries.{builtin}
 use Rattle.valid_tasks.specs.Scopes.{is_projection_kind, IsTypedSignature, AreTypedScopes}
 

@@ -1,15 +1,15 @@
 -- Maps between vocabularies: what one may name becomes what the other may name, with a mapped signature (signature morphisms).
 use Rattle.std.specs.Prelude.{◌≡◌, ◌≢◌, ◌⊎◌, ℕ, ◌<◌, map, length, Option, Some, None, IsSomeAnd, IsTrue}
 use Rattle.std.specs.Option.{option_map}
-use Rattle.trees.specs.Tree.{Tree}
-use Rattle.trees.specs.Sorts.{int_type}
-use Rattle.tasks.specs.declared.signature.SymbolKind.{SymbolKind}
-use Rattle.tasks.specs.declared.signature.SymbolKind.TheVariants.{Kind, Predicate, Constructor}
-use Rattle.tasks.specs.Task.{SymbolTree, symbol_or}
-use Rattle.tasks.specs.Vocabulary.{Vocabulary}
-use Rattle.tasks.specs.Typing.{entry, IsRigid, IsTypeSymbol, MakesTerms}
-use Rattle.tasks.specs.Valid.{IsTypeIn, HasTypes}
-use Rattle.clones.specs.Mapped.{Map, mapped}
+use Rattle.elab_parts.specs.trees.Tree.{Tree}
+use Rattle.elab_parts.specs.trees.Sorts.{int_type}
+use Rattle.elab_parts.specs.tasks.declared.signature.SymbolKind.{SymbolKind}
+use Rattle.elab_parts.specs.tasks.declared.signature.SymbolKind.TheVariants.{Kind, Predicate, Constructor}
+use Rattle.elab_parts.specs.tasks.Task.{SymbolTree, symbol_or}
+use Rattle.elab_parts.specs.tasks.Vocabulary.{Vocabulary}
+use Rattle.elab_parts.specs.tasks.Typing.{entry, IsRigid, IsTypeSymbol, MakesTerms}
+use Rattle.elab_parts.specs.tasks.Valid.{IsTypeIn, HasTypes}
+use Rattle.clone_copies.specs.clones.Mapped.{Map, mapped}
 
 -- an entry with as many type variables and the mapped types of another
 pub record HasMappedTypes (m : Map) (e made : SymbolTree) : Type 0 where

@@ -1,7 +1,7 @@
 -- Moves in a scope whose names stand for things of their table (Why3 manual, "use and clone").
 use Rattle.std.specs.Prelude.{List, All}
-use Rattle.trees.specs.Tree.{Tree}
-use Rattle.tasks.specs.Vocabulary.{Vocabulary}
+use Rattle.elab_parts.specs.trees.Tree.{Tree}
+use Rattle.elab_parts.specs.tasks.Vocabulary.{Vocabulary}
 use Rattle.theory_states.specs.declared.moves.Move.{Move}
 use Rattle.theory_states.specs.declared.moves.Move.TheVariants.{Brings, Opens, Closes}
 use Rattle.valid_tasks.specs.Scopes.{IsTypedThing}

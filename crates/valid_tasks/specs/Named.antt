@@ -1,8 +1,8 @@
 -- What a declaration names: where a vocabulary may name all of it.
 use Rattle.std.specs.Prelude.{ℕ, List, All, IfSome, IsTrue}
-use Rattle.trees.specs.Tree.{Tree, Leaf, One, Two, Three, Head, HTyRigid, HTyApp, HPred, HFun, HPatCon}
-use Rattle.tasks.specs.Task.{SymbolTree, symbol_or, DefinitionTree, InductiveTree, ConstructorTree, AlgebraicTree, BodyTree, MakesType, Makes, Defines, Induces, Constructs, Says, DeclarationTree}
-use Rattle.tasks.specs.Vocabulary.{Vocabulary}
+use Rattle.elab_parts.specs.trees.Tree.{Tree, Leaf, One, Two, Three, Head, HTyRigid, HTyApp, HPred, HFun, HPatCon}
+use Rattle.elab_parts.specs.tasks.Task.{SymbolTree, symbol_or, DefinitionTree, InductiveTree, ConstructorTree, AlgebraicTree, BodyTree, MakesType, Makes, Defines, Induces, Constructs, Says, DeclarationTree}
+use Rattle.elab_parts.specs.tasks.Vocabulary.{Vocabulary}
 
 abbrev pub LeafNames : Vocabulary → Head → Type 0
 LeafNames v (HTyRigid k) = IsTrue (v.rigid k)

@@ -1,10 +1,10 @@
 -- The steps of a clone by the places of a theory's declarations (Why3 manual, "theory cloning").
 use Rattle.std.specs.Prelude.{ℕ, if◌then◌else◌, List, [], ◌∷◌, Option, Some, None}
-use Rattle.tasks.specs.Task.{DeclarationTree}
-use Rattle.syntax_why.specs.declared.declarations.PropKind.{PropKind}
-use Rattle.syntax_why.specs.declared.declarations.PropKind.TheVariants as kind
-use Rattle.clone_elements.specs.Left.{decl_or}
-use Rattle.clone_elements.specs.Plans.{is_replaced, kind_or}
+use Rattle.elab_parts.specs.tasks.Task.{DeclarationTree}
+use Rattle.elab_parts.specs.syntax_why.declared.declarations.PropKind.{PropKind}
+use Rattle.elab_parts.specs.syntax_why.declared.declarations.PropKind.TheVariants as kind
+use Rattle.clone_copies.specs.clone_elements.Left.{decl_or}
+use Rattle.clone_copies.specs.clone_elements.Plans.{is_replaced, kind_or}
 use Rattle.clone_copies.specs.Origins.{is_own}
 use Rattle.clone_copies.specs.Places.{Copying}
 use Rattle.valid_tasks.specs.Steps.{CopyStep, copies, leaves, joins}

@@ -1,8 +1,8 @@
 -- Entries that have no theory are type variables of goals.
 use Rattle.std.specs.Prelude.{◌≡◌, true, List, All}
-use Rattle.tasks.specs.Task.{SymbolTree}
-use Rattle.tasks.specs.Vocabulary.{is_empty}
-use Rattle.tasks.specs.Rigid.{rigid_symbol}
+use Rattle.elab_parts.specs.tasks.Task.{SymbolTree}
+use Rattle.elab_parts.specs.tasks.Vocabulary.{is_empty}
+use Rattle.elab_parts.specs.tasks.Rigid.{rigid_symbol}
 
 abbrev pub IsPlacedEntry : SymbolTree → Type 0
 IsPlacedEntry e = is_empty e.theory ≡ true → e ≡ rigid_symbol e.name

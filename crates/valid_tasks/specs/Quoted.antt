@@ -1,8 +1,8 @@
 -- Names of type variables as they are in a source.
-use Rattle.tasks.specs.Valid.{IsQuoted}
-use Rattle.tokens_why.specs.declared.terminal.Terminal.{Terminal}
-use Rattle.tokens_why.specs.declared.terminal.Terminal.TheVariants as t
-use Rattle.syntax_why.specs.Lexeme.{Word, Lexeme}
+use Rattle.elab_parts.specs.tasks.Valid.{IsQuoted}
+use Rattle.elab_parts.specs.tokens_why.declared.terminal.Terminal.{Terminal}
+use Rattle.elab_parts.specs.tokens_why.declared.terminal.Terminal.TheVariants as t
+use Rattle.elab_parts.specs.syntax_why.Lexeme.{Word, Lexeme}
 
 abbrev pub QuotedAs : Terminal → Word → Type 0
 QuotedAs t.TyVar w = IsQuoted w

@@ -1,12 +1,12 @@
 -- A type on the right side of a clone's element, over a signature with the tuples that are seen in it.
 use Rattle.std.specs.Prelude.{List, ◌++◌, length}
-use Rattle.tasks.specs.Task.{SymbolTree}
-use Rattle.tasks.specs.Vocabulary.{Vocabulary}
-use Rattle.tasks.specs.Valid.{IsTypeIn}
-use Rattle.syntax_why.specs.Lexeme.{Word}
-use Rattle.elab_names.specs.Abstract.{TypeExpression}
-use Rattle.elab_variables.specs.Seen.{form_seen}
-use Rattle.elab_walk.specs.Pieces.{type_at}
+use Rattle.elab_parts.specs.tasks.Task.{SymbolTree}
+use Rattle.elab_parts.specs.tasks.Vocabulary.{Vocabulary}
+use Rattle.elab_parts.specs.tasks.Valid.{IsTypeIn}
+use Rattle.elab_parts.specs.syntax_why.Lexeme.{Word}
+use Rattle.elab_parts.specs.elab_names.Abstract.{TypeExpression}
+use Rattle.elab_parts.specs.elab_variables.Seen.{form_seen}
+use Rattle.elab_parts.specs.elab_walk.Pieces.{type_at}
 use Rattle.elab_parts.specs.Elaborated.{unseen}
 use Rattle.elab_parts.specs.Entries.{wanting_tuples}
 use Rattle.elab_parts.specs.Outcomes.{Setting, over}

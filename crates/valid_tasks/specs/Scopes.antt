@@ -1,20 +1,20 @@
 -- Signatures and scopes that are typed: entries of types over the signature, and names that stand for entries of their kind.
 use Rattle.std.specs.Prelude.{◌≡◌, ◌≢◌, ℕ, ◌<◌, ◌≤◌, Bool, true, false, not, ◌&&◌, List, length, slice_get, All, Some, IsSomeAnd, IsTrue}
-use Rattle.trees.specs.Tree.{Tree}
-use Rattle.trees.specs.Node.{tree_at, Holds}
+use Rattle.elab_parts.specs.trees.Tree.{Tree}
+use Rattle.elab_parts.specs.trees.Node.{tree_at, Holds}
 use Rattle.std.specs.Str.{bytes_eq}
-use Rattle.tasks.specs.declared.signature.SymbolKind.{SymbolKind}
-use Rattle.tasks.specs.declared.signature.SymbolKind.TheVariants.{Kind, Constructor, Projection}
-use Rattle.tasks.specs.Task.{SymbolTree, int_symbol, symbol_or}
-use Rattle.tasks.specs.Vocabulary.{Vocabulary, is_empty}
-use Rattle.tasks.specs.Typing.{entry, MakesTerms}
-use Rattle.tasks.specs.Valid.{IsTypeIn, HasTypes}
-use Rattle.names_space.specs.Names.{ScopeNames, ScopeEntry, number_of}
-use Rattle.names_space.specs.declared.Table.{Table}
-use Rattle.names_space.specs.declared.Table.TheVariants.{Types, Symbols}
-use Rattle.names_space.specs.declared.TypeName.{TypeName}
-use Rattle.names_space.specs.declared.TypeName.TheVariants as stands
-use Rattle.elab_walk.specs.Scoped.{IsScopedEntry}
+use Rattle.elab_parts.specs.tasks.declared.signature.SymbolKind.{SymbolKind}
+use Rattle.elab_parts.specs.tasks.declared.signature.SymbolKind.TheVariants.{Kind, Constructor, Projection}
+use Rattle.elab_parts.specs.tasks.Task.{SymbolTree, int_symbol, symbol_or}
+use Rattle.elab_parts.specs.tasks.Vocabulary.{Vocabulary, is_empty}
+use Rattle.elab_parts.specs.tasks.Typing.{entry, MakesTerms}
+use Rattle.elab_parts.specs.tasks.Valid.{IsTypeIn, HasTypes}
+use Rattle.elab_parts.specs.names_space.Names.{ScopeNames, ScopeEntry, number_of}
+use Rattle.elab_parts.specs.names_space.declared.Table.{Table}
+use Rattle.elab_parts.specs.names_space.declared.Table.TheVariants.{Types, Symbols}
+use Rattle.elab_parts.specs.names_space.declared.TypeName.{TypeName}
+use Rattle.elab_parts.specs.names_space.declared.TypeName.TheVariants as stands
+use Rattle.elab_parts.specs.elab_walk.Scoped.{IsScopedEntry}
 use Rattle.elab_parts.specs.Entries.{builtin, is_tuple}
 use Rattle.valid_tasks.specs.Signature.{with_entries}
 

@@ -1,15 +1,15 @@
 -- The sides of a clone's elements where the clone stands, and the signature with the entries of its copies.
 use Rattle.std.specs.Prelude.{List, ◌++◌, map, length, None}
-use Rattle.tasks.specs.Task.{SymbolTree, symbol_or}
-use Rattle.tasks.specs.Vocabulary.{Vocabulary}
-use Rattle.tasks.specs.Valid.{IsTypeIn}
-use Rattle.syntax_why.specs.Lexeme.{Word}
-use Rattle.syntax_why.specs.Declarations.{Element, type_element}
+use Rattle.elab_parts.specs.tasks.Task.{SymbolTree, symbol_or}
+use Rattle.elab_parts.specs.tasks.Vocabulary.{Vocabulary}
+use Rattle.elab_parts.specs.tasks.Valid.{IsTypeIn}
+use Rattle.elab_parts.specs.syntax_why.Lexeme.{Word}
+use Rattle.elab_parts.specs.syntax_why.Declarations.{Element, type_element}
 use Rattle.elab_parts.specs.Outcomes.{Setting}
-use Rattle.clones.specs.Copies.{entry_copied}
-use Rattle.clone_elements.specs.Left.{Origin, last_place}
-use Rattle.clone_elements.specs.Rights.{RightTree, type_right, rights_tuples}
-use Rattle.clone_elements.specs.Plans.{SideTree, sides_made, fates_of, kept, clone_map}
+use Rattle.clone_copies.specs.clones.Copies.{entry_copied}
+use Rattle.clone_copies.specs.clone_elements.Left.{Origin, last_place}
+use Rattle.clone_copies.specs.clone_elements.Rights.{RightTree, type_right, rights_tuples}
+use Rattle.clone_copies.specs.clone_elements.Plans.{SideTree, sides_made, fates_of, kept, clone_map}
 
 -- with the entries of the tuples on the right
 abbrev pub with_rights : Setting → List Element → Setting

@@ -1,13 +1,13 @@
 -- Where a declaration stands over a well-formed signature: what names stand for, and the constructors of its tuples.
 use Rattle.std.specs.Prelude.{◌≡◌, ℕ, List, [], ◌∷◌, length, slice_get, Some, IsSomeAnd, IfSome, IsTrue}
-use Rattle.syntax_why.specs.Lexeme.{Word}
-use Rattle.tasks.specs.declared.signature.SymbolKind.TheVariants.{Constructor}
-use Rattle.tasks.specs.Task.{SymbolTree, int_symbol, symbol_or}
-use Rattle.tasks.specs.Vocabulary.{Vocabulary}
-use Rattle.tasks.specs.Typing.{MakesTerms}
-use Rattle.tasks.specs.Valid.{IsTypeIn, IsTypeEntry, IsSignatureOf}
-use Rattle.elab_names.specs.Abstract.{TypeExpression, TypeExpressions, variable_type, composed_type, product_type, no_types, more_types, Pattern, Patterns, wildcard_pattern, variable_pattern, constructor_pattern, tuple_pattern, alias_pattern, no_patterns, more_patterns, Alternatives, no_alternatives, more_alternatives, BoundNames, Expression, Expressions, MatchBranches, applied_expression, infix_expression, integer_expression, true_expression, false_expression, tuple_expression, cast_expression, not_expression, connected_expression, equality_expression, if_expression, let_expression, match_expression, quantified_expression, no_expressions, more_expressions, no_branches, more_branches, count_forms, count_patterns, count_expressions}
-use Rattle.elab_names.specs.Where.{Where, MeaningTree, Stands, Abbreviates}
+use Rattle.elab_parts.specs.syntax_why.Lexeme.{Word}
+use Rattle.elab_parts.specs.tasks.declared.signature.SymbolKind.TheVariants.{Constructor}
+use Rattle.elab_parts.specs.tasks.Task.{SymbolTree, int_symbol, symbol_or}
+use Rattle.elab_parts.specs.tasks.Vocabulary.{Vocabulary}
+use Rattle.elab_parts.specs.tasks.Typing.{MakesTerms}
+use Rattle.elab_parts.specs.tasks.Valid.{IsTypeIn, IsTypeEntry, IsSignatureOf}
+use Rattle.elab_parts.specs.elab_names.Abstract.{TypeExpression, TypeExpressions, variable_type, composed_type, product_type, no_types, more_types, Pattern, Patterns, wildcard_pattern, variable_pattern, constructor_pattern, tuple_pattern, alias_pattern, no_patterns, more_patterns, Alternatives, no_alternatives, more_alternatives, BoundNames, Expression, Expressions, MatchBranches, applied_expression, infix_expression, integer_expression, true_expression, false_expression, tuple_expression, cast_expression, not_expression, connected_expression, equality_expression, if_expression, let_expression, match_expression, quantified_expression, no_expressions, more_expressions, no_branches, more_branches, count_forms, count_patterns, count_expressions}
+use Rattle.elab_parts.specs.elab_names.Where.{Where, MeaningTree, Stands, Abbreviates}
 
 -- what may be named stays, over these entries
 abbrev pub with_entries : Vocabulary → List SymbolTree → Vocabulary

@@ -3,12 +3,12 @@
 use Rattle.std.specs.Prelude.{◌≡◌, ◌≢◌, ℕ, ◌<◌, ◌≤◌, not, Bool, false, List, [], ◌∷◌, ◌++◌, map, length, slice_get, take, All, AllPairs, Some}
 use Rattle.std.specs.List.{filter, Contains, range_with_len}
 use Rattle.std.specs.Str.{bytes_eq}
-use Rattle.trees.specs.Tree.{Tree}
-use Rattle.trees.specs.Node.{Grows}
-use Rattle.tasks.specs.Task.{SymbolTree, DeclarationTree}
-use Rattle.tasks.specs.Vocabulary.{is_empty}
-use Rattle.tasks.specs.Valid.{IsQuoted}
-use Rattle.elab_walk.specs.Scoped.{IsScopedEntry}
+use Rattle.elab_parts.specs.trees.Tree.{Tree}
+use Rattle.elab_parts.specs.trees.Node.{Grows}
+use Rattle.elab_parts.specs.tasks.Task.{SymbolTree, DeclarationTree}
+use Rattle.elab_parts.specs.tasks.Vocabulary.{is_empty}
+use Rattle.elab_parts.specs.tasks.Valid.{IsQuoted}
+use Rattle.elab_parts.specs.elab_walk.Scoped.{IsScopedEntry}
 use Rattle.elab_parts.specs.Entries.{builtin}
 use Rattle.valid_tasks.specs.Scopes.{IsTypedSignature, AreTypedScopes}
 use Rattle.valid_tasks.specs.Moves.{AreTypedMoves}

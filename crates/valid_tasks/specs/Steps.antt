@@ -2,11 +2,11 @@
 use Rattle.std.specs.Prelude.{◌≡◌, ◌≢◌, ℕ, if◌then◌else◌, false, List, [], ◌∷◌, ◌++◌, map, All}
 use Rattle.std.specs.List.{Contains}
 use Rattle.std.specs.Str.{bytes_eq}
-use Rattle.tasks.specs.Task.{SymbolTree, symbol_or, DeclarationTree, made, made_by}
-use Rattle.tasks.specs.Roles.{is_constructor, role_in}
-use Rattle.tasks.specs.Vocabulary.{is_empty}
-use Rattle.clones.specs.Mapped.{Map}
-use Rattle.clones.specs.Copies.{declaration_copied}
+use Rattle.elab_parts.specs.tasks.Task.{SymbolTree, symbol_or, DeclarationTree, made, made_by}
+use Rattle.elab_parts.specs.tasks.Roles.{is_constructor, role_in}
+use Rattle.elab_parts.specs.tasks.Vocabulary.{is_empty}
+use Rattle.clone_copies.specs.clones.Mapped.{Map}
+use Rattle.clone_copies.specs.clones.Copies.{declaration_copied}
 use Rattle.elab_parts.specs.Entries.{builtin}
 use Rattle.valid_tasks.specs.Lists.{after}
 use Rattle.valid_tasks.specs.Tasks.{AreSound}

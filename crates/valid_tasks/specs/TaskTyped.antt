@@ -1,10 +1,10 @@
 -- What is typed over a signature of which each entry that has a theory may be named.
 use Rattle.std.specs.Prelude.{ℕ, List, All}
-use Rattle.trees.specs.Tree.{Tree}
-use Rattle.tasks.specs.Task.{SymbolTree}
-use Rattle.tasks.specs.Vocabulary.{of_signature}
+use Rattle.elab_parts.specs.trees.Tree.{Tree}
+use Rattle.elab_parts.specs.tasks.Task.{SymbolTree}
+use Rattle.elab_parts.specs.tasks.Vocabulary.{of_signature}
 use Rattle.match_cover.specs.Shapes.{IsPattern, HaveOneType}
-use Rattle.names_space.specs.Names.{ScopeNames}
+use Rattle.elab_parts.specs.names_space.Names.{ScopeNames}
 use Rattle.valid_tasks.specs.Scopes.{IsTypedSignature, AreTypedScopes}
 
 -- a match, by its token: its patterns are well typed, and of one type

@@ -1,14 +1,14 @@
 -- What is before a goal, and the goal, so that its task is valid.
 use Rattle.std.specs.Prelude.{◌≡◌, ◌≢◌, ℕ, false, List, [], ◌∷◌, map, All, AllPairs, slice_get, Some}
 use Rattle.std.specs.Str.{bytes_eq}
-use Rattle.trees.specs.Tree.{Tree}
-use Rattle.trees.specs.Binding.{inst_types}
-use Rattle.tasks.specs.Task.{SymbolTree, symbol_or, Says, DeclarationTree, made, made_by}
-use Rattle.tasks.specs.Rigid.{rigid_symbol}
-use Rattle.tasks.specs.Vocabulary.{is_empty}
-use Rattle.tasks.specs.Valid.{IsFormulaOver, IsQuoted}
-use Rattle.syntax_why.specs.declared.declarations.PropKind.{PropKind}
-use Rattle.syntax_why.specs.declared.declarations.PropKind.TheVariants.{Axiom}
+use Rattle.elab_parts.specs.trees.Tree.{Tree}
+use Rattle.elab_parts.specs.trees.Binding.{inst_types}
+use Rattle.elab_parts.specs.tasks.Task.{SymbolTree, symbol_or, Says, DeclarationTree, made, made_by}
+use Rattle.elab_parts.specs.tasks.Rigid.{rigid_symbol}
+use Rattle.elab_parts.specs.tasks.Vocabulary.{is_empty}
+use Rattle.elab_parts.specs.tasks.Valid.{IsFormulaOver, IsQuoted}
+use Rattle.elab_parts.specs.syntax_why.declared.declarations.PropKind.{PropKind}
+use Rattle.elab_parts.specs.syntax_why.declared.declarations.PropKind.TheVariants.{Axiom}
 use Rattle.elab_parts.specs.Entries.{builtin}
 use Rattle.elab_terms.specs.Outcomes.{rigid_types}
 use Rattle.valid_tasks.specs.Lists.{after, AreValidAfter}

@@ -1,7 +1,7 @@
 -- Two maps that agree on what becomes of symbols below a number: a trial map, under which all types that aren't replaced are new, and
 -- the map of a clone.
 use Rattle.std.specs.Prelude.{◌≡◌, ℕ, ◌<◌, None}
-use Rattle.clones.specs.Mapped.{Map}
+use Rattle.clone_copies.specs.clones.Mapped.{Map}
 
 -- they replace the same type symbols, and a symbol that stays one below the number becomes the same
 pub record AgreeOn (n : ℕ) (m m' : Map) : Type 0 where

@@ -1,19 +1,19 @@
 -- What is elaborated is well typed over the signature (rank-1 polymorphism).
 use Rattle.std.specs.Prelude.{◌≡◌, ℕ, false, List, [], map, All, Option, Some, None, IfSome}
 use Rattle.std.specs.Option.{is_none}
-use Rattle.trees.specs.declared.Sort.{Sort}
-use Rattle.trees.specs.declared.Sort.TheVariants.{Kind, Term, Formula, Pattern}
-use Rattle.trees.specs.Tree.{Tree}
-use Rattle.trees.specs.Sorts.{sort_of, type_of}
-use Rattle.tasks.specs.Vocabulary.{Vocabulary}
-use Rattle.tasks.specs.Typing.{TypedUnder}
-use Rattle.tasks.specs.Valid.{VariablesBelow, ParametersOf, IsTypeIn}
-use Rattle.unify_types.specs.Assigned.{assign}
-use Rattle.elab_names.specs.Abstract.{Expression}
-use Rattle.elab_names.specs.Faults.{fault}
-use Rattle.elab_names.specs.Where.{Where}
-use Rattle.elab_walk.specs.Patterns.{LocalTree}
-use Rattle.elab_walk.specs.Pieces.{names}
+use Rattle.elab_parts.specs.trees.declared.Sort.{Sort}
+use Rattle.elab_parts.specs.trees.declared.Sort.TheVariants.{Kind, Term, Formula, Pattern}
+use Rattle.elab_parts.specs.trees.Tree.{Tree}
+use Rattle.elab_parts.specs.trees.Sorts.{sort_of, type_of}
+use Rattle.elab_parts.specs.tasks.Vocabulary.{Vocabulary}
+use Rattle.elab_parts.specs.tasks.Typing.{TypedUnder}
+use Rattle.elab_parts.specs.tasks.Valid.{VariablesBelow, ParametersOf, IsTypeIn}
+use Rattle.elab_parts.specs.unify_types.Assigned.{assign}
+use Rattle.elab_parts.specs.elab_names.Abstract.{Expression}
+use Rattle.elab_parts.specs.elab_names.Faults.{fault}
+use Rattle.elab_parts.specs.elab_names.Where.{Where}
+use Rattle.elab_parts.specs.elab_walk.Patterns.{LocalTree}
+use Rattle.elab_parts.specs.elab_walk.Pieces.{names}
 use Rattle.valid_tasks.specs.Signature.{IsWellFormed, HasTuples}
 
 -- a formula is due, or a term of a type

@@ -1,7 +1,7 @@
 -- When all that is known while a source is typed is typed over its signature.
 use Rattle.std.specs.Prelude.{◌≡◌, false, All}
 use Rattle.std.specs.Str.{bytes_eq}
-use Rattle.tasks.specs.Vocabulary.{is_empty, of_signature}
+use Rattle.elab_parts.specs.tasks.Vocabulary.{is_empty, of_signature}
 use Rattle.elab_parts.specs.Entries.{builtin}
 use Rattle.elab_parts.specs.Outcomes.{Setting}
 use Rattle.valid_tasks.specs.Scopes.{IsTypedSignature, AreTypedScopes}

@@ -1,18 +1,18 @@
 -- What a declaration makes is valid over the signature that it extends, and keeps signature and scopes typed.
 use Rattle.std.specs.Prelude.{ℕ, reverse, length, Some, IsTrue, ◌≡◌, false, List, ◌++◌, All}
 use Rattle.std.specs.Str.{bytes_eq}
-use Rattle.trees.specs.Tree.{Tree}
-use Rattle.trees.specs.Facts.{IndicesFit}
-use Rattle.tasks.specs.Task.{SymbolTree, symbol_or, DefinitionTree, InductiveTree, BodyTree, Defines, Induces, Says, DeclarationTree}
-use Rattle.tasks.specs.Equations.{cells, type_variables, bound_variables, for_all, equated}
-use Rattle.tasks.specs.Meaning.{symbols_at, declarations_at}
-use Rattle.tasks.specs.declared.signature.Signature.{Signature}
-use Rattle.tasks.specs.Vocabulary.{Vocabulary, is_empty}
-use Rattle.tasks.specs.Valid.{IsSignatureOf, IsValidDecl}
-use Rattle.names_space.specs.Names.{ScopeNames}
+use Rattle.elab_parts.specs.trees.Tree.{Tree}
+use Rattle.elab_parts.specs.trees.Facts.{IndicesFit}
+use Rattle.elab_parts.specs.tasks.Task.{SymbolTree, symbol_or, DefinitionTree, InductiveTree, BodyTree, Defines, Induces, Says, DeclarationTree}
+use Rattle.elab_parts.specs.tasks.Equations.{cells, type_variables, bound_variables, for_all, equated}
+use Rattle.elab_parts.specs.tasks.Meaning.{symbols_at, declarations_at}
+use Rattle.elab_parts.specs.tasks.declared.signature.Signature.{Signature}
+use Rattle.elab_parts.specs.tasks.Vocabulary.{Vocabulary, is_empty}
+use Rattle.elab_parts.specs.tasks.Valid.{IsSignatureOf, IsValidDecl}
+use Rattle.elab_parts.specs.names_space.Names.{ScopeNames}
 use Rattle.elab_parts.specs.declared.made.Elaborated.{Elaborated}
 use Rattle.elab_parts.specs.Entries.{builtin}
-use Rattle.syntax_why.specs.declared.declarations.PropKind.TheVariants.{Goal}
+use Rattle.elab_parts.specs.syntax_why.declared.declarations.PropKind.TheVariants.{Goal}
 use Rattle.elab_parts.specs.Declarations.{Declaration, proposition_declaration}
 use Rattle.elab_parts.specs.Outcomes.{Setting, Outcome}
 use Rattle.decl_checks.specs.Checks.{HasNoFault}

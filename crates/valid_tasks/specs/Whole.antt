@@ -1,7 +1,7 @@
 -- Places of declarations among which those of each theory are kept whole.
 use Rattle.std.specs.Prelude.{◌≡◌, ℕ, List, slice_get, Some}
 use Rattle.std.specs.List.{Contains}
-use Rattle.tasks.specs.Task.{DeclarationTree}
+use Rattle.elab_parts.specs.tasks.Task.{DeclarationTree}
 
 -- with the place of a declaration stand those of all declarations of its theory
 abbrev pub IsWhole : List DeclarationTree → List ℕ → Type 0

@@ -1,11 +1,11 @@
 // A copy of a valid declaration under a map of symbols is valid over what the map's symbols may name.
 ghost use Rattle.std.specs.Prelude.{ℕ, List, [], All};
-ghost use Rattle.trees.specs.Tree.{Tree};
-ghost use Rattle.tasks.specs.Task.{SymbolTree, DeclarationTree, made_by};
-ghost use Rattle.tasks.specs.Vocabulary.{Vocabulary};
-ghost use Rattle.tasks.specs.Valid.{IsTypeIn, HasTypes, IsFormulaOver, IsValidDecl};
-ghost use Rattle.clones.specs.Mapped.{Map, mapped};
-ghost use Rattle.clones.specs.Copies.{declaration_copied, entry_copied};
+ghost use Rattle.elab_parts.specs.trees.Tree.{Tree};
+ghost use Rattle.elab_parts.specs.tasks.Task.{SymbolTree, DeclarationTree, made_by};
+ghost use Rattle.elab_parts.specs.tasks.Vocabulary.{Vocabulary};
+ghost use Rattle.elab_parts.specs.tasks.Valid.{IsTypeIn, HasTypes, IsFormulaOver, IsValidDecl};
+ghost use Rattle.clone_copies.specs.clones.Mapped.{Map, mapped};
+ghost use Rattle.clone_copies.specs.clones.Copies.{declaration_copied, entry_copied};
 ghost use Rattle.valid_tasks.specs.Morphisms.{MapsTypes, IsMorphism, AreTyped, IsCopied};
 
 /// A law: where a map takes each type symbol of a vocabulary to a type symbol of another one with as

@@ -1,14 +1,14 @@
 // The signature and the names that a clone leaves are typed over the signature.
 ghost use Rattle.std.specs.Prelude.{◌≡◌, ◌≢◌, ℕ, ◌<◌, false, List, ◌++◌, map, length, All, Some, None, IsTrue};
 ghost use Rattle.std.specs.Str.{bytes_eq};
-ghost use Rattle.trees.specs.Tree.{Tree};
-ghost use Rattle.trees.specs.Node.{tree_at, Holds};
-ghost use Rattle.trees.specs.declared.TermId.{TermId};
-ghost use Rattle.tasks.specs.declared.signature.SymbolKind.TheVariants.{Kind};
-ghost use Rattle.tasks.specs.Task.{SymbolTree, symbol_or};
-ghost use Rattle.tasks.specs.Rigid.{rigid_symbol};
-ghost use Rattle.tasks.specs.Vocabulary.{Vocabulary, is_empty, of_signature};
-ghost use Rattle.clones.specs.Mapped.{Map, mapped};
+ghost use Rattle.elab_parts.specs.trees.Tree.{Tree};
+ghost use Rattle.elab_parts.specs.trees.Node.{tree_at, Holds};
+ghost use Rattle.elab_parts.specs.trees.declared.TermId.{TermId};
+ghost use Rattle.elab_parts.specs.tasks.declared.signature.SymbolKind.TheVariants.{Kind};
+ghost use Rattle.elab_parts.specs.tasks.Task.{SymbolTree, symbol_or};
+ghost use Rattle.elab_parts.specs.tasks.Rigid.{rigid_symbol};
+ghost use Rattle.elab_parts.specs.tasks.Vocabulary.{Vocabulary, is_empty, of_signature};
+ghost use Rattle.clone_copies.specs.clones.Mapped.{Map, mapped};
 ghost use Rattle.elab_parts.specs.Entries.{builtin};
 ghost use Rattle.valid_tasks.specs.Scopes.{IsTypedEntry, IsTypedSignature, IsTypeNumber, IsSymbolNumber, IsAliased};
 ghost use Rattle.valid_tasks.specs.Built.{IsBuiltRight};

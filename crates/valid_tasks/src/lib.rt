@@ -21,6 +21,7 @@ pub use copies_laws::{
     trials_agree,
 };
 pub use declaration_copies::{copies_valid, formulas_copied, types_copied};
+pub use elab_terms::{begin, is_logical};
 pub use entries_laws::{entries_typed, names_typed};
 pub use maps_laws::{copies_typed, outcomes_placed, sides_typed, types_mapped};
 pub use places_laws::{moves_become, places_made};

@@ -1,8 +1,8 @@
 // What a clone makes of a theory, place by place, is what its steps make of the theory's declarations.
 ghost use Rattle.std.specs.Prelude.{◌≡◌, ◌≢◌, ℕ, ◌<◌, List, ◌++◌, length, All, AllPairs};
-ghost use Rattle.trees.specs.Tree.{Tree};
-ghost use Rattle.tasks.specs.Vocabulary.{Vocabulary};
-ghost use Rattle.clones.specs.Mapped.{Map};
+ghost use Rattle.elab_parts.specs.trees.Tree.{Tree};
+ghost use Rattle.elab_parts.specs.tasks.Vocabulary.{Vocabulary};
+ghost use Rattle.clone_copies.specs.clones.Mapped.{Map};
 ghost use Rattle.theory_states.specs.declared.moves.Move.{Move};
 ghost use Rattle.valid_tasks.specs.Moves.{AreTypedMoves};
 ghost use Rattle.valid_tasks.specs.Morphisms.{IsMorphism};

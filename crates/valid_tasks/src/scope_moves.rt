@@ -1,12 +1,12 @@
 // Scopes stay typed as names come in by moves: what a name stands for is a thing of its table.
 ghost use Rattle.std.specs.Prelude.{Bool, ℕ, List, IfSome, Option};
-ghost use Rattle.trees.specs.Tree.{Tree};
-ghost use Rattle.trees.specs.Node.{Grows};
-ghost use Rattle.tasks.specs.Vocabulary.{Vocabulary};
-ghost use Rattle.names_space.specs.Names.{ScopeNames, find_name, with_name, with_scope};
-ghost use Rattle.names_space.specs.declared.Table.{Table};
-ghost use Rattle.names_space.specs.declared.TypeName.{TypeName};
-ghost use Rattle.syntax_why.specs.declared.declarations.Link.{Link};
+ghost use Rattle.elab_parts.specs.trees.Tree.{Tree};
+ghost use Rattle.elab_parts.specs.trees.Node.{Grows};
+ghost use Rattle.elab_parts.specs.tasks.Vocabulary.{Vocabulary};
+ghost use Rattle.elab_parts.specs.names_space.Names.{ScopeNames, find_name, with_name, with_scope};
+ghost use Rattle.elab_parts.specs.names_space.declared.Table.{Table};
+ghost use Rattle.elab_parts.specs.names_space.declared.TypeName.{TypeName};
+ghost use Rattle.elab_parts.specs.syntax_why.declared.declarations.Link.{Link};
 ghost use Rattle.theory_states.specs.declared.moves.Move.{Move};
 ghost use Rattle.theory_states.specs.Moves.{left, replayed, brought, handed};
 ghost use Rattle.valid_tasks.specs.Scopes.{IsSubvocabulary, IsTypedThing, AreTypedScopes};

@@ -1,12 +1,12 @@
 // What is known while the theories of a source are typed stays sound as a theory is cloned.
 ghost use Rattle.std.specs.Prelude.{ℕ, List, Option};
 ghost use Rattle.std.specs.List.{Contains};
-ghost use Rattle.tasks.specs.Task.{SymbolTree, DeclarationTree};
-ghost use Rattle.tasks.specs.Vocabulary.{Vocabulary};
-ghost use Rattle.clones.specs.Mapped.{Map};
+ghost use Rattle.elab_parts.specs.tasks.Task.{SymbolTree, DeclarationTree};
+ghost use Rattle.elab_parts.specs.tasks.Vocabulary.{Vocabulary};
+ghost use Rattle.clone_copies.specs.clones.Mapped.{Map};
 ghost use Rattle.valid_tasks.specs.Scopes.{IsSymbolNumber};
 ghost use Rattle.valid_tasks.specs.Morphisms.{IsMorphism};
-ghost use Rattle.syntax_why.specs.declared.declarations.Link.{Link};
+ghost use Rattle.elab_parts.specs.syntax_why.declared.declarations.Link.{Link};
 ghost use Rattle.theory_states.specs.declared.moves.Move.{Move};
 ghost use Rattle.goal_tasks.specs.Theories.{GoalTree};
 ghost use Rattle.theory_states.specs.declared.states.AxiomAt.{AxiomAt};

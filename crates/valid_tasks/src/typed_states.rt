@@ -3,9 +3,9 @@ ghost use Rattle.theory_states.specs.States.{StateTree};
 ghost use Rattle.theory_states.specs.Uses.{IsTheoryUsed};
 ghost use Rattle.valid_tasks.specs.TypedStates.{IsTypedState};
 ghost use Rattle.std.specs.Prelude.{Option};
-ghost use Rattle.syntax_why.specs.declared.names.Name.{Name};
-ghost use Rattle.syntax_why.specs.declared.names.Path.{Path};
-ghost use Rattle.syntax_why.specs.declared.declarations.Link.{Link};
+ghost use Rattle.elab_parts.specs.syntax_why.declared.names.Name.{Name};
+ghost use Rattle.elab_parts.specs.syntax_why.declared.names.Path.{Path};
+ghost use Rattle.elab_parts.specs.syntax_why.declared.declarations.Link.{Link};
 
 /// A law: what is known stays typed where a theory is used.
 pub fn uses_typed()

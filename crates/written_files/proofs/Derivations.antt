@@ -1,13 +1,13 @@
 -- The conditions of files that are written by a task's own table, and by one without a tallest tree.
 use Rattle.std.proofs.Common.{◌≡◌, ◌≤◌, ◌^◌, List, length, None, sym, subst}
-use Rattle.trees.specs.Tree.{Tree}
-use Rattle.tasks.specs.Task.{TaskTree}
-use Rattle.tasks.specs.Valid.{IsValid}
-use Rattle.name_entries.specs.declared.names.NameEntry.{NameEntry}
-use Rattle.rule_rows.specs.Trees.{StepTree}
+use Rattle.kernel.specs.trees.Tree.{Tree}
+use Rattle.kernel.specs.tasks.Task.{TaskTree}
+use Rattle.kernel.specs.tasks.Valid.{IsValid}
+use Rattle.name_tables.specs.name_entries.declared.names.NameEntry.{NameEntry}
+use Rattle.kernel.specs.rule_rows.Trees.{StepTree}
 use Rattle.kernel.specs.Right.{AreRight}
 use Rattle.name_tables.specs.Tables.{task_names, NamesDiffer}
-use Rattle.tasks.specs.Words.{NamesAreWords}
+use Rattle.kernel.specs.tasks.Words.{NamesAreWords}
 use Rattle.written_files.specs.Named.{AreWords, AreNamed, IsLow, AreLow}
 use Rattle.written_files.proofs.TaskNames.{steps_named, names_words}
 

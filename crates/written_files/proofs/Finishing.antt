@@ -1,12 +1,12 @@
 -- A whole text, read back.
 use Rattle.std.proofs.Common.{◌≡◌, ℕ, List, ◌++◌, get_or, All, inl, inr, sym, ap, subst}
 use Rattle.std.specs.Prelude.{flat_map}
-use Rattle.trees.specs.Tree.{Tree}
-use Rattle.trees.specs.Sorts.{sort_of, IsExpression}
-use Rattle.name_entries.specs.declared.names.NameEntry.{NameEntry}
-use Rattle.rule_rows.specs.declared.rule.Step.{Step}
-use Rattle.rule_rows.specs.Trees.{StepTree, rule_types}
-use Rattle.rule_rows.specs.Meaning.{steps_at}
+use Rattle.kernel.specs.trees.Tree.{Tree}
+use Rattle.kernel.specs.trees.Sorts.{sort_of, IsExpression}
+use Rattle.name_tables.specs.name_entries.declared.names.NameEntry.{NameEntry}
+use Rattle.kernel.specs.rule_rows.declared.rule.Step.{Step}
+use Rattle.kernel.specs.rule_rows.Trees.{StepTree, rule_types}
+use Rattle.kernel.specs.rule_rows.Meaning.{steps_at}
 use Rattle.tree_writing.specs.declared.writer.LineKind.{LineKind}
 use Rattle.tree_writing.specs.declared.writer.LineKind.TheVariants as kind
 use Rattle.tree_writing.specs.Spelt.{AreNamesOf}
@@ -19,7 +19,7 @@ use Rattle.written_files.specs.Written.{read_with, AddsSteps, StepsReadBack}
 use Rattle.written_files.proofs.Texts.{trees_text, text_read}
 use Rattle.written_files.proofs.Rightness.{all_used, all_good, all_stand, flat_all, all_flat}
 use Rattle.tree_writing.proofs.Sorting.{expression_kind as kind_expression}
-use Rattle.plain_laws.proofs.Lists.{All-left as front_all, All-right as back_all}
+use Rattle.kernel.proofs.plain_laws.Lists.{All-left as front_all, All-right as back_all}
 
 pub finished : (x : Lines) (steps : List Step) (roots : List Tree) (start new : List ℕ) → roots ≡ flat_map step_trees (steps_at x.store.now steps) → IsWritten x.store.now x.table.now roots start x.numbers.now → AreWords x.table.now → AddsSteps x steps start new → StepsReadBack x.table.now (steps_at x.store.now steps) new
 finished x steps roots start new are written words adds t tallest closes low =

@@ -1,3 +1,4 @@
+pub use Rattle.kernel.proofs as kernel
 mod RuleParts
 mod StepBack
 mod Plain

@@ -8,11 +8,11 @@ use Rattle.std.proofs.lemmas.Bool.Decides.{nat_tests}
 use Rattle.std.proofs.lemmas.Slice.Eq.{bytes_eq-Decides}
 use Rattle.std.proofs.lemmas.List.Elements.{All-cons, All-nil, All-append}
 use Rattle.std.proofs.lemmas.List.{take-append-drop}
-use Rattle.trees.specs.Tree.{Tree, Leaf, Three, HNum, HTrue, HFalse, HIf}
-use Rattle.tasks.specs.Task.{TaskTree, SymbolTree}
-use Rattle.rule_rows.specs.Trees.{RuleTree, StepTree}
-use Rattle.name_entries.specs.declared.names.NameEntry.{NameEntry}
-use Rattle.integer_words.specs.Integers.{number_from, number_below, negative, integer}
+use Rattle.kernel.specs.trees.Tree.{Tree, Leaf, Three, HNum, HTrue, HFalse, HIf}
+use Rattle.kernel.specs.tasks.Task.{TaskTree, SymbolTree}
+use Rattle.kernel.specs.rule_rows.Trees.{RuleTree, StepTree}
+use Rattle.name_tables.specs.name_entries.declared.names.NameEntry.{NameEntry}
+use Rattle.step_lines.specs.integer_words.Integers.{number_from, number_below, negative, integer}
 use Rattle.word_tables.specs.Words.{is_same_word, place_in_words}
 use Rattle.rule_words.specs.declared.argument.ArgumentKind.{ArgumentKind}
 use Rattle.rule_words.specs.declared.argument.ArgumentKind.TheVariants as arg
@@ -26,10 +26,10 @@ use Rattle.tree_lines.specs.Words.{LineWord, number, at_number, each, pairs, one
 use Rattle.tree_lines.specs.Named.{NameMeaning, entry_named, meaning, named_type_at}
 use Rattle.tree_lines.specs.Lines.{Earlier, SymbolUse, use_by, symbol_number, application_tree, constructor_pattern_tree, pattern_words, pattern_node_words, pattern_word, expression_words, expression_names, expression_word, one_tree, two_tree, variable_tree, match_tree, type, pattern_at, expression_at, meaning_types, use_of, named_use, used_on, type_of_line, pattern_by, pattern_of_line, match_by_words, plain_by, expression_by, expression_of_line}
 use Rattle.step_lines.specs.Steps.{Thing, TypeOf, PatternOf, ExpressionOf, StepOf, is_colon, before_colon, after_colon, step_by, argument, then_argument, arguments, rule_arguments, own_types, rule_named, rule_of_words, step_ended, step_of_line, line_made}
-use Rattle.tasks.specs.Words.{IsLineWord}
+use Rattle.kernel.specs.tasks.Words.{IsLineWord}
 use Rattle.written_files.specs.Named.{AreWords}
 use Rattle.written_files.proofs.StepBack.{name_found, found_name}
-use Rattle.plain_laws.proofs.Bools.{and_both as both, same_number}
+use Rattle.kernel.proofs.plain_laws.Bools.{and_both as both, same_number}
 
 -- what a step in a chain was
 pub then_some : {A B : Type 0} (f : A → Option B) (o : Option A) (y : B) → option_and_then f o ≡ Some y → (x : A) × (o ≡ Some x) × (f x ≡ Some y)

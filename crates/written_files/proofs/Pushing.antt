@@ -3,19 +3,19 @@ use Rattle.std.proofs.Common.{◌≡◌, Bool, true, false, suc, ℕ, ℤ, ◌+�
 use Rattle.std.specs.Prelude.{codes, IsTrue}
 use Rattle.std.proofs.lemmas.List.Elements.{All-cons, All-nil}
 use Rattle.std.proofs.lemmas.List.{take_more, take_all, map_push, get_or-map, length-map}
-use Rattle.trees.specs.declared.TermId.{TermId}
-use Rattle.trees.specs.declared.Sort.TheVariants.{Kind}
-use Rattle.trees.specs.Tree.{Tree}
-use Rattle.trees.specs.Node.{tree_at}
-use Rattle.trees.specs.Sorts.{sort_of, IsExpression}
-use Rattle.tasks.specs.Task.{TaskTree}
-use Rattle.tasks.specs.Meaning.{trees_at}
-use Rattle.name_entries.specs.declared.names.NameOf.TheVariants.{Symbol}
-use Rattle.name_entries.specs.declared.names.NameEntry.{NameEntry}
-use Rattle.integer_words.specs.Integers.{integer}
-use Rattle.rule_rows.specs.declared.rule.Step.{Step}
-use Rattle.rule_rows.specs.Trees.{RuleTree}
-use Rattle.rule_rows.specs.Meaning.{rule_at}
+use Rattle.kernel.specs.trees.declared.TermId.{TermId}
+use Rattle.kernel.specs.trees.declared.Sort.TheVariants.{Kind}
+use Rattle.kernel.specs.trees.Tree.{Tree}
+use Rattle.kernel.specs.trees.Node.{tree_at}
+use Rattle.kernel.specs.trees.Sorts.{sort_of, IsExpression}
+use Rattle.kernel.specs.tasks.Task.{TaskTree}
+use Rattle.kernel.specs.tasks.Meaning.{trees_at}
+use Rattle.name_tables.specs.name_entries.declared.names.NameOf.TheVariants.{Symbol}
+use Rattle.name_tables.specs.name_entries.declared.names.NameEntry.{NameEntry}
+use Rattle.step_lines.specs.integer_words.Integers.{integer}
+use Rattle.kernel.specs.rule_rows.declared.rule.Step.{Step}
+use Rattle.kernel.specs.rule_rows.Trees.{RuleTree}
+use Rattle.kernel.specs.rule_rows.Meaning.{rule_at}
 use Rattle.rule_words.specs.declared.argument.Argument.{Argument}
 use Rattle.rule_words.specs.declared.argument.Argument.TheVariants as made
 use Rattle.rule_words.specs.declared.name.RuleName.{RuleName}

@@ -2,28 +2,28 @@
 use Rattle.std.proofs.Common.{◌≡◌, ℕ, ◌≤◌, ◌<◌, zero, suc, List, [], ◌∷◌, ◌++◌, length, get_or, take, All, Option, Some, None, inl, inr, refl, sym, ap, subst, arith}
 use Rattle.std.specs.Prelude.{IsSomeAnd, slice_get, flat_map}
 use Rattle.std.proofs.lemmas.List.Elements.{All-cons, All-nil, All-append}
-use Rattle.trees.specs.Tree.{Tree, Leaf, One, Two, Three, Head, HEnd, HPred, HFun, HPatCon, height}
-use Rattle.trees.specs.Sorts.{sort_of, IsExpression}
-use Rattle.tasks.specs.declared.signature.SymbolKind.TheVariants.{Predicate, Constructor}
-use Rattle.tasks.specs.Task.{TaskTree, SymbolTree}
-use Rattle.tasks.specs.Typing.{members, MakesTerms, IsUse, HasResult}
-use Rattle.tasks.specs.Vocabulary.{Vocabulary, of_task}
-use Rattle.tasks.specs.Open.{OpenTyped}
-use Rattle.tasks.specs.Valid.{IsGround}
-use Rattle.tasks.proofs.Closing.{typed_open}
-use Rattle.rule_rows.specs.Trees.{RuleTree, RReplace, StepTree, rule_trees, rule_types, step_or, sequents}
-use Rattle.trees.specs.Binding.{inst}
-use Rattle.rule_rows.specs.Forms.{equation_sides}
-use Rattle.rule_rows.specs.Rows.{IsRuleRow, IsTemplate, Adds}
-use Rattle.trees.specs.Sorts.{type_of}
-use Rattle.trees.specs.Facts.{Each}
+use Rattle.kernel.specs.trees.Tree.{Tree, Leaf, One, Two, Three, Head, HEnd, HPred, HFun, HPatCon, height}
+use Rattle.kernel.specs.trees.Sorts.{sort_of, IsExpression}
+use Rattle.kernel.specs.tasks.declared.signature.SymbolKind.TheVariants.{Predicate, Constructor}
+use Rattle.kernel.specs.tasks.Task.{TaskTree, SymbolTree}
+use Rattle.kernel.specs.tasks.Typing.{members, MakesTerms, IsUse, HasResult}
+use Rattle.kernel.specs.tasks.Vocabulary.{Vocabulary, of_task}
+use Rattle.kernel.specs.tasks.Open.{OpenTyped}
+use Rattle.kernel.specs.tasks.Valid.{IsGround}
+use Rattle.kernel.proofs.tasks.Closing.{typed_open}
+use Rattle.kernel.specs.rule_rows.Trees.{RuleTree, RReplace, StepTree, rule_trees, rule_types, step_or, sequents}
+use Rattle.kernel.specs.trees.Binding.{inst}
+use Rattle.kernel.specs.rule_rows.Forms.{equation_sides}
+use Rattle.kernel.specs.rule_rows.Rows.{IsRuleRow, IsTemplate, Adds}
+use Rattle.kernel.specs.trees.Sorts.{type_of}
+use Rattle.kernel.specs.trees.Facts.{Each}
 use Rattle.kernel.specs.Right.{IsGroundExpression, IsRight, AreRight}
 use Rattle.kernel.specs.Open.{OpenIn}
 use Rattle.step_files.specs.Lines.{IsGoodTree}
 use Rattle.tree_writing.specs.Used.{IsUsed}
 use Rattle.tree_writing.specs.Parts.{IsSubtree, StandsIn}
 use Rattle.written_files.specs.Named.{rule_expressions, step_trees, IsSortedStep, AreSorted, IsLow, AreLow}
-use Rattle.plain_laws.proofs.Lists.{All-left as front_all, All-right as back_all}
+use Rattle.kernel.proofs.plain_laws.Lists.{All-left as front_all, All-right as back_all}
 use Rattle.rule_words.proofs.ReadBack.{first_of, rest_of}
 
 -- a part is typed as far as it goes

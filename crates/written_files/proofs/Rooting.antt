@@ -4,12 +4,12 @@ use Rattle.std.specs.Prelude.{flat_map}
 use Rattle.std.proofs.lemmas.List.{take_more, map_push, map-append}
 use Rattle.std.proofs.lemmas.List.Concat.{flat_map-append}
 use Rattle.std.proofs.lemmas.List.Elements.{All-cons, All-nil, All-append}
-use Rattle.trees.specs.declared.TermId.{TermId}
-use Rattle.trees.specs.Tree.{Tree}
-use Rattle.trees.specs.Node.{tree_at, Holds}
-use Rattle.tasks.specs.Meaning.{trees_at}
-use Rattle.rule_rows.specs.declared.rule.Step.{Step}
-use Rattle.rule_rows.specs.Meaning.{rule_at, step_at, steps_at}
+use Rattle.kernel.specs.trees.declared.TermId.{TermId}
+use Rattle.kernel.specs.trees.Tree.{Tree}
+use Rattle.kernel.specs.trees.Node.{tree_at, Holds}
+use Rattle.kernel.specs.tasks.Meaning.{trees_at}
+use Rattle.kernel.specs.rule_rows.declared.rule.Step.{Step}
+use Rattle.kernel.specs.rule_rows.Meaning.{rule_at, step_at, steps_at}
 use Rattle.rule_words.specs.declared.argument.Argument.{Argument}
 use Rattle.rule_words.specs.declared.name.RuleName.{RuleName}
 use Rattle.rule_words.specs.Arguments.{ArgumentTree, ANumber, ASymbol, AInteger, AExpression, AType, argument_at, arguments_at, ArgumentHeld, ArgumentsHeld}

@@ -4,12 +4,12 @@ use Rattle.std.specs.Prelude.{codes, IsTrue}
 use Rattle.std.proofs.lemmas.Slice.Eq.{bytes_eq-Decides}
 use Rattle.std.specs.Option.{option_and_then, option_map}
 use Rattle.std.specs.Str.{bytes_eq}
-use Rattle.trees.specs.Tree.{Tree}
-use Rattle.tasks.specs.Task.{TaskTree}
-use Rattle.rule_rows.specs.Trees.{RuleTree}
-use Rattle.name_entries.specs.declared.names.NameOf.TheVariants.{Symbol}
-use Rattle.name_entries.specs.declared.names.NameEntry.{NameEntry}
-use Rattle.integer_words.specs.Integers.{integer}
+use Rattle.kernel.specs.trees.Tree.{Tree}
+use Rattle.kernel.specs.tasks.Task.{TaskTree}
+use Rattle.kernel.specs.rule_rows.Trees.{RuleTree}
+use Rattle.name_tables.specs.name_entries.declared.names.NameOf.TheVariants.{Symbol}
+use Rattle.name_tables.specs.name_entries.declared.names.NameEntry.{NameEntry}
+use Rattle.step_lines.specs.integer_words.Integers.{integer}
 use Rattle.rule_words.specs.declared.argument.ArgumentKind.{ArgumentKind}
 use Rattle.rule_words.specs.declared.argument.ArgumentKind.TheVariants as kind
 use Rattle.rule_words.specs.declared.name.RuleName.{RuleName}

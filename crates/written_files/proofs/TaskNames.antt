@@ -11,23 +11,23 @@ use Rattle.std.proofs.lemmas.List.Elements.{All-cons, All-nil, All-append}
 use Rattle.std.proofs.lemmas.Fmt.{decimal_is_IsNumeral}
 use Rattle.std.proofs.lemmas.Str.Parse.{digit_from_value}
 use Rattle.std.specs.Str.Parse.{AllDigits}
-use Rattle.trees.specs.Tree.{Tree, Leaf, One, Two, Three, Head, HEnd, HTyVar, HTyRigid, HTyApp, HPred, HFun, HPatCon}
-use Rattle.tasks.specs.declared.signature.SymbolKind.TheVariants.{Kind, Predicate}
-use Rattle.tasks.specs.Task.{SymbolTree, int_symbol, TaskTree, DeclarationTree, symbol_or, made, declared}
-use Rattle.tasks.specs.Roles.{RoleTree, PlainRole, maker, role, role_by}
-use Rattle.tasks.specs.Vocabulary.{of_task}
-use Rattle.tasks.specs.Typing.{members, MakesTerms, IsUse, HasResult}
-use Rattle.tasks.specs.Valid.{IsGround, IsValid}
-use Rattle.tasks.proofs.Declared.{any_iff, contains_cases, contains_step, none_in, maker_made, usable_made, matched_made}
-use Rattle.trees.specs.Binding.{inst_types}
-use Rattle.rule_rows.specs.Trees.{RuleTree, RDef, RClause, RInv, StepTree, step_or, sequents}
-use Rattle.tasks.specs.Inversion.{inversion}
-use Rattle.rule_rows.specs.Rows.{IsRuleRow, Adds, IsAtTypes, equation, clauses}
+use Rattle.kernel.specs.trees.Tree.{Tree, Leaf, One, Two, Three, Head, HEnd, HTyVar, HTyRigid, HTyApp, HPred, HFun, HPatCon}
+use Rattle.kernel.specs.tasks.declared.signature.SymbolKind.TheVariants.{Kind, Predicate}
+use Rattle.kernel.specs.tasks.Task.{SymbolTree, int_symbol, TaskTree, DeclarationTree, symbol_or, made, declared}
+use Rattle.kernel.specs.tasks.Roles.{RoleTree, PlainRole, maker, role, role_by}
+use Rattle.kernel.specs.tasks.Vocabulary.{of_task}
+use Rattle.kernel.specs.tasks.Typing.{members, MakesTerms, IsUse, HasResult}
+use Rattle.kernel.specs.tasks.Valid.{IsGround, IsValid}
+use Rattle.kernel.proofs.tasks.Declared.{any_iff, contains_cases, contains_step, none_in, maker_made, usable_made, matched_made}
+use Rattle.kernel.specs.trees.Binding.{inst_types}
+use Rattle.kernel.specs.rule_rows.Trees.{RuleTree, RDef, RClause, RInv, StepTree, step_or, sequents}
+use Rattle.kernel.specs.tasks.Inversion.{inversion}
+use Rattle.kernel.specs.rule_rows.Rows.{IsRuleRow, Adds, IsAtTypes, equation, clauses}
 use Rattle.kernel.specs.Right.{IsRight, AreRight}
 use Rattle.kernel.specs.Open.{OpenIn}
-use Rattle.name_entries.specs.declared.names.NameOf.{NameOf}
-use Rattle.name_entries.specs.declared.names.NameOf.TheVariants.{Int, Rigid, Symbol}
-use Rattle.name_entries.specs.declared.names.NameEntry.{NameEntry}
+use Rattle.name_tables.specs.name_entries.declared.names.NameOf.{NameOf}
+use Rattle.name_tables.specs.name_entries.declared.names.NameOf.TheVariants.{Int, Rigid, Symbol}
+use Rattle.name_tables.specs.name_entries.declared.names.NameEntry.{NameEntry}
 use Rattle.tree_lines.specs.Named.{meaning_by, entry_meaning, entry_named, entry_type}
 use Rattle.tree_lines.specs.Words.{each}
 use Rattle.name_tables.specs.Occurrences.{Occurrence, whole_occurrence}
@@ -36,11 +36,11 @@ use Rattle.name_tables.specs.Tables.{is_same, distinct, is_in, thing_of, occurre
 use Rattle.tree_writing.specs.Spelt.{IsSpelt}
 use Rattle.tree_writing.specs.Naming.{type_name}
 use Rattle.tree_writing.specs.Whole.{TopNamed}
-use Rattle.tasks.specs.Words.{IsPlainByte, IsLineWord, NamesAreWords}
+use Rattle.kernel.specs.tasks.Words.{IsPlainByte, IsLineWord, NamesAreWords}
 use Rattle.written_files.specs.Named.{IsName, AreWords, rule_symbols, step_trees, IsNamedTree, IsNamedStep, AreNamed}
 use Rattle.written_files.proofs.Plain.{past_plain}
 use Rattle.written_files.proofs.Rightness.{part_open, part_ground, step_open, step_ground, same_default}
-use Rattle.plain_laws.proofs.Bools.{and_both as both, same_number}
+use Rattle.kernel.proofs.plain_laws.Bools.{and_both as both, same_number}
 
 -- ---- each symbol of a task is in its table
 record HasThing (os : List Occurrence) (k : ℕ) : Type 0 where

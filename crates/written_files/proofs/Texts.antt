@@ -7,13 +7,13 @@ use Rattle.std.proofs.lemmas.List.Elements.{All-cons, All-nil, All-append}
 use Rattle.std.proofs.lemmas.List.Splits.{slice_split_none, slice_split_at}
 use Rattle.std.specs.Option.{option_map}
 use Rattle.std.specs.List.{onto_first}
-use Rattle.trees.specs.Tree.{Tree}
-use Rattle.tasks.specs.Task.{TaskTree}
-use Rattle.rule_rows.specs.declared.rule.Step.{Step}
-use Rattle.rule_rows.specs.Trees.{StepTree, no_step, step_or}
-use Rattle.rule_rows.specs.Meaning.{step_at, steps_at}
+use Rattle.kernel.specs.trees.Tree.{Tree}
+use Rattle.kernel.specs.tasks.Task.{TaskTree}
+use Rattle.kernel.specs.rule_rows.declared.rule.Step.{Step}
+use Rattle.kernel.specs.rule_rows.Trees.{StepTree, no_step, step_or}
+use Rattle.kernel.specs.rule_rows.Meaning.{step_at, steps_at}
 use Rattle.kernel.specs.Right.{last_starts}
-use Rattle.name_entries.specs.declared.names.NameEntry.{NameEntry}
+use Rattle.name_tables.specs.name_entries.declared.names.NameEntry.{NameEntry}
 use Rattle.tree_lines.specs.Words.{LineWord}
 use Rattle.tree_lines.specs.Lines.{Earlier}
 use Rattle.step_lines.specs.Steps.{Thing, TypeOf, PatternOf, ExpressionOf, StepOf, line_made}
@@ -26,7 +26,7 @@ use Rattle.tree_writing.specs.Parts.{StandsIn}
 use Rattle.tree_writing.specs.Text.{spaced, line_text, whole_text}
 use Rattle.tree_writing.specs.Whole.{letter, tree_by, with_tree, nothing_before, TreeLine, line_bytes, ReadTrees, IsWritten}
 use Rattle.written_files.specs.declared.words.Lines.{Lines}
-use Rattle.tasks.specs.Words.{IsLineWord}
+use Rattle.kernel.specs.tasks.Words.{IsLineWord}
 use Rattle.written_files.specs.Named.{AreWords}
 use Rattle.written_files.specs.Words.{StepBack}
 use Rattle.written_files.specs.Written.{joined_words, ReadsTo, IsText, read_with, AddsSteps, AddsFirst}

@@ -1,14 +1,14 @@
 -- Steps that can be written: what names have to be in a table.
 use Rattle.std.specs.Prelude.{◌≡◌, ◌≢◌, ℕ, ◌≤◌, List, [], ◌∷◌, ◌++◌, All, Option, codes}
 use Rattle.std.specs.Option.{ForSome}
-use Rattle.trees.specs.Tree.{Tree, height}
-use Rattle.trees.specs.Sorts.{sort_of, IsExpression}
-use Rattle.trees.specs.declared.Sort.TheVariants.{Kind}
-use Rattle.tasks.specs.Words.{IsLineWord}
+use Rattle.kernel.specs.trees.Tree.{Tree, height}
+use Rattle.kernel.specs.trees.Sorts.{sort_of, IsExpression}
+use Rattle.kernel.specs.trees.declared.Sort.TheVariants.{Kind}
+use Rattle.kernel.specs.tasks.Words.{IsLineWord}
 use Rattle.rule_words.specs.Arguments.{ArgumentTree, AExpression, AType}
-use Rattle.rule_rows.specs.Trees.{RuleTree, RForall, RNotExists, RCut, RRefl, RReplace, RLetDef, RIfDef, RMatchDef, RDef, RClause, RInv, RCase, RProject, RTrichotomy, RBound, StepTree, rule_types}
-use Rattle.name_entries.specs.declared.names.NameOf.TheVariants.{Symbol}
-use Rattle.name_entries.specs.declared.names.NameEntry.{NameEntry}
+use Rattle.kernel.specs.rule_rows.Trees.{RuleTree, RForall, RNotExists, RCut, RRefl, RReplace, RLetDef, RIfDef, RMatchDef, RDef, RClause, RInv, RCase, RProject, RTrichotomy, RBound, StepTree, rule_types}
+use Rattle.name_tables.specs.name_entries.declared.names.NameOf.TheVariants.{Symbol}
+use Rattle.name_tables.specs.name_entries.declared.names.NameEntry.{NameEntry}
 use Rattle.tree_writing.specs.Spelt.{IsSpelt}
 use Rattle.tree_writing.specs.Parts.{IsSubtree}
 use Rattle.tree_writing.specs.Whole.{TopNamed}

@@ -1,16 +1,16 @@
 -- The words of a step's line, and what they refer to.
 use Rattle.std.specs.Prelude.{◌≡◌, ℕ, false, List, [], ◌∷◌, ◌++◌, All, Option, Some}
-use Rattle.trees.specs.declared.Sort.TheVariants.{Kind}
-use Rattle.trees.specs.Tree.{Tree}
-use Rattle.trees.specs.Node.{tree_at, Holds}
-use Rattle.trees.specs.Sorts.{sort_of, IsExpression}
-use Rattle.tasks.specs.Task.{TaskTree}
-use Rattle.name_entries.specs.declared.names.NameOf.TheVariants.{Symbol}
-use Rattle.name_entries.specs.declared.names.NameEntry.{NameEntry}
-use Rattle.integer_words.specs.Integers.{integer}
-use Rattle.rule_rows.specs.declared.rule.Step.{Step}
-use Rattle.rule_rows.specs.Trees.{RuleTree, rule_types, StepTree}
-use Rattle.rule_rows.specs.Meaning.{step_at}
+use Rattle.kernel.specs.trees.declared.Sort.TheVariants.{Kind}
+use Rattle.kernel.specs.trees.Tree.{Tree}
+use Rattle.kernel.specs.trees.Node.{tree_at, Holds}
+use Rattle.kernel.specs.trees.Sorts.{sort_of, IsExpression}
+use Rattle.kernel.specs.tasks.Task.{TaskTree}
+use Rattle.name_tables.specs.name_entries.declared.names.NameOf.TheVariants.{Symbol}
+use Rattle.name_tables.specs.name_entries.declared.names.NameEntry.{NameEntry}
+use Rattle.step_lines.specs.integer_words.Integers.{integer}
+use Rattle.kernel.specs.rule_rows.declared.rule.Step.{Step}
+use Rattle.kernel.specs.rule_rows.Trees.{RuleTree, rule_types, StepTree}
+use Rattle.kernel.specs.rule_rows.Meaning.{step_at}
 use Rattle.rule_words.specs.declared.argument.Argument.{Argument}
 use Rattle.rule_words.specs.declared.argument.Argument.TheVariants as made
 use Rattle.rule_words.specs.Arguments.{ArgumentTree, ANumber, ASymbol, AInteger, AExpression, AType}

@@ -1,11 +1,11 @@
 -- The text of a step file as it is written, and what it is read back as.
 use Rattle.std.specs.Prelude.{◌≡◌, ℕ, List, [], ◌∷◌, ◌++◌, map, take, Option, Some}
-use Rattle.tasks.specs.Task.{TaskTree}
-use Rattle.rule_rows.specs.Trees.{StepTree}
-use Rattle.rule_rows.specs.declared.rule.Step.{Step}
-use Rattle.rule_rows.specs.Meaning.{steps_at}
+use Rattle.kernel.specs.tasks.Task.{TaskTree}
+use Rattle.kernel.specs.rule_rows.Trees.{StepTree}
+use Rattle.kernel.specs.rule_rows.declared.rule.Step.{Step}
+use Rattle.kernel.specs.rule_rows.Meaning.{steps_at}
 use Rattle.kernel.specs.Right.{AreRight, Closes}
-use Rattle.name_entries.specs.declared.names.NameEntry.{NameEntry}
+use Rattle.name_tables.specs.name_entries.declared.names.NameEntry.{NameEntry}
 use Rattle.tree_lines.specs.Words.{LineWord}
 use Rattle.tree_lines.specs.Lines.{Earlier}
 use Rattle.step_lines.specs.Steps.{Thing, line_made}

@@ -1,15 +1,14 @@
 // Whether the names of a table can be words of lines, and whether rules name symbols that have names.
 // They depend on names by symbols; the writer of files depends on them.
 ghost use Rattle.std.specs.Prelude.{◌≡◌, ◌↔◌, [], All, IsTrue, codes};
-ghost use Rattle.name_entries.specs.declared.names.NameOf.TheVariants.{Symbol};
-ghost use Rattle.rule_rows.specs.Meaning.{rule_at, steps_at};
+ghost use Rattle.name_tables.specs.name_entries.declared.names.NameOf.TheVariants.{Symbol};
+ghost use Rattle.kernel.specs.rule_rows.Meaning.{rule_at, steps_at};
 ghost use Rattle.tree_writing.specs.Spelt.{IsSpelt, AreNamesOf};
-ghost use Rattle.tasks.specs.Words.{IsPlainByte, IsLineWord};
+ghost use Rattle.kernel.specs.tasks.Words.{IsPlainByte, IsLineWord};
 ghost use Rattle.written_files.specs.Named.{IsName, AreWords, rule_symbols, SymbolsNamed};
 
-use name_entries::{NameEntry, NameOf};
-use rule_rows::{Rule, Step};
-use term_store::Store;
+use kernel::{Rule, Step, Store};
+use name_tables::{NameEntry, NameOf};
 use tree_writing::SymbolNames;
 
 // Whether a byte is no space and no line feed.

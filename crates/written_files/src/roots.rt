@@ -1,17 +1,15 @@
 // The trees that the lines of steps refer to.
 // They depend on rules as they are written; the writer of files depends on them.
 ghost use Rattle.std.specs.Prelude.{◌≡◌, ◌++◌, ◌∷◌, [], All, flat_map, IfOk, OnOk};
-ghost use Rattle.trees.specs.Node.{Holds};
-ghost use Rattle.tasks.specs.Meaning.{trees_at};
-ghost use Rattle.rule_rows.specs.Meaning.{step_at, steps_at, StepHeld, StepsHeld};
+ghost use Rattle.kernel.specs.trees.Node.{Holds};
+ghost use Rattle.kernel.specs.tasks.Meaning.{trees_at};
+ghost use Rattle.kernel.specs.rule_rows.Meaning.{step_at, steps_at, StepHeld, StepsHeld};
 ghost use Rattle.rule_words.specs.Arguments.{argument_at, arguments_at, ArgumentHeld};
 ghost use Rattle.written_files.specs.Named.{step_trees, trees_in};
 
-use rule_rows::Step;
+use kernel::{Step, Store, TermId};
 use rule_words::{Argument, written_rule};
 use std::alloc::{AllocError, Global};
-use term_store::Store;
-use trees::TermId;
 
 // Appends the tree of an argument, where it has one.
 fn push_tree(roots: &mut Vec<TermId>, store: &Store, argument: Argument) -> Result<(), AllocError>

@@ -1,23 +1,21 @@
 // The words of the line of a step.
 // They depend on names and on the numbers of lines; the writer of files depends on them.
 ghost use Rattle.std.specs.Prelude.{◌≡◌, ◌++◌, ◌∷◌, [], All, IfOk, OnOk};
-ghost use Rattle.trees.specs.Node.{tree_at, Holds};
-ghost use Rattle.tasks.specs.Meaning.{trees_at};
-ghost use Rattle.name_entries.specs.declared.names.NameOf.TheVariants.{Symbol};
-ghost use Rattle.rule_rows.specs.Meaning.{rule_at, step_at, RuleHeld, StepHeld};
+ghost use Rattle.kernel.specs.trees.Node.{tree_at, Holds};
+ghost use Rattle.kernel.specs.tasks.Meaning.{trees_at};
+ghost use Rattle.name_tables.specs.name_entries.declared.names.NameOf.TheVariants.{Symbol};
+ghost use Rattle.kernel.specs.rule_rows.Meaning.{rule_at, step_at, RuleHeld, StepHeld};
 ghost use Rattle.rule_words.specs.Arguments.{ASymbol, argument_at, arguments_at};
 ghost use Rattle.tree_writing.specs.Spelt.{IsSpelt, AreNamesOf};
 ghost use Rattle.tree_writing.specs.Referring.{words_of, HasLine};
 ghost use Rattle.written_files.specs.Words.{IsLineOf, IsArgumentReady, PushesReference, PushesArguments, PushesSequent, PushesRule, RuleReady, StepReady, StepBack};
 
-use integer_words::integer_word;
-use name_entries::{NameEntry, NameOf};
-use rule_rows::{Rule, Step};
+use kernel::{Rule, Step, Store, TermId};
+use name_tables::{NameEntry, NameOf};
 use rule_words::{Argument, word_of, written_rule};
 use std::alloc::{AllocError, Global};
-use term_store::Store;
+use step_lines::integer_word;
 use tree_writing::{SymbolNames, line_number, push_numbers};
-use trees::TermId;
 
 /// What the line of a step is written from: the store, the table with its names, and the number of each tree's line by
 /// its number in the store.

@@ -2,14 +2,14 @@
 // They depend on the lines of trees and on the words of steps; the program's `lift` depends on them.
 ghost use Rattle.std.specs.Prelude.{ℕ, Option, None, All, IfOk, IfSome, IfNone, OnOk};
 ghost use Rattle.tree_writing.specs.Spelt.{AreNamesOf};
-ghost use Rattle.trees.specs.Node.{Grows};
-ghost use Rattle.tasks.specs.Meaning.{task_at, TaskHeld};
-ghost use Rattle.tasks.specs.Valid.{IsValid};
-ghost use Rattle.rule_rows.specs.Meaning.{steps_at, StepsHeld};
+ghost use Rattle.kernel.specs.trees.Node.{Grows};
+ghost use Rattle.kernel.specs.tasks.Meaning.{task_at, TaskHeld};
+ghost use Rattle.kernel.specs.tasks.Valid.{IsValid};
+ghost use Rattle.kernel.specs.rule_rows.Meaning.{steps_at, StepsHeld};
 ghost use Rattle.kernel.specs.Right.{Closes};
 ghost use Rattle.name_tables.specs.Tables.{task_names};
 ghost use Rattle.step_files.specs.Lines.{StepsOf};
-ghost use Rattle.tasks.specs.Words.{NamesAreWords};
+ghost use Rattle.kernel.specs.tasks.Words.{NamesAreWords};
 ghost use Rattle.written_files.specs.Named.{AreWords, SymbolsNamed, AreNamed, AreLow, AreSorted};
 ghost use Rattle.written_files.specs.Words.{StepReady};
 ghost use Rattle.written_files.specs.Written.{AddsSteps, StepsReadBack};
@@ -17,12 +17,9 @@ ghost use Rattle.written_files.specs.Written.{AddsSteps, StepsReadBack};
 use crate::named::{are_words, name_symbols};
 use crate::roots::step_roots;
 use crate::words::{Lines, step_words};
-use name_entries::NameEntry;
-use name_tables::task_names;
-use rule_rows::Step;
+use kernel::{Step, Store, Task};
+use name_tables::{NameEntry, task_names};
 use std::alloc::{AllocError, Global};
-use tasks::Task;
-use term_store::Store;
 use tree_lines::TableNames;
 use tree_writing::{SymbolNames, WrittenLines, push_line, written_trees};
 

@@ -1,8 +1,8 @@
 use Rattle.std.proofs.Common.{◌≡◌, ◌∷◌, ◌++◌, [], ℕ, List, All, get_or, take, sym, ap, subst, ◌∙◌}
 use Rattle.std.proofs.lemmas.List.{map-append, map_more, take_all}
 use Rattle.std.proofs.lemmas.List.Elements.{All-nil, All-push}
-use Rattle.trees.specs.Node.{Grows}
-use Rattle.trees.proofs.Nodes.{Grows_refl, Grows_trans}
+use Rattle.tasks.specs.trees.Node.{Grows}
+use Rattle.tasks.proofs.trees.Nodes.{Grows_refl, Grows_trans}
 use Rattle.tasks.specs.declared.signature.SymbolInfo.{SymbolInfo}
 use Rattle.tasks.specs.Task.{SymbolTree, symbol_or}
 use Rattle.tasks.specs.Meaning.{symbol_at, symbols_at, SymbolHeld}
@@ -13,7 +13,7 @@ use Rattle.clones.proofs.Steps.{map_held, map_stays, known_on, known_back}
 use Rattle.clones.specs.Copies.{entry_copied}
 use Rattle.clone_copies.specs.Entries.{entries_copied}
 use Rattle.clone_copies.proofs.entries.copy_entries.Goals as goal
-use Rattle.outside.proofs.Passed.{no_ok, no_value}
+use Rattle.tasks.proofs.outside.Passed.{no_ok, no_value}
 
 pub copy_entry-requires-clause-map_held : goal.copy_entry-requires-clause-map_held
 copy_entry-requires-clause-map_held c = map_held c.args.store.now c.loop-symbol.store c.loop-symbol.invariant.grows c.args.morphism.now c.requires.map_held

@@ -1,5 +1,5 @@
 use Rattle.std.proofs.Common.{◌≡◌, take, All}
-use Rattle.trees.specs.Node.{Grows}
+use Rattle.tasks.specs.trees.Node.{Grows}
 use Rattle.tasks.specs.Meaning.{symbols_at, SymbolHeld}
 use Rattle.clones.specs.Meaning.{map_at, AreKnown}
 use Rattle.clone_copies.specs.Entries.{entries_copied}

@@ -7,7 +7,7 @@ use Rattle.tasks.specs.Task.{SymbolTree}
 use Rattle.tasks.specs.Meaning.{symbol_at, symbols_at, SymbolHeld}
 use Rattle.tasks.proofs.Growth.{symbols_later, symbol_held_later}
 use Rattle.clone_copies.proofs.entries.push_entries.Goals as goal
-use Rattle.outside.proofs.Passed.{no_ok}
+use Rattle.tasks.proofs.outside.Passed.{no_ok}
 
 pub returns-clause-symbols : goal.returns-clause-symbols
 returns-clause-symbols c =

@@ -1,5 +1,5 @@
 use Rattle.clone_copies.proofs.moves.map_alias.Goals as goal
-use Rattle.outside.proofs.Passed.{no_ok, no_value}
+use Rattle.tasks.proofs.outside.Passed.{no_ok, no_value}
 
 pub returns-in_err-made-clause-is : goal.returns-in_err-made-clause-is
 returns-in_err-made-clause-is c = no_value _ _ c.from_residual.result c.from_residual.ensures.1

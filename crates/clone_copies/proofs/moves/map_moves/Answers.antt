@@ -1,7 +1,7 @@
 use Rattle.std.proofs.Common.{◌<◌, ◌+◌, ℕ, length, get_or, sym, ap, subst, ◌∙◌, arith}
 use Rattle.std.proofs.lemmas.List.{length_push}
-use Rattle.trees.specs.Node.{Grows}
-use Rattle.trees.proofs.Nodes.{Grows_trans}
+use Rattle.tasks.specs.trees.Node.{Grows}
+use Rattle.tasks.proofs.trees.Nodes.{Grows_trans}
 use Rattle.tasks.specs.Meaning.{symbols_at}
 use Rattle.theory_states.specs.declared.moves.Move.{Move}
 use Rattle.clones.specs.Mapped.{Map}
@@ -10,7 +10,7 @@ use Rattle.clones.proofs.Steps.{map_held, map_stays, known_on, known_back}
 use Rattle.clone_copies.specs.Moves.{IsMoveMapped, MoveHeld}
 use Rattle.clone_copies.proofs.Moved.{move_grows, move_held_grows, each_more}
 use Rattle.clone_copies.proofs.moves.map_moves.Goals as goal
-use Rattle.outside.proofs.Passed.{no_ok, no_value}
+use Rattle.tasks.proofs.outside.Passed.{no_ok, no_value}
 
 pub map_move-requires-clause-map_held : goal.map_move-requires-clause-map_held
 map_move-requires-clause-map_held c = map_held c.args.store.now c.loop-step.store c.loop-step.invariant.grows c.args.morphism.now c.requires.map_held

@@ -1,6 +1,6 @@
 use Rattle.std.proofs.Common.{◌≡◌, ℕ, ◌<◌, List, length, get_or}
-use Rattle.trees.specs.Tree.{Tree}
-use Rattle.trees.specs.Node.{Grows}
+use Rattle.tasks.specs.trees.Tree.{Tree}
+use Rattle.tasks.specs.trees.Node.{Grows}
 use Rattle.tasks.specs.Meaning.{symbols_at}
 use Rattle.theory_states.specs.declared.moves.Move.{Move}
 use Rattle.clones.specs.Meaning.{map_at, AreKnown}

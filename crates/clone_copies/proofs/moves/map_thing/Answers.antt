@@ -1,4 +1,4 @@
-use Rattle.trees.proofs.Nodes.{Grows_refl}
+use Rattle.tasks.proofs.trees.Nodes.{Grows_refl}
 use Rattle.clone_copies.proofs.moves.map_thing.Goals as goal
 
 pub map_alias-requires-clause-map_held : goal.map_alias-requires-clause-map_held

@@ -1,8 +1,8 @@
 use Rattle.std.proofs.Common.{◌≡◌, nat_eq, Option, Some, refl, sym, subst}
 use Rattle.std.specs.Option.{option_map}
 use Rattle.indexmap.specs.IndexMap.{get}
-use Rattle.trees.specs.declared.TermId.{TermId}
-use Rattle.trees.specs.Node.{tree_at}
+use Rattle.tasks.specs.trees.declared.TermId.{TermId}
+use Rattle.tasks.specs.trees.Node.{tree_at}
 use Rattle.clones.specs.Meaning.{map_at}
 use Rattle.clone_copies.specs.Moves.{IsTypeMapped}
 use Rattle.clone_copies.proofs.moves.map_type_symbol.Goals as goal

@@ -3,7 +3,7 @@ use Rattle.std.specs.Map.{lookup}
 use Rattle.indexmap.specs.IndexMap.{get}
 use Rattle.clone_copies.specs.Origins.{no_axioms, with_axioms}
 use Rattle.clone_copies.proofs.origins.axioms_of.Goals as goal
-use Rattle.outside.proofs.Passed.{no_value}
+use Rattle.tasks.proofs.outside.Passed.{no_value}
 
 pub returns : goal.returns
 returns c =

@@ -1,7 +1,7 @@
 use Rattle.std.proofs.Common.{◌++◌, ◌∷◌, [], ℕ, List, take, sym, ap, ◌∙◌}
 use Rattle.std.proofs.lemmas.List.{take_more, take_all}
 use Rattle.clone_copies.proofs.origins.copy_names.Goals as goal
-use Rattle.outside.proofs.Passed.{no_value}
+use Rattle.tasks.proofs.outside.Passed.{no_value}
 
 pub returns-in_err-copy : goal.returns-in_err-copy
 returns-in_err-copy c = no_value _ _ c.from_residual.result c.from_residual.ensures.1

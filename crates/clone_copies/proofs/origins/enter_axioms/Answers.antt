@@ -4,7 +4,7 @@ use Rattle.indexmap.specs.IndexMap.{get}
 use Rattle.theory_states.specs.declared.states.AxiomAt.{AxiomAt}
 use Rattle.clone_copies.specs.Origins.{Axioms, with_axioms}
 use Rattle.clone_copies.proofs.origins.enter_axioms.Goals as goal
-use Rattle.outside.proofs.Passed.{no_ok}
+use Rattle.tasks.proofs.outside.Passed.{no_ok}
 
 pub loop-it-preserved : goal.loop-it-preserved
 loop-it-preserved c =

@@ -3,7 +3,7 @@ use Rattle.std.proofs.lemmas.List.{at_drop_more}
 use Rattle.tasks.specs.Meaning.{declarations_at}
 use Rattle.clone_copies.specs.Origins.{own_at, own_among}
 use Rattle.clone_copies.proofs.origins.own_places.Goals as goal
-use Rattle.outside.proofs.Passed.{no_value}
+use Rattle.tasks.proofs.outside.Passed.{no_value}
 
 pub loop-place-preserved : goal.loop-place-preserved
 loop-place-preserved c = λ s.

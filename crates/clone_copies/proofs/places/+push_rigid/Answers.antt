@@ -2,7 +2,7 @@ use Rattle.std.proofs.Common.{sym, subst}
 use Rattle.elab_walk.specs.Scoped.{IsScopedEntry}
 use Rattle.elab_parts.proofs.Entering.{rigid_typed, rigid_scoped}
 use Rattle.clone_copies.proofs.places.+push_rigid.Goals as goal
-use Rattle.outside.proofs.Passed.{no_ok}
+use Rattle.tasks.proofs.outside.Passed.{no_ok}
 
 pub push_entry-requires-clause-typed : goal.push_entry-requires-clause-typed
 push_entry-requires-clause-typed t c = rigid_typed c.args.store.now c.in_ok-info.info c.as_slice.result.now (c.in_ok-info.ensures c.args.store.now)

@@ -1,15 +1,15 @@
 use Rattle.std.proofs.Common.{◌∷◌, [], length, ap, ◌∙◌, arith, append_assoc}
 use Rattle.std.proofs.lemmas.Result.{on_ok_weaker}
-use Rattle.trees.specs.Tree.{Leaf, HTyRigid}
-use Rattle.trees.specs.Sorts.{sort_of}
-use Rattle.trees.proofs.Nodes.{Grows_trans}
+use Rattle.tasks.specs.trees.Tree.{Leaf, HTyRigid}
+use Rattle.tasks.specs.trees.Sorts.{sort_of}
+use Rattle.tasks.proofs.trees.Nodes.{Grows_trans}
 use Rattle.tasks.specs.Meaning.{trees_at}
 use Rattle.elab_walk.specs.Drafts.{HoldsType}
 use Rattle.elab_walk.proofs.Growing.{types_stay, types_more}
 use Rattle.elab_walk.proofs.Taking.{mapped_more}
 use Rattle.clone_copies.specs.Places.{rigid_types}
 use Rattle.clone_copies.proofs.places.+push_rigid_types.Goals as goal
-use Rattle.outside.proofs.Passed.{no_ok}
+use Rattle.tasks.proofs.outside.Passed.{no_ok}
 
 pub returns-clause-trees : goal.returns-clause-trees
 returns-clause-trees t c =

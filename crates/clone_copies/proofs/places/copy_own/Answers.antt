@@ -1,8 +1,8 @@
 use Rattle.std.proofs.Common.{◌≡◌, ℕ, cond, Bool, false, List, get_or, sym, ap, ◌∙◌}
 use Rattle.std.proofs.lemmas.List.{get_or-map}
 use Rattle.std.proofs.lemmas.Result.{on_ok_weaker}
-use Rattle.trees.proofs.Nodes.{Grows_refl, Grows_trans}
-use Rattle.trees.specs.Node.{Grows}
+use Rattle.tasks.proofs.trees.Nodes.{Grows_refl, Grows_trans}
+use Rattle.tasks.specs.trees.Node.{Grows}
 use Rattle.tasks.specs.declared.declaration.Decl.{Decl}
 use Rattle.tasks.specs.Task.{DeclarationTree}
 use Rattle.tasks.specs.Meaning.{declaration_at, declarations_at}
@@ -16,7 +16,7 @@ use Rattle.clone_copies.specs.Places.{Copying, with_copy, copy_of}
 use Rattle.clone_copies.specs.Meaning.{copying_at, bare_at}
 use Rattle.clone_copies.proofs.Bare.{bare_grows, copying_stays}
 use Rattle.clone_copies.proofs.places.copy_own.Goals as goal
-use Rattle.outside.proofs.Passed.{no_ok}
+use Rattle.tasks.proofs.outside.Passed.{no_ok}
 
 pub push_copy-requires-clause-held : goal.push_copy-requires-clause-held
 push_copy-requires-clause-held c = held_grows c.args.store.now c.copy_decl.new.store c.copy_decl.ensures.grows c.args.typed.now c.args.open.now c.requires.held

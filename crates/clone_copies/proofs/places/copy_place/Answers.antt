@@ -1,4 +1,4 @@
-use Rattle.trees.proofs.Nodes.{Grows_refl}
+use Rattle.tasks.proofs.trees.Nodes.{Grows_refl}
 use Rattle.clone_copies.proofs.places.copy_place.Goals as goal
 
 pub copy_own-requires-clause-held : goal.copy_own-requires-clause-held

@@ -1,8 +1,8 @@
 use Rattle.std.proofs.Common.{◌≡◌, ◌+◌, ℕ, List, drop, get_or, length, sym, ap, ◌∙◌, arith}
 use Rattle.std.proofs.Math.ListN.{length-map}
 use Rattle.std.proofs.lemmas.List.{at_drop_more}
-use Rattle.trees.specs.Node.{Grows}
-use Rattle.trees.proofs.Nodes.{Grows_trans}
+use Rattle.tasks.specs.trees.Node.{Grows}
+use Rattle.tasks.proofs.trees.Nodes.{Grows_trans}
 use Rattle.tasks.specs.Meaning.{declaration_at, declarations_at}
 use Rattle.theory_states.specs.States.{StateTree}
 use Rattle.clones.proofs.Steps.{map_held, known_on, known_back}
@@ -11,7 +11,7 @@ use Rattle.clone_copies.specs.Meaning.{copying_at, bare_at}
 use Rattle.clone_copies.proofs.Bare.{copying_stays}
 use Rattle.clone_copies.proofs.Longer.{place_longer}
 use Rattle.clone_copies.proofs.places.copy_places.Goals as goal
-use Rattle.outside.proofs.Passed.{no_ok}
+use Rattle.tasks.proofs.outside.Passed.{no_ok}
 
 pub copy_place-requires-clause-map_held : goal.copy_place-requires-clause-map_held
 copy_place-requires-clause-map_held c = map_held c.args.store.now c.loop-place.store c.loop-place.invariant.grows c.args.job.now.morphism.now c.requires.map_held

@@ -1,5 +1,5 @@
 use Rattle.std.proofs.Common.{◌≡◌, ◌≤◌, drop, length}
-use Rattle.trees.specs.Node.{Grows}
+use Rattle.tasks.specs.trees.Node.{Grows}
 use Rattle.clones.specs.Meaning.{map_at, AreKnown}
 use Rattle.theory_states.specs.Meaning.{StateHeld}
 use Rattle.clone_copies.specs.Places.{with_places}

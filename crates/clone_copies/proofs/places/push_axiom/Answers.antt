@@ -6,7 +6,7 @@ use Rattle.theory_states.specs.Meaning.{state_at}
 use Rattle.clone_copies.specs.Places.{axiom_at}
 use Rattle.clone_copies.proofs.Bare.{axiom_bare, axiom_held}
 use Rattle.clone_copies.proofs.places.push_axiom.Goals as goal
-use Rattle.outside.proofs.Passed.{no_ok}
+use Rattle.tasks.proofs.outside.Passed.{no_ok}
 
 pub push_decl-requires : goal.push_decl-requires
 push_decl-requires c = c.requires.held.opened.visible

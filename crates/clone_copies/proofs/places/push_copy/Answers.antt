@@ -1,6 +1,6 @@
-use Rattle.trees.proofs.Nodes.{Grows_refl}
+use Rattle.tasks.proofs.trees.Nodes.{Grows_refl}
 use Rattle.clone_copies.proofs.places.push_copy.Goals as goal
-use Rattle.outside.proofs.Passed.{no_ok}
+use Rattle.tasks.proofs.outside.Passed.{no_ok}
 
 pub returns-in_err-push_decl-in-None-clause-state : goal.returns-in_err-push_decl-in-None-clause-state
 returns-in_err-push_decl-in-None-clause-state c = no_ok _ _ c.from_residual.result c.from_residual.ensures.1

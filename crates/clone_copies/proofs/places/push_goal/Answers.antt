@@ -1,5 +1,5 @@
 use Rattle.std.proofs.Common.{subst}
-use Rattle.trees.proofs.Nodes.{Grows_refl}
+use Rattle.tasks.proofs.trees.Nodes.{Grows_refl}
 use Rattle.tasks.specs.Meaning.{BodyHeld}
 use Rattle.clone_copies.proofs.places.push_goal.Goals as goal
 

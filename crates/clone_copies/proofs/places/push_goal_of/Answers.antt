@@ -1,13 +1,13 @@
 use Rattle.std.proofs.Common.{◌≡◌, ℕ, List, length, ap, ◌∙◌}
-use Rattle.trees.proofs.Nodes.{Grows_refl}
-use Rattle.trees.specs.Node.{tree_at}
-use Rattle.trees.specs.Binding.{inst_types}
+use Rattle.tasks.proofs.trees.Nodes.{Grows_refl}
+use Rattle.tasks.specs.trees.Node.{tree_at}
+use Rattle.tasks.specs.trees.Binding.{inst_types}
 use Rattle.goal_tasks.specs.declared.theories.GoalAt.{GoalAt}
 use Rattle.goal_tasks.specs.Meaning.{goal_at}
 use Rattle.clone_copies.specs.Places.{next_numbers, rigid_types, goal_of}
 use Rattle.clone_copies.proofs.Bare.{goal_bare, goal_held}
 use Rattle.clone_copies.proofs.places.push_goal_of.Goals as goal
-use Rattle.outside.proofs.Passed.{no_ok}
+use Rattle.tasks.proofs.outside.Passed.{no_ok}
 
 pub returns-clause-state : goal.returns-clause-state
 returns-clause-state c =

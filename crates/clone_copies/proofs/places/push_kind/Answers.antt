@@ -1,15 +1,15 @@
 use Rattle.std.proofs.Common.{◌≡◌, OnOk, sym, ap, subst, ◌∙◌}
-use Rattle.trees.proofs.Nodes.{Grows_refl}
+use Rattle.tasks.proofs.trees.Nodes.{Grows_refl}
 use Rattle.tasks.specs.Task.{DeclarationTree}
 use Rattle.tasks.specs.Meaning.{declaration_at}
 use Rattle.tasks.proofs.Growth.{declaration_later, decl_held_later}
-use Rattle.syntax_why.specs.declared.declarations.PropKind.{PropKind}
+use Rattle.elab_parts.specs.syntax_why.declared.declarations.PropKind.{PropKind}
 use Rattle.theory_states.specs.States.{with_declaration}
 use Rattle.clone_copies.specs.Places.{with_copied_goal, with_kind}
 use Rattle.clone_copies.specs.Meaning.{bare_at}
 use Rattle.clone_copies.proofs.Bare.{declared_bare}
 use Rattle.clone_copies.proofs.places.push_kind.Goals as goal
-use Rattle.outside.proofs.Passed.{no_ok}
+use Rattle.tasks.proofs.outside.Passed.{no_ok}
 
 pub returns-in_ok-push_decl-in-Ok-clause-state : goal.returns-in_ok-push_decl-in-Ok-clause-state
 returns-in_ok-push_decl-in-Ok-clause-state c =

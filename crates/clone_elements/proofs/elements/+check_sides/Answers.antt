@@ -1,8 +1,8 @@
 use Rattle.std.proofs.Common.{◌≡◌, ◌∷◌, inl, suc, List, All, None, get_or, length, ap, subst, ◌∙◌, arith, inr, Some, refl}
 use Rattle.std.proofs.lemmas.Result.{IfOk-weaker}
-use Rattle.trees.proofs.Nodes.{Grows_refl, Grows_trans}
-use Rattle.trees.specs.Tree.{Tree}
-use Rattle.trees.specs.Node.{Grows}
+use Rattle.tasks.proofs.trees.Nodes.{Grows_refl, Grows_trans}
+use Rattle.tasks.specs.trees.Tree.{Tree}
+use Rattle.tasks.specs.trees.Node.{Grows}
 use Rattle.tasks.specs.Meaning.{symbols_at}
 use Rattle.tasks.proofs.Growth.{decl_held_later}
 use Rattle.elab_parts.proofs.Entering.{entries_stay, signature_grows}
@@ -16,7 +16,7 @@ use Rattle.clone_elements.specs.Meaning.{side_at, sides_at, SideHeld, fates_at}
 use Rattle.clone_elements.proofs.Growing.{sides_stay, sides_grow}
 use Rattle.clone_elements.proofs.Told.{told_moved, origin_stays}
 use Rattle.clone_elements.proofs.elements.+check_sides.Goals as goal
-use Rattle.outside.proofs.Passed.{no_value}
+use Rattle.tasks.proofs.outside.Passed.{no_value}
 
 tail_held : (s : List Tree) (xs ys : List CodeSide) (y : CodeSide) → xs ≡ y ∷ ys → All (SideHeld s) xs → All (SideHeld s) ys
 tail_held s xs ys y q h = let g : All (SideHeld s) (y ∷ ys) = subst (All (SideHeld s)) q h in λ k d l. g (suc k) d (omega arith)

@@ -1,9 +1,9 @@
 use Rattle.std.proofs.Common.{◌≡◌, ◌↔◌, ◌∷◌, suc, IsTrue, List, All, map, length, sym, ap, subst, ◌∙◌, arith}
 use Rattle.std.proofs.lemmas.Result.{IfOk-weaker, on_ok_weaker}
-use Rattle.trees.specs.declared.TermId.{TermId}
-use Rattle.trees.specs.Tree.{Tree}
-use Rattle.trees.specs.Node.{tree_at, Holds, Grows}
-use Rattle.trees.proofs.Nodes.{Grows_trans, Grows_refl}
+use Rattle.tasks.specs.trees.declared.TermId.{TermId}
+use Rattle.tasks.specs.trees.Tree.{Tree}
+use Rattle.tasks.specs.trees.Node.{tree_at, Holds, Grows}
+use Rattle.tasks.proofs.trees.Nodes.{Grows_trans, Grows_refl}
 use Rattle.tasks.specs.Meaning.{trees_at}
 use Rattle.tasks.proofs.Growth.{tree_later, trees_later, all_held_later}
 use Rattle.clones.specs.Mapped.{Map, mapped}
@@ -11,7 +11,7 @@ use Rattle.clones.specs.Meaning.{map_at}
 use Rattle.clones.proofs.Steps.{map_held, map_stays, known_on, known_back}
 use Rattle.clone_elements.proofs.Compared.{cons_tells}
 use Rattle.clone_elements.proofs.elements.+same_types.Goals as goal
-use Rattle.outside.proofs.Passed.{no_ok, no_value}
+use Rattle.tasks.proofs.outside.Passed.{no_ok, no_value}
 
 tail_held : (s : List Tree) (xs ys : List TermId) (y : TermId) → xs ≡ y ∷ ys → All (Holds s) xs → All (Holds s) ys
 tail_held s xs ys y q h = let g : All (Holds s) (y ∷ ys) = subst (All (Holds s)) q h in λ k d l. g (suc k) d (omega arith)

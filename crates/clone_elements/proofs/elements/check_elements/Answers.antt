@@ -6,7 +6,7 @@ use Rattle.clone_elements.specs.Elements.{SidesTold}
 use Rattle.clone_elements.specs.Origins.{origin_at}
 use Rattle.clone_elements.specs.Meaning.{sides_at, fates_at}
 use Rattle.clone_elements.proofs.elements.check_elements.Goals as goal
-use Rattle.outside.proofs.Passed.{no_ok}
+use Rattle.tasks.proofs.outside.Passed.{no_ok}
 
 pub find_wrong-requires-clause-trial : goal.find_wrong-requires-clause-trial
 find_wrong-requires-clause-trial c = record { signature = c.requires.signature; decls = c.requires.decls; morphism = c.requires.map_held }

@@ -5,7 +5,7 @@ use Rattle.tasks.specs.Task.{int_symbol}
 use Rattle.tasks.specs.Meaning.{symbol_at, SymbolHeld}
 use Rattle.clone_elements.proofs.Looked.{got_some, first_is}
 use Rattle.clone_elements.proofs.elements.entry_or.Goals as goal
-use Rattle.plain_laws.proofs.Lists.{got_none}
+use Rattle.tasks.proofs.plain_laws.Lists.{got_none}
 
 pub returns-in-None-clause-entry : goal.returns-in-None-clause-entry
 returns-in-None-clause-entry c = λ s e.

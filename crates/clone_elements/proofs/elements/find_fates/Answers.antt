@@ -1,8 +1,8 @@
 use Rattle.std.proofs.Common.{◌≡◌, [], ℕ, List, None, length, sym, ap, subst, ◌∙◌}
 use Rattle.std.specs.Prelude.{OnOk, IfErr}
 use Rattle.std.proofs.Math.ListN.{length-map}
-use Rattle.trees.proofs.Nodes.{Grows_refl}
-use Rattle.trees.specs.Tree.{Tree}
+use Rattle.tasks.proofs.trees.Nodes.{Grows_refl}
+use Rattle.tasks.specs.trees.Tree.{Tree}
 use Rattle.tasks.specs.Task.{SymbolTree}
 use Rattle.tasks.specs.Meaning.{symbol_at, symbols_at}
 use Rattle.clones.specs.Mapped.{Map}
@@ -13,7 +13,7 @@ use Rattle.clone_elements.specs.Elements.{SidesTold}
 use Rattle.clone_elements.specs.Origins.{origin_at}
 use Rattle.clone_elements.specs.Meaning.{sides_at, IsElementRefused}
 use Rattle.clone_elements.proofs.elements.find_fates.Goals as goal
-use Rattle.outside.proofs.Passed.{no_ok}
+use Rattle.tasks.proofs.outside.Passed.{no_ok}
 
 -- the map over these types is the one by which signatures are compared
 tried_is : (symbols : List SymbolTree) (o : Origin) (xs : List SideTree) (m : Map) (ts : List (ℕ × Tree)) (n : ℕ) → ts ≡ types_replaced symbols o xs → n ≡ length symbols → m ≡ map_of ts [] n (kept o no_fates) → m ≡ tried_map symbols o xs

@@ -1,4 +1,4 @@
-use Rattle.trees.proofs.Nodes.{Grows_refl}
+use Rattle.tasks.proofs.trees.Nodes.{Grows_refl}
 use Rattle.clone_elements.proofs.elements.is_right.Goals as goal
 
 pub replaces-requires-clause-trial : goal.replaces-requires-clause-trial

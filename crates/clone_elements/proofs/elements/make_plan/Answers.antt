@@ -1,5 +1,5 @@
 use Rattle.std.proofs.Common.{◌≡◌, ◌++◌, [], ℕ, List, All, sym, ap, subst, ◌∙◌}
-use Rattle.trees.proofs.Nodes.{Grows_refl}
+use Rattle.tasks.proofs.trees.Nodes.{Grows_refl}
 use Rattle.tasks.specs.Meaning.{symbols_at}
 use Rattle.clone_elements.specs.declared.plans.TypeFor.{TypeFor}
 use Rattle.clone_elements.specs.Plans.{tried_map, symbols_replaced}
@@ -9,7 +9,7 @@ use Rattle.clone_elements.proofs.Looked.{empty_fates}
 use Rattle.clone_elements.proofs.Growing.{types_for_stay, types_for_grow}
 use Rattle.clone_elements.proofs.Compared.{err_passed}
 use Rattle.clone_elements.proofs.elements.make_plan.Goals as goal
-use Rattle.outside.proofs.Passed.{no_ok, no_value}
+use Rattle.tasks.proofs.outside.Passed.{no_ok, no_value}
 
 pub find_fates-requires-clause-signature : goal.find_fates-requires-clause-signature
 find_fates-requires-clause-signature c = c.requires.signature

@@ -5,7 +5,7 @@ use Rattle.clones.specs.Meaning.{map_at}
 use Rattle.clone_elements.specs.Elements.{is_kind_of_word, IsSameSignature}
 use Rattle.clone_elements.proofs.Looked.{typed_held}
 use Rattle.clone_elements.proofs.elements.replaces.Goals as goal
-use Rattle.outside.proofs.Passed.{no_ok, no_value}
+use Rattle.tasks.proofs.outside.Passed.{no_ok, no_value}
 
 pub same_signature-requires-clause-held : goal.same_signature-requires-clause-held
 same_signature-requires-clause-held c = c.entry_or-old.ensures.held c.args.store.now (λ k d l. typed_held c.args.store.now (get_or c.args.trial.now.sig.now.symbols k d) (c.requires.trial.signature.typed k d l))

@@ -1,7 +1,7 @@
 use Rattle.std.proofs.Common.{◌≡◌, true, false, map, sym, ap, ◌∙◌}
 use Rattle.std.specs.Option.{option_map}
-use Rattle.trees.specs.Node.{tree_at, Grows}
-use Rattle.trees.proofs.Nodes.{Grows_trans}
+use Rattle.tasks.specs.trees.Node.{tree_at, Grows}
+use Rattle.tasks.proofs.trees.Nodes.{Grows_trans}
 use Rattle.tasks.specs.Task.{SymbolTree}
 use Rattle.tasks.specs.Meaning.{trees_at}
 use Rattle.tasks.proofs.Growth.{symbol_later}
@@ -9,7 +9,7 @@ use Rattle.clones.specs.Mapped.{Map, mapped}
 use Rattle.clones.specs.Meaning.{map_at}
 use Rattle.clones.proofs.Steps.{map_held, map_stays, known_on, known_back}
 use Rattle.clone_elements.proofs.elements.same_signature.Goals as goal
-use Rattle.outside.proofs.Passed.{no_ok, no_value}
+use Rattle.tasks.proofs.outside.Passed.{no_ok, no_value}
 
 pub same_result-requires-clause-map_held : goal.same_result-requires-clause-map_held
 same_result-requires-clause-map_held c = map_held c.args.store.now c.same_types.new.store c.same_types.ensures.grows c.args.morphism.now c.requires.map_held

@@ -4,7 +4,7 @@ use Rattle.clone_elements.specs.Plans.{no_fates, kept, map_of}
 use Rattle.clone_elements.specs.Origins.{origin_at}
 use Rattle.clone_elements.specs.Meaning.{type_pairs_at}
 use Rattle.clone_elements.proofs.elements.tried_map.Goals as goal
-use Rattle.outside.proofs.Passed.{no_value}
+use Rattle.tasks.proofs.outside.Passed.{no_value}
 
 pub returns-clause-is : goal.returns-clause-is
 returns-clause-is c =

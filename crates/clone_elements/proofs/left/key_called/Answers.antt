@@ -1,5 +1,5 @@
 use Rattle.clone_elements.proofs.left.key_called.Goals as goal
-use Rattle.outside.proofs.Passed.{no_value}
+use Rattle.tasks.proofs.outside.Passed.{no_value}
 
 pub returns-in_err-own : goal.returns-in_err-own
 returns-in_err-own c = no_value _ _ c.from_residual.result c.from_residual.ensures.1

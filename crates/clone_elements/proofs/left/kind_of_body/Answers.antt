@@ -5,7 +5,7 @@ use Rattle.tasks.specs.Meaning.{symbol_at, symbols_at, body_at}
 use Rattle.clone_elements.specs.declared.left.Abstract.{Abstract}
 use Rattle.clone_elements.specs.Left.{kind_of_symbol, kind_of_body}
 use Rattle.clone_elements.proofs.left.kind_of_body.Goals as goal
-use Rattle.plain_laws.proofs.Lists.{got_none}
+use Rattle.tasks.proofs.plain_laws.Lists.{got_none}
 
 pub returns-in-None : goal.returns-in-None
 returns-in-None c = λ s.

@@ -1,13 +1,13 @@
 use Rattle.std.proofs.Common.{◌++◌, ℕ, suc, List, ap, ◌∙◌, arith, append_assoc}
 use Rattle.std.proofs.lemmas.Result.{on_ok_weaker}
-use Rattle.trees.specs.Tree.{Tree}
+use Rattle.tasks.specs.trees.Tree.{Tree}
 use Rattle.tasks.specs.Meaning.{symbols_at}
 use Rattle.syntax_why.specs.SurfaceDeclarations.{element_of}
 use Rattle.clone_elements.specs.Plans.{PlacedFates, type_for, with_side, replaced_types}
 use Rattle.clone_elements.specs.Origins.{origin_at}
 use Rattle.clone_elements.specs.Meaning.{right_at, side_at, sides_at, fates_at, type_pairs_at}
 use Rattle.clone_elements.proofs.plans.+push_types.Goals as goal
-use Rattle.outside.proofs.Passed.{no_ok}
+use Rattle.tasks.proofs.outside.Passed.{no_ok}
 
 pub returns-clause-types : goal.returns-clause-types
 returns-clause-types t c =

@@ -3,7 +3,7 @@ use Rattle.std.proofs.lemmas.Result.{on_ok_weaker}
 use Rattle.clone_elements.specs.Plans.{with_symbols}
 use Rattle.clone_elements.specs.Meaning.{symbol_pairs}
 use Rattle.clone_elements.proofs.plans.+put_symbols.Goals as goal
-use Rattle.outside.proofs.Passed.{no_ok}
+use Rattle.tasks.proofs.outside.Passed.{no_ok}
 
 pub returns-clause-is : goal.returns-clause-is
 returns-clause-is t c = rw c.in-Some.ensures.cases.0 (on_ok_weaker c.put_symbols.result (λ h s. h s ∙ ap (with_symbols (symbol_pairs c.in-Some.rest.now)) (c.in_ok-put_symbol.ensures.is s)) c.put_symbols.ensures.is)

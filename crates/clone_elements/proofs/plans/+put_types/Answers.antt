@@ -1,14 +1,14 @@
 use Rattle.std.proofs.Common.{◌≡◌, ◌∷◌, suc, List, All, length, ap, subst, ◌∙◌, arith}
 use Rattle.std.proofs.lemmas.Result.{on_ok_weaker}
-use Rattle.trees.specs.Tree.{Tree}
-use Rattle.trees.specs.Node.{tree_at}
+use Rattle.tasks.specs.trees.Tree.{Tree}
+use Rattle.tasks.specs.trees.Node.{tree_at}
 use Rattle.elab_walk.specs.Drafts.{HoldsType}
 use Rattle.clones.specs.Meaning.{map_at}
 use Rattle.clone_elements.specs.declared.plans.TypeFor.{TypeFor}
 use Rattle.clone_elements.specs.Plans.{with_type, with_mapped_types}
 use Rattle.clone_elements.specs.Meaning.{type_pairs_at, TypeForHeld}
 use Rattle.clone_elements.proofs.plans.+put_types.Goals as goal
-use Rattle.outside.proofs.Passed.{no_ok}
+use Rattle.tasks.proofs.outside.Passed.{no_ok}
 
 first_held : (s : List Tree) (ps qs : List TypeFor) (p : TypeFor) → ps ≡ p ∷ qs → All (TypeForHeld s) ps → HoldsType s p.ty
 first_held s ps qs p e h = let g : All (TypeForHeld s) (p ∷ qs) = subst (All (TypeForHeld s)) e h in g 0 p (omega arith)

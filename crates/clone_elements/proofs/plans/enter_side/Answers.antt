@@ -4,7 +4,7 @@ use Rattle.clone_elements.specs.declared.plans.Fate.{Fate}
 use Rattle.clone_elements.specs.Plans.{element_fate, with_fate}
 use Rattle.clone_elements.specs.Meaning.{fates_at}
 use Rattle.clone_elements.proofs.plans.enter_side.Goals as goal
-use Rattle.outside.proofs.Passed.{no_ok}
+use Rattle.tasks.proofs.outside.Passed.{no_ok}
 
 pub returns : goal.returns
 returns c = λ s.

@@ -3,7 +3,7 @@ use Rattle.std.proofs.lemmas.Result.{on_ok_weaker}
 use Rattle.clone_elements.specs.Plans.{with_symbols, with_mapped_types}
 use Rattle.clone_elements.specs.Meaning.{type_pairs_at, symbol_pairs}
 use Rattle.clone_elements.proofs.plans.fill_map.Goals as goal
-use Rattle.outside.proofs.Passed.{no_ok}
+use Rattle.tasks.proofs.outside.Passed.{no_ok}
 
 pub put_types-requires : goal.put_types-requires
 put_types-requires c = c.requires

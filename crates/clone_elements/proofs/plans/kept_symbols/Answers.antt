@@ -5,7 +5,7 @@ use Rattle.clone_elements.specs.Plans.{kept_at, kept_of}
 use Rattle.clone_elements.specs.Origins.{origin_at}
 use Rattle.clone_elements.specs.Meaning.{fates_at}
 use Rattle.clone_elements.proofs.plans.kept_symbols.Goals as goal
-use Rattle.outside.proofs.Passed.{no_value}
+use Rattle.tasks.proofs.outside.Passed.{no_value}
 
 pub loop-place-preserved : goal.loop-place-preserved
 loop-place-preserved c = λ s.

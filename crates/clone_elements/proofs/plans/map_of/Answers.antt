@@ -4,7 +4,7 @@ use Rattle.clones.specs.Meaning.{map_at}
 use Rattle.clone_elements.specs.Plans.{same_map, with_numbers, with_symbols, with_mapped_types}
 use Rattle.clone_elements.specs.Meaning.{type_pairs_at, symbol_pairs}
 use Rattle.clone_elements.proofs.plans.map_of.Goals as goal
-use Rattle.outside.proofs.Passed.{no_value}
+use Rattle.tasks.proofs.outside.Passed.{no_value}
 
 pub fill_map-requires : goal.fill_map-requires
 fill_map-requires c = c.requires

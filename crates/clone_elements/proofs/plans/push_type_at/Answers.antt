@@ -3,7 +3,7 @@ use Rattle.std.proofs.lemmas.List.Elements.{All-push}
 use Rattle.clone_elements.specs.Meaning.{TypeForHeld}
 use Rattle.clone_elements.specs.declared.plans.TypeFor.{TypeFor}
 use Rattle.clone_elements.proofs.plans.push_type_at.Goals as goal
-use Rattle.outside.proofs.Passed.{no_ok}
+use Rattle.tasks.proofs.outside.Passed.{no_ok}
 
 pub returns-in_err-push-clause-types : goal.returns-in_err-push-clause-types
 returns-in_err-push-clause-types c = no_ok _ _ c.from_residual.result c.from_residual.ensures.1

@@ -3,7 +3,7 @@ use Rattle.std.proofs.lemmas.List.{at_drop_more}
 use Rattle.clones.specs.Meaning.{map_at}
 use Rattle.clone_elements.specs.Plans.{with_numbers}
 use Rattle.clone_elements.proofs.plans.put_numbers.Goals as goal
-use Rattle.outside.proofs.Passed.{no_ok}
+use Rattle.tasks.proofs.outside.Passed.{no_ok}
 
 pub loop-symbol-preserved : goal.loop-symbol-preserved
 loop-symbol-preserved c =

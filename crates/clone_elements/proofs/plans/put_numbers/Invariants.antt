@@ -1,5 +1,5 @@
 use Rattle.std.proofs.Common.{◌≡◌, ◌+◌, List, drop}
-use Rattle.trees.specs.Tree.{Tree}
+use Rattle.tasks.specs.trees.Tree.{Tree}
 use Rattle.clones.specs.Meaning.{map_at, MapHeld}
 use Rattle.clone_elements.specs.Plans.{with_numbers}
 use Rattle.clone_elements.proofs.plans.put_numbers.Given as goal

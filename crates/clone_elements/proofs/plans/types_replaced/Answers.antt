@@ -6,7 +6,7 @@ use Rattle.clone_elements.specs.Plans.{types_replaced}
 use Rattle.clone_elements.specs.Origins.{origin_at}
 use Rattle.clone_elements.specs.Meaning.{sides_at, type_pairs_at, TypeForHeld}
 use Rattle.clone_elements.proofs.plans.types_replaced.Goals as goal
-use Rattle.outside.proofs.Passed.{no_value}
+use Rattle.tasks.proofs.outside.Passed.{no_value}
 
 pub returns-clause-held : goal.returns-clause-held
 returns-clause-held c = λ s a. c.in_ok-push_all_types.ensures.held s (subst (λ (z : List TypeFor). All (TypeForHeld s) z) (sym c.new-types.ensures.items) (All-nil (TypeForHeld s))) a

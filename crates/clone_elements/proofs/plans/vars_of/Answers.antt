@@ -2,7 +2,7 @@ use Rattle.std.proofs.Common.{sym, ap}
 use Rattle.tasks.specs.Task.{SymbolTree, int_symbol}
 use Rattle.tasks.specs.Meaning.{symbol_at}
 use Rattle.clone_elements.proofs.plans.vars_of.Goals as goal
-use Rattle.plain_laws.proofs.Lists.{got_none}
+use Rattle.tasks.proofs.plain_laws.Lists.{got_none}
 
 pub returns-in-None : goal.returns-in-None
 returns-in-None c = λ s. ap (λ (e : SymbolTree). e.vars) (sym (got_none (symbol_at s) c.args.sig.now.symbols c.args.symbol int_symbol (sym c.in-None.ensures.value)))

@@ -1,5 +1,5 @@
 use Rattle.std.proofs.Common.{◌≡◌, ℕ, List, OnOk, ap, subst, ◌∙◌}
-use Rattle.trees.proofs.Nodes.{Grows_refl}
+use Rattle.tasks.proofs.trees.Nodes.{Grows_refl}
 use Rattle.tasks.specs.Meaning.{symbols_at}
 use Rattle.elab_names.specs.Abstract.{type_expression_of}
 use Rattle.elab_variables.specs.Seen.{SeenTree, form_seen}
@@ -7,7 +7,7 @@ use Rattle.elab_variables.specs.Entered.{seen_at}
 use Rattle.elab_parts.specs.Elaborated.{unseen}
 use Rattle.elab_parts.specs.Entries.{wanting_tuples, IsExtended}
 use Rattle.clone_elements.proofs.rights.enter_tuples.Goals as goal
-use Rattle.outside.proofs.Passed.{no_ok}
+use Rattle.tasks.proofs.outside.Passed.{no_ok}
 
 pub push_tuples-requires : goal.push_tuples-requires
 push_tuples-requires c = c.requires

@@ -1,7 +1,7 @@
 use Rattle.std.proofs.Common.{◌≡◌, ◌++◌, List, length, sym, ap, subst, ◌∙◌}
 use Rattle.std.proofs.lemmas.Result.{IfOk-weaker}
-use Rattle.trees.proofs.Nodes.{Grows_trans}
-use Rattle.trees.specs.Facts.{TyVarsBelow}
+use Rattle.tasks.proofs.trees.Nodes.{Grows_trans}
+use Rattle.tasks.specs.trees.Facts.{TyVarsBelow}
 use Rattle.tasks.specs.Task.{SymbolTree}
 use Rattle.tasks.specs.Meaning.{symbols_at}
 use Rattle.elab_names.specs.Abstract.{type_expression_of}
@@ -13,8 +13,8 @@ use Rattle.elab_parts.proofs.Entering.{extended_grows}
 use Rattle.elab_parts.proofs.Tupled.{over_extended, form_within, scopes_extended}
 use Rattle.clone_elements.specs.Rights.{type_tuples}
 use Rattle.clone_elements.proofs.rights.make_type.Goals as goal
-use Rattle.plain_laws.proofs.Results.{ok_any as always}
-use Rattle.outside.proofs.Passed.{no_ok, no_value}
+use Rattle.tasks.proofs.plain_laws.Results.{ok_any as always}
+use Rattle.tasks.proofs.outside.Passed.{no_ok, no_value}
 
 pub enter_tuples-requires : goal.enter_tuples-requires
 enter_tuples-requires c = c.requires.signature

@@ -1,6 +1,6 @@
-use Rattle.trees.proofs.Nodes.{Grows_refl}
+use Rattle.tasks.proofs.trees.Nodes.{Grows_refl}
 use Rattle.clone_elements.proofs.rights.right_type.Goals as goal
-use Rattle.outside.proofs.Passed.{no_ok, no_value}
+use Rattle.tasks.proofs.outside.Passed.{no_ok, no_value}
 
 pub returns-in_err-vars-clause-entries : goal.returns-in_err-vars-clause-entries
 returns-in_err-vars-clause-entries c = no_ok _ _ c.from_residual.result c.from_residual.ensures.1

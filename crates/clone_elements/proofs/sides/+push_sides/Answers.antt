@@ -2,7 +2,7 @@ use Rattle.std.proofs.Common.{◌≡◌, ◌∷◌, ◌++◌, [], ℕ, List, Opt
 use Rattle.std.proofs.lemmas.List.{map-append}
 use Rattle.std.proofs.lemmas.List.Elements.{All-push}
 use Rattle.std.proofs.lemmas.Result.{on_ok_weaker}
-use Rattle.trees.proofs.Nodes.{Grows_refl, Grows_trans}
+use Rattle.tasks.proofs.trees.Nodes.{Grows_refl, Grows_trans}
 use Rattle.tasks.specs.Task.{SymbolTree}
 use Rattle.tasks.specs.Meaning.{symbols_at}
 use Rattle.syntax_why.specs.Lexeme.{Word}
@@ -23,7 +23,7 @@ use Rattle.clone_elements.specs.Meaning.{side_at, sides_at, SideHeld}
 use Rattle.clone_elements.proofs.Growing.{sides_stay, sides_grow}
 use Rattle.clone_elements.proofs.Sided.{sides_made_stay, rights_fault_stay}
 use Rattle.clone_elements.proofs.sides.+push_sides.Goals as goal
-use Rattle.outside.proofs.Passed.{no_ok}
+use Rattle.tasks.proofs.outside.Passed.{no_ok}
 
 pub push_sides-requires : goal.push_sides-requires
 push_sides-requires t c =

@@ -1,5 +1,5 @@
 use Rattle.clone_elements.proofs.sides.sides_of.Goals as goal
-use Rattle.outside.proofs.Passed.{no_ok, no_value}
+use Rattle.tasks.proofs.outside.Passed.{no_ok, no_value}
 
 pub returns-in_err-push_sides-clause-entries : goal.returns-in_err-push_sides-clause-entries
 returns-in_err-push_sides-clause-entries c = no_ok _ _ c.from_residual.result c.from_residual.ensures.1

@@ -22,7 +22,7 @@ use Rattle.clone_theories.proofs.Faults.{or_weaker, read_fault}
 use Rattle.clone_theories.proofs.Stages.{theory_is, origin_is}
 use Rattle.clone_theories.proofs.Begun.{ready, is_cloned}
 use Rattle.clone_theories.proofs.cloning.clone_known.Goals as goal
-use Rattle.outside.proofs.Passed.{no_ok}
+use Rattle.tasks.proofs.outside.Passed.{no_ok}
 
 pub plan_elements-requires-clause-scopes : goal.plan_elements-requires-clause-scopes
 plan_elements-requires-clause-scopes c =

@@ -13,7 +13,7 @@ use Rattle.clone_theories.proofs.Faults.{or_weaker}
 use Rattle.clone_theories.proofs.TypedClone.{cloned_typed, cloned_placed}
 use Rattle.clone_theories.proofs.Putting.{number_stays}
 use Rattle.clone_theories.proofs.cloning.clone_theory.Goals as goal
-use Rattle.outside.proofs.Passed.{no_ok}
+use Rattle.tasks.proofs.outside.Passed.{no_ok}
 
 pub returns-clause-typed : goal.returns-clause-typed
 returns-clause-typed c =

@@ -1,9 +1,9 @@
 use Rattle.std.proofs.Common.{◌∙◌}
-use Rattle.trees.proofs.Nodes.{Grows_refl}
-use Rattle.clones.specs.Meaning.{map_at}
+use Rattle.tasks.proofs.trees.Nodes.{Grows_refl}
+use Rattle.clone_copies.specs.clones.Meaning.{map_at}
 use Rattle.clone_theories.proofs.Contents.{planned_renaming}
 use Rattle.clone_theories.proofs.copying.copy_contents.Goals as goal
-use Rattle.outside.proofs.Passed.{no_ok, no_value}
+use Rattle.tasks.proofs.outside.Passed.{no_ok, no_value}
 
 pub rename-requires : goal.rename-requires
 rename-requires c = c.requires.types

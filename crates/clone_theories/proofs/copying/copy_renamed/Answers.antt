@@ -1,13 +1,13 @@
 use Rattle.std.proofs.Common.{◌<◌, ℕ, List, All, get_or, length, sym, ap, subst, ◌∙◌}
 use Rattle.theory_states.specs.declared.states.KnownTheory.{KnownTheory}
-use Rattle.trees.proofs.Nodes.{Grows_trans}
+use Rattle.tasks.proofs.trees.Nodes.{Grows_trans}
 use Rattle.theory_states.specs.declared.moves.Move.{Move}
-use Rattle.clones.proofs.Steps.{map_held, known_on}
+use Rattle.clone_copies.proofs.clones.Steps.{map_held, known_on}
 use Rattle.clone_copies.specs.Moves.{MoveHeld}
 use Rattle.clone_theories.proofs.Kept.{moves_held_later}
 use Rattle.clone_theories.proofs.Contents.{moves_are_held, visible_below, copies_kept, held_made, contents}
 use Rattle.clone_theories.proofs.copying.copy_renamed.Goals as goal
-use Rattle.outside.proofs.Passed.{no_ok, no_value}
+use Rattle.tasks.proofs.outside.Passed.{no_ok, no_value}
 
 pub copy_symbols-requires-clause-signature : goal.copy_symbols-requires-clause-signature
 copy_symbols-requires-clause-signature c = c.requires.ready.held.typed.signature

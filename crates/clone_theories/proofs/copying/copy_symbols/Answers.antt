@@ -1,15 +1,15 @@
 use Rattle.std.proofs.Common.{◌≡◌, ◌++◌, ℕ, List, ap, ◌∙◌}
-use Rattle.trees.specs.Node.{Grows}
+use Rattle.tasks.specs.trees.Node.{Grows}
 use Rattle.tasks.specs.Task.{SymbolTree}
 use Rattle.tasks.specs.Meaning.{symbols_at}
-use Rattle.clones.specs.Mapped.{Map}
-use Rattle.clones.specs.Meaning.{map_at}
-use Rattle.clones.proofs.Steps.{map_held, map_stays, known_on, known_back}
+use Rattle.clone_copies.specs.clones.Mapped.{Map}
+use Rattle.clone_copies.specs.clones.Meaning.{map_at}
+use Rattle.clone_copies.proofs.clones.Steps.{map_held, map_stays, known_on, known_back}
 use Rattle.elab_parts.proofs.Entering.{entries_stay, signature_grows}
 use Rattle.clone_copies.specs.Entries.{entries_copied}
 use Rattle.clone_theories.proofs.Kept.{all_held, signature_made, moves_held_later, moves_grow}
 use Rattle.clone_theories.proofs.copying.copy_symbols.Goals as goal
-use Rattle.outside.proofs.Passed.{no_ok, no_value}
+use Rattle.tasks.proofs.outside.Passed.{no_ok, no_value}
 
 pub push_entries-requires-clause-int : goal.push_entries-requires-clause-int
 push_entries-requires-clause-int c = (signature_grows c.args.store.now c.map_moves.new.store c.map_moves.ensures.grows c.args.sig.now.symbols c.requires.signature).int

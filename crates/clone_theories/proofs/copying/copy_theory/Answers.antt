@@ -2,7 +2,7 @@ use Rattle.std.proofs.Common.{◌≡◌, List, sym, ap, subst, ◌∙◌}
 use Rattle.std.specs.Option.{option_copied}
 use Rattle.theory_states.specs.declared.moves.Move.{Move}
 use Rattle.syntax_why.specs.Lexeme.{Word}
-use Rattle.clones.proofs.Steps.{ok_any}
+use Rattle.clone_copies.proofs.clones.Steps.{ok_any}
 use Rattle.theory_states.specs.Meaning.{state_at}
 use Rattle.clone_theories.specs.Cloned.{within_of, with_names}
 use Rattle.clone_theories.specs.Owned.{known_theory_at}
@@ -10,8 +10,8 @@ use Rattle.clone_theories.specs.Planned.{planned}
 use Rattle.clone_theories.specs.Copied.{IsCopyReady, AreContents}
 use Rattle.clone_theories.proofs.Stages.{named_state, named_held, copied_by}
 use Rattle.clone_theories.proofs.copying.copy_theory.Goals as goal
-use Rattle.plain_laws.proofs.Results.{if_ok_both as ok_both}
-use Rattle.outside.proofs.Passed.{no_ok}
+use Rattle.tasks.proofs.plain_laws.Results.{if_ok_both as ok_both}
+use Rattle.tasks.proofs.outside.Passed.{no_ok}
 
 pub copy_contents-requires : goal.copy_contents-requires
 copy_contents-requires c =

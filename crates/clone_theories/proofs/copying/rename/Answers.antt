@@ -1,13 +1,13 @@
 use Rattle.std.proofs.Common.{◌≡◌, ℕ, List, length, sym, ap, ◌∙◌}
 use Rattle.std.proofs.Math.ListN.{length-map}
-use Rattle.trees.specs.Tree.{Tree}
+use Rattle.tasks.specs.trees.Tree.{Tree}
 use Rattle.tasks.specs.Meaning.{symbol_at, symbols_at}
 use Rattle.clone_elements.specs.Plans.{map_of}
 use Rattle.clone_elements.specs.Origins.{origin_at}
 use Rattle.clone_elements.specs.Meaning.{type_pairs_at, symbol_pairs}
 use Rattle.clone_theories.specs.Planned.{planned_kept}
 use Rattle.clone_theories.proofs.copying.rename.Goals as goal
-use Rattle.outside.proofs.Passed.{no_value}
+use Rattle.tasks.proofs.outside.Passed.{no_value}
 
 pub returns : goal.returns
 returns c =

@@ -1,5 +1,5 @@
 use Rattle.clone_theories.proofs.own.own_of.Goals as goal
-use Rattle.outside.proofs.Passed.{no_value}
+use Rattle.tasks.proofs.outside.Passed.{no_value}
 
 pub returns-in_err-path : goal.returns-in_err-path
 returns-in_err-path c = no_value _ _ c.from_residual.result c.from_residual.ensures.1

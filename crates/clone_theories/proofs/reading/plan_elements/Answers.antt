@@ -4,7 +4,7 @@ use Rattle.tasks.specs.Task.{DeclarationTree}
 use Rattle.tasks.specs.Meaning.{symbols_at}
 use Rattle.tasks.proofs.Growth.{decl_held_later, declarations_later}
 use Rattle.syntax_why.specs.SurfaceDeclarations.{element_of}
-use Rattle.clones.proofs.Steps.{ok_any}
+use Rattle.clone_copies.proofs.clones.Steps.{ok_any}
 use Rattle.elab_parts.proofs.Entering.{extended_grows}
 use Rattle.clone_elements.specs.Left.{Origin}
 use Rattle.clone_elements.specs.Rights.{rights_tuples}
@@ -13,8 +13,8 @@ use Rattle.clone_elements.specs.Meaning.{sides_at}
 use Rattle.clone_theories.proofs.Faults.{or_weaker}
 use Rattle.clone_theories.proofs.Told.{is_read, is_read_fault}
 use Rattle.clone_theories.proofs.reading.plan_elements.Goals as goal
-use Rattle.plain_laws.proofs.Results.{if_ok_both as ok_both}
-use Rattle.outside.proofs.Passed.{no_ok, no_value}
+use Rattle.tasks.proofs.plain_laws.Results.{if_ok_both as ok_both}
+use Rattle.tasks.proofs.outside.Passed.{no_ok, no_value}
 
 pub plan_of-requires-clause-decls : goal.plan_of-requires-clause-decls
 plan_of-requires-clause-decls c = λ k d l. decl_held_later c.args.store.now c.read_sides.new.store c.read_sides.ensures.grows (get_or c.args.source.now.decls.now k d) (c.requires.decls k d l)

@@ -10,7 +10,7 @@ use Rattle.clone_elements.specs.Origins.{origin_at, place_at}
 use Rattle.clone_theories.specs.Cloned.{IsNamesFault}
 use Rattle.clone_theories.proofs.Faults.{names_fault}
 use Rattle.clone_theories.proofs.reading.read_sides.Goals as goal
-use Rattle.outside.proofs.Passed.{no_ok, no_value}
+use Rattle.tasks.proofs.outside.Passed.{no_ok, no_value}
 
 pub returns-in-Ok-clause-sides : goal.returns-in-Ok-clause-sides
 returns-in-Ok-clause-sides c =

@@ -4,11 +4,11 @@ use Rattle.std.specs.Option.{is_some, is_none}
 use Rattle.std.proofs.lemmas.List.{append-nil}
 use Rattle.std.proofs.lemmas.List.Elements.{All-nil}
 use Rattle.std.proofs.lemmas.Result.{IfOk-weaker}
-use Rattle.trees.specs.declared.TermId.{TermId}
-use Rattle.trees.specs.Node.{tree_at}
-use Rattle.trees.specs.Sorts.{sort_of}
+use Rattle.tasks.specs.trees.declared.TermId.{TermId}
+use Rattle.tasks.specs.trees.Node.{tree_at}
+use Rattle.tasks.specs.trees.Sorts.{sort_of}
 use Rattle.tasks.specs.Meaning.{trees_at}
-use Rattle.syntax_why.specs.Lexeme.{Word}
+use Rattle.elab_names.specs.syntax_why.Lexeme.{Word}
 use Rattle.elab_names.specs.Abstract.{expression_of}
 use Rattle.elab_names.specs.Faults.{fault}
 use Rattle.elab_names.specs.Naming.{where_at}

@@ -1,10 +1,10 @@
 use Rattle.std.proofs.Common.{◌≡◌, ℕ, List, ◌∷◌, length, sym, ap, ◌∙◌}
 use Rattle.std.proofs.Math.ListN.{length-map}
 use Rattle.std.proofs.lemmas.Result.{IfOk-weaker}
-use Rattle.trees.specs.declared.TermId.{TermId}
-use Rattle.trees.specs.Tree.{Tree, One, Two, HBound, HCell}
-use Rattle.trees.specs.Node.{tree_at}
-use Rattle.trees.proofs.Nodes.{tree_at-grows}
+use Rattle.tasks.specs.trees.declared.TermId.{TermId}
+use Rattle.tasks.specs.trees.Tree.{Tree, One, Two, HBound, HCell}
+use Rattle.tasks.specs.trees.Node.{tree_at}
+use Rattle.tasks.proofs.trees.Nodes.{tree_at-grows}
 use Rattle.tasks.specs.Meaning.{trees_at}
 use Rattle.tasks.specs.Equations.{cells, bound_variables}
 use Rattle.elab_walk.proofs.Growing.{first_held, type_stays}

@@ -1,12 +1,12 @@
 use Rattle.std.proofs.Common.{◌≡◌, List, Some, None, option_map, length, refl, sym, ap, ◌∙◌}
 use Rattle.std.proofs.lemmas.Result.{IfOk-weaker}
-use Rattle.trees.specs.declared.TermId.{TermId}
-use Rattle.trees.specs.declared.Op.TheVariants.{Iff}
-use Rattle.trees.specs.declared.Sort.TheVariants.{Kind, Term, Formula}
-use Rattle.trees.specs.Tree.{Tree, Two, Three, HFun, HPred, HEq, HJoin}
-use Rattle.trees.specs.Node.{tree_at, Grows}
-use Rattle.trees.specs.Sorts.{sort_of, IsList}
-use Rattle.trees.proofs.Nodes.{tree_at-grows, Grows_trans}
+use Rattle.tasks.specs.trees.declared.TermId.{TermId}
+use Rattle.tasks.specs.trees.declared.Op.TheVariants.{Iff}
+use Rattle.tasks.specs.trees.declared.Sort.TheVariants.{Kind, Term, Formula}
+use Rattle.tasks.specs.trees.Tree.{Tree, Two, Three, HFun, HPred, HEq, HJoin}
+use Rattle.tasks.specs.trees.Node.{tree_at, Grows}
+use Rattle.tasks.specs.trees.Sorts.{sort_of, IsList}
+use Rattle.tasks.proofs.trees.Nodes.{tree_at-grows, Grows_trans}
 use Rattle.tasks.specs.Meaning.{trees_at}
 use Rattle.tasks.specs.Equations.{cells, type_variables, bound_variables}
 use Rattle.elab_walk.specs.Drafts.{HoldsType}

@@ -1,10 +1,10 @@
 use Rattle.std.proofs.Common.{◌≡◌, ℕ, ◌++◌, [], List, None, Err, map, length, sym, ap, subst, ◌∙◌}
 use Rattle.std.proofs.Math.ListN.{length-map}
-use Rattle.trees.specs.Tree.{Tree}
+use Rattle.tasks.specs.trees.Tree.{Tree}
 use Rattle.tasks.specs.Meaning.{symbols_at}
-use Rattle.names_space.specs.declared.Table.TheVariants.{Symbols}
-use Rattle.names_space.specs.Names.{ScopeNames}
-use Rattle.syntax_why.specs.Lexeme.{Word}
+use Rattle.elab_names.specs.names_space.declared.Table.TheVariants.{Symbols}
+use Rattle.elab_names.specs.names_space.Names.{ScopeNames}
+use Rattle.elab_names.specs.syntax_why.Lexeme.{Word}
 use Rattle.elab_names.specs.Naming.{where_at, Tells}
 use Rattle.elab_names.specs.Where.{Where}
 use Rattle.elab_variables.specs.Seen.{SeenTree}

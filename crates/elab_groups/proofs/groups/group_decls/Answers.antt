@@ -1,7 +1,7 @@
 use Rattle.std.proofs.Common.{◌≡◌, ◌++◌, ◌∷◌, [], List, map, length, sym, ap, subst, ◌∙◌}
 use Rattle.tasks.specs.Task.{DeclarationTree}
 use Rattle.tasks.specs.Meaning.{trees_at, declarations_at}
-use Rattle.syntax_why.specs.Lexeme.{Word}
+use Rattle.elab_names.specs.syntax_why.Lexeme.{Word}
 use Rattle.elab_walk.proofs.Noting.{no_elements}
 use Rattle.elab_members.specs.declared.sources.MemberSource.{MemberSource}
 use Rattle.elab_members.specs.declared.signing.Signed.{Signed}

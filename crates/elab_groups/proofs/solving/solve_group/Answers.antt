@@ -1,8 +1,8 @@
 use Rattle.std.proofs.Common.{◌≡◌, ℕ, ◌≤◌, List, [], map, length, sym, ap, ◌∙◌}
 use Rattle.std.proofs.Math.ListN.{length-map}
 use Rattle.std.proofs.lemmas.Result.{IfOk-weaker, IfErr-weaker}
-use Rattle.trees.specs.Tree.{Tree}
-use Rattle.trees.specs.Sorts.{sort_of}
+use Rattle.tasks.specs.trees.Tree.{Tree}
+use Rattle.tasks.specs.trees.Sorts.{sort_of}
 use Rattle.tasks.specs.Meaning.{trees_at}
 use Rattle.elab_names.specs.Naming.{where_at}
 use Rattle.elab_walk.specs.Patterns.{Notes}
@@ -19,7 +19,7 @@ use Rattle.elab_groups.specs.Bodies.{AreDefined, AreBodies, AreBodiesWalked, Bod
 use Rattle.elab_groups.proofs.BodiesBelow.{bodies_bounded}
 use Rattle.elab_groups.proofs.BodiesSolved.{solved_moved, fault_moved, bounded_moved}
 use Rattle.elab_groups.proofs.solving.solve_group.Goals as goal
-use Rattle.plain_laws.proofs.Results.{if_ok_both}
+use Rattle.tasks.proofs.plain_laws.Results.{if_ok_both}
 
 pub walk_bodies-requires-clause-ready : goal.walk_bodies-requires-clause-ready
 walk_bodies-requires-clause-ready c = begun_ready c.args.store.now c.in_ok-draft.draft c.in_ok-draft.ensures.equations c.in_ok-draft.ensures.matches

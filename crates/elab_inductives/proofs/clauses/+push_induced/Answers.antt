@@ -3,7 +3,7 @@ use Rattle.std.proofs.Math.ListN.{length-map}
 use Rattle.std.specs.List.{All}
 use Rattle.std.proofs.lemmas.List.{take_rest}
 use Rattle.std.proofs.lemmas.Result.{on_ok_weaker}
-use Rattle.trees.specs.Node.{Holds}
+use Rattle.tasks.specs.trees.Node.{Holds}
 use Rattle.tasks.specs.declared.declaration.Ind.{Ind}
 use Rattle.tasks.specs.Meaning.{trees_at, inductives_at}
 use Rattle.syntax_why.specs.SurfaceDeclarations.{clause_of}

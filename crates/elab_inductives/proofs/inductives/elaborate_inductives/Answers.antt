@@ -1,6 +1,6 @@
 use Rattle.std.proofs.Common.{◌≡◌, [], None, Err, length, sym, ap, subst, ◌∙◌}
 use Rattle.tasks.specs.Meaning.{symbols_at}
-use Rattle.names_space.specs.Names.{ScopeNames}
+use Rattle.elab_names.specs.names_space.Names.{ScopeNames}
 use Rattle.elab_names.specs.Naming.{where_at, Tells}
 use Rattle.elab_names.specs.Where.{Where}
 use Rattle.elab_parts.specs.Declarations.{made_by_inductives, made_fault, inductives_fault}

@@ -2,9 +2,9 @@ use Rattle.std.proofs.Common.{◌≡◌, List, map, length, sym, ap, subst, ◌�
 use Rattle.std.proofs.Math.ListN.{length-map}
 use Rattle.std.specs.List.{AllByRecursion}
 use Rattle.std.proofs.lemmas.List.Elements.{All-nil}
-use Rattle.trees.specs.Tree.{Tree}
-use Rattle.trees.specs.Sorts.{sort_of}
-use Rattle.trees.specs.Node.{tree_at}
+use Rattle.tasks.specs.trees.Tree.{Tree}
+use Rattle.tasks.specs.trees.Sorts.{sort_of}
+use Rattle.tasks.specs.trees.Node.{tree_at}
 use Rattle.tasks.specs.Meaning.{trees_at}
 use Rattle.elab_names.specs.Naming.{where_at}
 use Rattle.elab_walk.specs.Drafts.{match_at, due}

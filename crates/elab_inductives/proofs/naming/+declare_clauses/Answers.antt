@@ -1,5 +1,5 @@
 use Rattle.std.proofs.Common.{◌≡◌, ◌++◌, ◌∷◌, [], None}
-use Rattle.names_space.specs.declared.Table.TheVariants.{Propositions}
+use Rattle.elab_names.specs.names_space.declared.Table.TheVariants.{Propositions}
 use Rattle.syntax_why.specs.SurfaceDeclarations.{clause_of}
 use Rattle.elab_names.specs.Naming.{Tells}
 use Rattle.elab_names.proofs.Told.{of_rest}

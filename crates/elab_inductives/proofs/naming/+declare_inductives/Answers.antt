@@ -1,6 +1,6 @@
 use Rattle.std.proofs.Common.{◌≡◌, ◌++◌, ◌∷◌, [], List, ap, subst, ◌∙◌}
-use Rattle.names_space.specs.Names.{ScopeNames}
-use Rattle.names_space.specs.declared.Table.TheVariants.{Symbols, Propositions}
+use Rattle.elab_names.specs.names_space.Names.{ScopeNames}
+use Rattle.elab_names.specs.names_space.declared.Table.TheVariants.{Symbols, Propositions}
 use Rattle.syntax_why.specs.Lexeme.{Word}
 use Rattle.elab_names.specs.Naming.{Tells}
 use Rattle.elab_names.proofs.Told.{of_rest}

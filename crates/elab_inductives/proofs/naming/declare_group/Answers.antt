@@ -1,5 +1,5 @@
 use Rattle.std.proofs.Common.{[], sym, subst}
-use Rattle.names_space.specs.declared.Table.TheVariants.{Symbols, Propositions}
+use Rattle.elab_names.specs.names_space.declared.Table.TheVariants.{Symbols, Propositions}
 use Rattle.elab_names.specs.Naming.{Tells}
 use Rattle.elab_parts.specs.Outcomes.{declared_in}
 use Rattle.elab_inductives.specs.Inductives.{inductives_made}

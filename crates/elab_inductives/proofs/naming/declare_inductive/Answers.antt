@@ -1,7 +1,7 @@
 use Rattle.std.proofs.Common.{◌≡◌, true, List, None, ap, subst, ◌∙◌}
-use Rattle.names_space.specs.Names.{ScopeNames, with_name}
-use Rattle.names_space.specs.declared.Table.TheVariants.{Symbols, Propositions}
-use Rattle.names_space.specs.declared.TypeName.TheVariants as stands
+use Rattle.elab_names.specs.names_space.Names.{ScopeNames, with_name}
+use Rattle.elab_names.specs.names_space.declared.Table.TheVariants.{Symbols, Propositions}
+use Rattle.elab_names.specs.names_space.declared.TypeName.TheVariants as stands
 use Rattle.syntax_why.specs.Lexeme.{Word}
 use Rattle.syntax_why.specs.declared.declarations.ClauseTree.{ClauseTree}
 use Rattle.elab_names.specs.Naming.{Tells}

@@ -1,5 +1,5 @@
 use Rattle.std.proofs.lemmas.Result.{on_ok_weaker}
-use Rattle.trees.proofs.Nodes.{Grows_refl}
+use Rattle.term_store.proofs.trees.Nodes.{Grows_refl}
 use Rattle.elab_walk.proofs.Growing.{types_more}
 use Rattle.elab_members.proofs.params.+push_copies.Goals as goal
 

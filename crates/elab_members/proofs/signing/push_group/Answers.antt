@@ -1,7 +1,7 @@
 use Rattle.std.proofs.Common.{◌≡◌, ◌++◌, List, [], map, length, slice_get, sym, ap, subst, ◌∙◌}
 use Rattle.std.proofs.Math.ListN.{length-map}
 use Rattle.std.specs.List.{All}
-use Rattle.trees.specs.Tree.{Tree}
+use Rattle.term_store.specs.trees.Tree.{Tree}
 use Rattle.tasks.specs.Task.{SymbolTree}
 use Rattle.tasks.specs.Meaning.{symbol_at, symbols_at}
 use Rattle.elab_names.specs.Where.{Where}

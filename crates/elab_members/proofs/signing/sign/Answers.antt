@@ -1,5 +1,5 @@
 use Rattle.std.proofs.Common.{◌≡◌, Some, None, option_map, refl, sym, ap, ◌∙◌}
-use Rattle.trees.specs.Node.{tree_at}
+use Rattle.term_store.specs.trees.Node.{tree_at}
 use Rattle.tasks.specs.Meaning.{trees_at}
 use Rattle.elab_names.specs.Abstract.{type_expression_of}
 use Rattle.elab_names.specs.Naming.{where_at}

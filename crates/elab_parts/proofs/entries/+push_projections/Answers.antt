@@ -1,7 +1,7 @@
 use Rattle.std.proofs.Common.{suc, ◌∷◌, [], length, ap, arith, add-one}
 use Rattle.std.proofs.lemmas.Result.{on_ok_weaker}
-use Rattle.trees.specs.Node.{tree_at}
-use Rattle.trees.specs.Facts.{TyVarsBelow}
+use Rattle.tasks.specs.trees.Node.{tree_at}
+use Rattle.tasks.specs.trees.Facts.{TyVarsBelow}
 use Rattle.tasks.specs.Meaning.{trees_at}
 use Rattle.elab_walk.specs.Drafts.{HoldsType}
 use Rattle.elab_parts.specs.Entries.{projections}

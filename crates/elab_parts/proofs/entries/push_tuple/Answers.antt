@@ -2,10 +2,10 @@ use Rattle.std.proofs.Common.{◌≡◌, ℕ, ◌++◌, ◌∷◌, [], codes, le
 use Rattle.std.specs.Fmt.{decimal}
 use Rattle.std.specs.List.{All}
 use Rattle.std.proofs.lemmas.Result.{on_ok_weaker}
-use Rattle.trees.specs.Tree.{Tree, One, HTyApp}
-use Rattle.trees.specs.Node.{tree_at, Grows}
-use Rattle.trees.specs.Facts.{TyVarsBelow}
-use Rattle.trees.proofs.Nodes.{Grows_refl, Grows_trans}
+use Rattle.tasks.specs.trees.Tree.{Tree, One, HTyApp}
+use Rattle.tasks.specs.trees.Node.{tree_at, Grows}
+use Rattle.tasks.specs.trees.Facts.{TyVarsBelow}
+use Rattle.tasks.proofs.trees.Nodes.{Grows_refl, Grows_trans}
 use Rattle.tasks.specs.Meaning.{trees_at}
 use Rattle.tasks.specs.Equations.{cells, type_variables}
 use Rattle.tasks.specs.Valid.{own_type}

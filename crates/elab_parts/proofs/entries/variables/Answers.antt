@@ -1,8 +1,8 @@
 use Rattle.std.proofs.Common.{◌≡◌, ℕ, ◌+◌, ◌++◌, ◌∷◌, [], List, ap, sym, ◌∙◌, arith, add-one}
-use Rattle.trees.specs.Tree.{Tree, Leaf, HTyVar}
-use Rattle.trees.specs.Node.{tree_at}
-use Rattle.trees.specs.Sorts.{sort_of}
-use Rattle.trees.proofs.Nodes.{Grows_trans}
+use Rattle.tasks.specs.trees.Tree.{Tree, Leaf, HTyVar}
+use Rattle.tasks.specs.trees.Node.{tree_at}
+use Rattle.tasks.specs.trees.Sorts.{sort_of}
+use Rattle.tasks.proofs.trees.Nodes.{Grows_trans}
 use Rattle.tasks.specs.Meaning.{trees_at}
 use Rattle.tasks.specs.Equations.{type_variables}
 use Rattle.elab_walk.specs.Drafts.{HoldsType}

@@ -1,6 +1,6 @@
 use Rattle.std.proofs.Common.{length, ap, arith}
 use Rattle.std.proofs.lemmas.Result.{on_ok_weaker}
-use Rattle.trees.specs.Node.{Holds}
+use Rattle.tasks.specs.trees.Node.{Holds}
 use Rattle.elab_walk.proofs.Growing.{types_grow}
 use Rattle.elab_parts.proofs.Putting.{all_rest, all_held, held_more, put_step}
 use Rattle.elab_parts.proofs.solution.+put_trees.Goals as goal

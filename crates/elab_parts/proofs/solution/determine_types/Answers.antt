@@ -1,6 +1,6 @@
 use Rattle.std.proofs.Common.{◌≡◌, ◌<◌, get_or, length, Some, slice_get, arith}
 use Rattle.std.proofs.lemmas.Option.{slice_get-get_or}
-use Rattle.trees.proofs.Nodes.{tree_at-grows, Grows_trans}
+use Rattle.tasks.proofs.trees.Nodes.{tree_at-grows, Grows_trans}
 use Rattle.elab_parts.proofs.Determining.{values_more, first_open}
 use Rattle.elab_parts.proofs.solution.determine_types.Goals as goal
 

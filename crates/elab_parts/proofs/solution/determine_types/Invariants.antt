@@ -1,4 +1,4 @@
-use Rattle.trees.specs.Node.{Grows}
+use Rattle.tasks.specs.trees.Node.{Grows}
 use Rattle.elab_parts.specs.Values.{AreSolutionValues}
 use Rattle.elab_parts.proofs.solution.determine_types.Given as goal
 

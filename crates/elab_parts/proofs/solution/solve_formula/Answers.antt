@@ -1,8 +1,8 @@
 use Rattle.std.proofs.Common.{◌≡◌, ◌+◌, true, None, [], length, map, ap, subst, arith}
-use Rattle.trees.specs.declared.Sort.TheVariants.{Formula}
-use Rattle.trees.specs.Binding.{inst_types}
-use Rattle.trees.specs.Facts.{TyVarsBelow}
-use Rattle.trees.specs.Node.{tree_at}
+use Rattle.tasks.specs.trees.declared.Sort.TheVariants.{Formula}
+use Rattle.tasks.specs.trees.Binding.{inst_types}
+use Rattle.tasks.specs.trees.Facts.{TyVarsBelow}
+use Rattle.tasks.specs.trees.Node.{tree_at}
 use Rattle.elab_names.specs.Abstract.{expression_of}
 use Rattle.elab_names.specs.Naming.{where_at}
 use Rattle.elab_walk.specs.Patterns.{Notes, taken}

@@ -1,5 +1,5 @@
 use Rattle.std.proofs.Common.{sym, subst}
-use Rattle.elab_walk.specs.Scoped.{IsScopedEntry}
+use Rattle.elab_parts.specs.elab_walk.Scoped.{IsScopedEntry}
 use Rattle.elab_parts.proofs.Entering.{rigid_typed, rigid_scoped}
 use Rattle.elab_terms.proofs.propositions.+push_rigid.Goals as goal
 

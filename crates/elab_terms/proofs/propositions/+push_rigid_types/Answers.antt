@@ -1,9 +1,9 @@
 use Rattle.std.proofs.Common.{◌∷◌, [], ◌∙◌, append_assoc}
 use Rattle.std.proofs.lemmas.Result.{on_ok_weaker}
-use Rattle.trees.specs.Tree.{Leaf, HTyRigid}
+use Rattle.tasks.specs.trees.Tree.{Leaf, HTyRigid}
 use Rattle.tasks.specs.Meaning.{trees_at}
-use Rattle.elab_walk.proofs.Growing.{types_stay}
-use Rattle.elab_walk.proofs.Taking.{mapped_more}
+use Rattle.elab_parts.proofs.elab_walk.Growing.{types_stay}
+use Rattle.elab_parts.proofs.elab_walk.Taking.{mapped_more}
 use Rattle.elab_terms.specs.Outcomes.{rigid_types}
 use Rattle.elab_terms.proofs.propositions.+push_rigid_types.Goals as goal
 

@@ -1,13 +1,13 @@
 use Rattle.std.proofs.Common.{◌≡◌, ap, ◌∙◌}
 use Rattle.std.proofs.lemmas.Result.{IfOk-weaker}
-use Rattle.trees.specs.Tree.{Tree}
-use Rattle.trees.specs.Node.{tree_at}
-use Rattle.trees.specs.Binding.{inst_types}
-use Rattle.trees.proofs.Nodes.{tree_at-grows}
+use Rattle.tasks.specs.trees.Tree.{Tree}
+use Rattle.tasks.specs.trees.Node.{tree_at}
+use Rattle.tasks.specs.trees.Binding.{inst_types}
+use Rattle.tasks.proofs.trees.Nodes.{tree_at-grows}
 use Rattle.tasks.specs.Meaning.{trees_at}
 use Rattle.elab_terms.specs.Outcomes.{rigid_types}
 use Rattle.elab_terms.proofs.propositions.say.Goals as goal
-use Rattle.elab_walk.proofs.Forming.{hold_types}
+use Rattle.elab_parts.proofs.elab_walk.Forming.{hold_types}
 
 pub inst_types-requires-clause-types : goal.inst_types-requires-clause-types
 inst_types-requires-clause-types c = rw c.as_slice.ensures.value (hold_types c.push_rigid_types.new.store c.push_rigid_types.new.types.items c.in_ok-push_rigid_types-in-Goal.ensures.held)

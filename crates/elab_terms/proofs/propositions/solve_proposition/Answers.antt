@@ -2,17 +2,17 @@ use Rattle.std.proofs.Common.{◌≡◌, ◌++◌, [], List, true, false, length
 use Rattle.std.proofs.lemmas.Result.{IfOk-weaker, IfErr-weaker}
 use Rattle.tasks.specs.Task.{SymbolTree}
 use Rattle.tasks.specs.Meaning.{symbols_at}
-use Rattle.elab_names.specs.Abstract.{expression_of}
-use Rattle.elab_names.specs.Faults.{fault}
-use Rattle.elab_names.specs.Naming.{where_at}
-use Rattle.elab_names.specs.Where.{Where}
+use Rattle.elab_parts.specs.elab_names.Abstract.{expression_of}
+use Rattle.elab_parts.specs.elab_names.Faults.{fault}
+use Rattle.elab_parts.specs.elab_names.Naming.{where_at}
+use Rattle.elab_parts.specs.elab_names.Where.{Where}
 use Rattle.elab_parts.specs.Entries.{wanting_tuples, IsExtended}
 use Rattle.elab_parts.specs.Outcomes.{over}
 use Rattle.elab_parts.proofs.Entering.{extended_grows}
 use Rattle.elab_parts.proofs.Tupled.{over_extended, formula_resolved}
 use Rattle.elab_terms.proofs.Over.{solved_over, fault_over}
 use Rattle.elab_terms.proofs.propositions.solve_proposition.Goals as goal
-use Rattle.plain_laws.proofs.Results.{ok_any as always}
+use Rattle.tasks.proofs.plain_laws.Results.{ok_any as always}
 
 pub solve_formula-requires-clause-resolved : goal.solve_formula-requires-clause-resolved
 solve_formula-requires-clause-resolved c =

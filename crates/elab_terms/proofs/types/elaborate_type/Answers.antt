@@ -5,7 +5,7 @@ use Rattle.tasks.specs.Meaning.{declarations_at}
 use Rattle.names_space.specs.declared.Table.TheVariants.{Types}
 use Rattle.names_space.specs.declared.TypeName.TheVariants as stands
 use Rattle.names_space.specs.Names.{ScopeNames, with_name}
-use Rattle.elab_walk.specs.Patterns.{no_notes}
+use Rattle.elab_parts.specs.elab_walk.Patterns.{no_notes}
 use Rattle.elab_parts.specs.Declarations.{word, abstract_type, made_names, made_fault}
 use Rattle.elab_parts.specs.Entries.{type_entry, IsExtended}
 use Rattle.elab_parts.specs.Outcomes.{setting, declared_in, IsKept}

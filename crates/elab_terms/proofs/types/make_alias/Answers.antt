@@ -1,21 +1,21 @@
 use Rattle.std.proofs.Common.{◌≡◌, ℕ, ◌++◌, List, length, sym, ap, subst, ◌∙◌}
 use Rattle.std.proofs.lemmas.Result.{IfOk-weaker}
-use Rattle.trees.specs.Facts.{TyVarsBelow}
+use Rattle.tasks.specs.trees.Facts.{TyVarsBelow}
 use Rattle.tasks.specs.Task.{SymbolTree}
 use Rattle.tasks.specs.Meaning.{symbols_at}
-use Rattle.elab_names.specs.Abstract.{type_expression_of}
-use Rattle.elab_names.specs.Naming.{where_at}
-use Rattle.elab_names.specs.Where.{Where}
-use Rattle.elab_variables.specs.Seen.{SeenTree}
-use Rattle.elab_variables.specs.Entered.{seen_at}
-use Rattle.elab_walk.specs.Pieces.{type_at}
+use Rattle.elab_parts.specs.elab_names.Abstract.{type_expression_of}
+use Rattle.elab_parts.specs.elab_names.Naming.{where_at}
+use Rattle.elab_parts.specs.elab_names.Where.{Where}
+use Rattle.elab_parts.specs.elab_variables.Seen.{SeenTree}
+use Rattle.elab_parts.specs.elab_variables.Entered.{seen_at}
+use Rattle.elab_parts.specs.elab_walk.Pieces.{type_at}
 use Rattle.elab_parts.specs.Entries.{wanting_tuples, IsExtended}
 use Rattle.elab_parts.specs.Outcomes.{over}
 use Rattle.elab_parts.proofs.Entering.{extended_grows}
 use Rattle.elab_parts.proofs.Tupled.{over_extended, form_within}
 use Rattle.elab_terms.specs.Outcomes.{alias_seen}
 use Rattle.elab_terms.proofs.types.make_alias.Goals as goal
-use Rattle.plain_laws.proofs.Results.{ok_any as always}
+use Rattle.tasks.proofs.plain_laws.Results.{ok_any as always}
 
 pub returns-clause-entries : goal.returns-clause-entries
 returns-clause-entries c =

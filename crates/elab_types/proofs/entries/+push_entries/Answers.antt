@@ -1,9 +1,9 @@
 use Rattle.std.proofs.Common.{◌≡◌, ℕ, List, map, length, sym, ap, subst, ◌∙◌, arith}
 use Rattle.std.proofs.Math.ListN.{length-map}
 use Rattle.std.proofs.lemmas.Result.{on_ok_weaker}
-use Rattle.trees.specs.Tree.{Tree}
-use Rattle.trees.specs.Node.{tree_at}
-use Rattle.trees.specs.Facts.{TyVarsBelow}
+use Rattle.term_store.specs.trees.Tree.{Tree}
+use Rattle.term_store.specs.trees.Node.{tree_at}
+use Rattle.term_store.specs.trees.Facts.{TyVarsBelow}
 use Rattle.tasks.specs.Task.{SymbolTree}
 use Rattle.tasks.specs.Valid.{own_type}
 use Rattle.tasks.specs.Meaning.{cons_at, algebraics_at}

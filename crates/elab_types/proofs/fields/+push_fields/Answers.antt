@@ -1,7 +1,7 @@
 use Rattle.std.proofs.Common.{◌≡◌, ◌++◌, ◌∷◌, false, List, None, [], length, ap, ◌∙◌, arith, append_assoc, subst}
 use Rattle.std.proofs.lemmas.Result.{on_ok_weaker}
-use Rattle.trees.specs.Tree.{Tree}
-use Rattle.trees.specs.Node.{tree_at}
+use Rattle.term_store.specs.trees.Tree.{Tree}
+use Rattle.term_store.specs.trees.Node.{tree_at}
 use Rattle.tasks.specs.Meaning.{trees_at}
 use Rattle.elab_names.specs.Abstract.{type_expression_of}
 use Rattle.elab_names.specs.Faults.{form_fault, forms_fault}

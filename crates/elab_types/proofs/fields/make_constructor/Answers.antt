@@ -1,6 +1,6 @@
 use Rattle.std.proofs.Common.{◌≡◌, length, sym, ap, ◌∙◌, arith}
 use Rattle.std.proofs.Math.ListN.{length-map}
-use Rattle.trees.specs.Node.{tree_at}
+use Rattle.term_store.specs.trees.Node.{tree_at}
 use Rattle.tasks.specs.Meaning.{trees_at}
 use Rattle.elab_names.specs.Naming.{where_at}
 use Rattle.elab_walk.specs.Pieces.{types_at}

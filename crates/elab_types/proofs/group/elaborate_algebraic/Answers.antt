@@ -1,6 +1,6 @@
 use Rattle.std.proofs.Common.{◌≡◌, ℕ, ◌+◌, length, sym, ap, subst, ◌∙◌}
-use Rattle.trees.specs.Node.{Grows}
-use Rattle.trees.proofs.Nodes.{Grows_trans}
+use Rattle.term_store.specs.trees.Node.{Grows}
+use Rattle.term_store.proofs.trees.Nodes.{Grows_trans}
 use Rattle.tasks.specs.Meaning.{algebraics_at}
 use Rattle.elab_walk.specs.Patterns.{no_notes}
 use Rattle.elab_parts.specs.Declarations.{types_fault}

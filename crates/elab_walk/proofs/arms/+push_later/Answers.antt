@@ -1,4 +1,4 @@
-use Rattle.trees.proofs.Nodes.{Grows_trans}
+use Rattle.term_store.proofs.trees.Nodes.{Grows_trans}
 use Rattle.elab_walk.proofs.Branching.{first_later, pattern_grows}
 use Rattle.elab_walk.proofs.arms.+push_later.Goals as goal
 

@@ -1,5 +1,5 @@
 use Rattle.std.proofs.Common.{length, ap, arith}
-use Rattle.trees.proofs.Nodes.{Grows_refl}
+use Rattle.term_store.proofs.trees.Nodes.{Grows_refl}
 use Rattle.elab_walk.proofs.Binding.{held_more}
 use Rattle.elab_walk.proofs.bound.+bind_typed.Goals as goal
 

@@ -1,5 +1,5 @@
 use Rattle.std.proofs.Common.{◌≡◌, ◌∷◌, List, All, subst, arith, length, ◌<◌}
-use Rattle.trees.specs.Tree.{Tree}
+use Rattle.term_store.specs.trees.Tree.{Tree}
 use Rattle.elab_walk.specs.declared.locals.Local.{Local}
 use Rattle.elab_walk.specs.Drafts.{HoldsType}
 use Rattle.elab_walk.proofs.Growing.{type_grows}

@@ -1,4 +1,4 @@
-use Rattle.trees.proofs.Nodes.{Grows_trans}
+use Rattle.term_store.proofs.trees.Nodes.{Grows_trans}
 use Rattle.elab_walk.proofs.Taking.{taken_more}
 use Rattle.elab_walk.proofs.draft.unknowns.Goals as goal
 

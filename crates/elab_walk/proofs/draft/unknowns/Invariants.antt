@@ -1,4 +1,4 @@
-use Rattle.trees.specs.Node.{Grows}
+use Rattle.term_store.specs.trees.Node.{Grows}
 use Rattle.elab_walk.specs.Drafts.{IsTaken}
 use Rattle.elab_walk.proofs.draft.unknowns.Given as goal
 

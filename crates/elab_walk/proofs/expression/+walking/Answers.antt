@@ -2,9 +2,9 @@ use Rattle.std.proofs.Common.{◌≡◌, ℕ, IfOk, subst, ◌+◌, [], ◌∷�
 use Rattle.std.proofs.lemmas.Result.{IfOk-weaker, on_ok_weaker}
 use Rattle.std.proofs.lemmas.List.Elements.{All-nil}
 use Rattle.std.specs.Option.{option_copied}
-use Rattle.trees.specs.Tree.{Tree, One, Two, HNot, HJoin, HLet, head_of}
-use Rattle.trees.specs.Node.{tree_at}
-use Rattle.trees.proofs.Nodes.{Grows_refl, Grows_trans}
+use Rattle.term_store.specs.trees.Tree.{Tree, One, Two, HNot, HJoin, HLet, head_of}
+use Rattle.term_store.specs.trees.Node.{tree_at}
+use Rattle.term_store.proofs.trees.Nodes.{Grows_refl, Grows_trans}
 use Rattle.tasks.specs.Meaning.{trees_at}
 use Rattle.tasks.specs.declared.signature.SymbolInfo.{SymbolInfo}
 use Rattle.syntax_why.specs.Lexeme.{Word}

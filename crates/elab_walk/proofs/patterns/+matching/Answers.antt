@@ -1,9 +1,9 @@
 use Rattle.std.proofs.Common.{ℕ, ◌+◌, length, refl, sym, ap, ◌∙◌, arith}
 use Rattle.std.proofs.lemmas.Result.{IfOk-weaker}
 use Rattle.std.specs.Option.{option_copied}
-use Rattle.trees.specs.Tree.{One, HPatAlias}
-use Rattle.trees.specs.Node.{tree_at}
-use Rattle.trees.proofs.Nodes.{tree_at-grows, Grows_refl, Grows_trans}
+use Rattle.term_store.specs.trees.Tree.{One, HPatAlias}
+use Rattle.term_store.specs.trees.Node.{tree_at}
+use Rattle.term_store.proofs.trees.Nodes.{tree_at-grows, Grows_refl, Grows_trans}
 use Rattle.tasks.specs.Meaning.{trees_at}
 use Rattle.tasks.specs.declared.signature.SymbolInfo.{SymbolInfo}
 use Rattle.syntax_why.specs.Lexeme.{Word}

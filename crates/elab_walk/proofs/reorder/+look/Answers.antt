@@ -1,6 +1,6 @@
 use Rattle.std.proofs.Common.{◌≡◌, ℕ, ◌+◌, ◌≤◌, min, sym, ap, subst, ◌∙◌, arith, rules}
-use Rattle.trees.specs.Tree.{Head, head_of, loose}
-use Rattle.trees.specs.Node.{tree_at, head_of_node, parts_of, assemble}
+use Rattle.term_store.specs.trees.Tree.{Head, head_of, loose}
+use Rattle.term_store.specs.trees.Node.{tree_at, head_of_node, parts_of, assemble}
 use Rattle.elab_walk.specs.Reordered.{HeadFits}
 use Rattle.elab_walk.proofs.Reordering.{left_fits, leaf_fit, one_fit, two_fit, three_fit, fits_there, fits_more, looked, own_head}
 use Rattle.elab_walk.proofs.reorder.+look.Goals as goal

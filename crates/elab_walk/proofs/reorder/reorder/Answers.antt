@@ -1,5 +1,5 @@
 use Rattle.std.proofs.Common.{sym, arith}
-use Rattle.trees.specs.Node.{tree_at}
+use Rattle.term_store.specs.trees.Node.{tree_at}
 use Rattle.elab_walk.proofs.Reordering.{order_same}
 use Rattle.elab_walk.proofs.reorder.reorder.Goals as goal
 

@@ -1,6 +1,6 @@
 use Rattle.std.proofs.Common.{◌≡◌, ap, ◌∙◌, get_or}
 use Rattle.std.proofs.lemmas.Result.{IfOk-weaker}
-use Rattle.trees.proofs.Nodes.{Grows_trans}
+use Rattle.term_store.proofs.trees.Nodes.{Grows_trans}
 use Rattle.tasks.specs.Meaning.{trees_at}
 use Rattle.syntax_why.specs.Lexeme.{Word}
 use Rattle.syntax_why.specs.Surface.{own_of}

@@ -1,5 +1,5 @@
 use Rattle.std.proofs.Common.{◌≡◌, ◌++◌, drop, All}
-use Rattle.trees.specs.Node.{Grows}
+use Rattle.term_store.specs.trees.Node.{Grows}
 use Rattle.tasks.specs.Meaning.{trees_at}
 use Rattle.elab_names.specs.Abstract.{forms_of}
 use Rattle.elab_walk.specs.Pieces.{types_at}

@@ -1,6 +1,6 @@
 use Rattle.std.proofs.Common.{sym, ap, ◌∙◌}
 use Rattle.std.proofs.lemmas.Result.{IfOk-weaker}
-use Rattle.trees.specs.Binding.{inst_types}
+use Rattle.term_store.specs.trees.Binding.{inst_types}
 use Rattle.tasks.specs.Meaning.{trees_at}
 use Rattle.tasks.specs.Task.{SymbolTree}
 use Rattle.elab_names.specs.Naming.{where_at}

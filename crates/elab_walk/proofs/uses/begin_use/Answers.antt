@@ -1,6 +1,6 @@
 use Rattle.std.proofs.Common.{◌≡◌, length, option_map, refl, ◌∙◌}
-use Rattle.trees.specs.Node.{tree_at}
-use Rattle.trees.proofs.Nodes.{Grows_trans}
+use Rattle.term_store.specs.trees.Node.{tree_at}
+use Rattle.term_store.proofs.trees.Nodes.{Grows_trans}
 use Rattle.std.specs.Option.{option_copied}
 use Rattle.elab_walk.specs.Drafts.{symbol_got}
 use Rattle.elab_walk.specs.Patterns.{at_unknowns, result_or_int}

@@ -1,8 +1,8 @@
 use Rattle.std.proofs.Common.{◌≡◌}
 use Rattle.std.proofs.lemmas.Result.{IfOk-weaker}
-use Rattle.trees.specs.Tree.{Two, Three, HFun, HPred}
-use Rattle.trees.specs.Node.{tree_at}
-use Rattle.trees.proofs.Nodes.{tree_at-grows}
+use Rattle.term_store.specs.trees.Tree.{Two, Three, HFun, HPred}
+use Rattle.term_store.specs.trees.Node.{tree_at}
+use Rattle.term_store.proofs.trees.Nodes.{tree_at-grows}
 use Rattle.tasks.specs.Meaning.{trees_at}
 use Rattle.tasks.specs.Equations.{cells}
 use Rattle.elab_walk.proofs.Using.{made_after}

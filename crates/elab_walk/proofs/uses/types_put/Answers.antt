@@ -1,4 +1,4 @@
-use Rattle.trees.proofs.Nodes.{Grows_trans}
+use Rattle.term_store.proofs.trees.Nodes.{Grows_trans}
 use Rattle.elab_walk.proofs.Growing.{types_more}
 use Rattle.elab_walk.proofs.Using.{put_more}
 use Rattle.elab_walk.proofs.uses.types_put.Goals as goal

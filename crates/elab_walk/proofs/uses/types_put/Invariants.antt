@@ -1,5 +1,5 @@
 use Rattle.std.proofs.Common.{◌≡◌, take, All}
-use Rattle.trees.specs.Node.{Grows}
+use Rattle.term_store.specs.trees.Node.{Grows}
 use Rattle.tasks.specs.Meaning.{trees_at}
 use Rattle.elab_walk.specs.Drafts.{HoldsType, instances}
 use Rattle.elab_walk.proofs.uses.types_put.Given as goal

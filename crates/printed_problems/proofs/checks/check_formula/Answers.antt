@@ -9,8 +9,8 @@ use Rattle.printed_problems.specs.Checks.{the_task}
 use Rattle.printed_problems.proofs.Finding.{seen_meets, syntax_none}
 use Rattle.printed_problems.proofs.First.{meets_same, meets_fault, formula_rest}
 use Rattle.printed_problems.proofs.checks.check_formula.Goals as goal
-use Rattle.outside.proofs.Passed.{no_ok}
-use Rattle.plain_laws.proofs.Results.{ok_any}
+use Rattle.tasks.proofs.outside.Passed.{no_ok}
+use Rattle.trees.proofs.plain_laws.Results.{ok_any}
 
 pub returns-in_err-has_forms-clause-due : goal.returns-in_err-has_forms-clause-due
 returns-in_err-has_forms-clause-due c = meets_fault c.from_residual.result _ Memory c.from_residual.ensures.1 tt

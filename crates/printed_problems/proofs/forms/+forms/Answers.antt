@@ -7,7 +7,7 @@ use Rattle.printed_problems.specs.Faults.{has_head, has_forms}
 use Rattle.printed_problems.specs.Checks.{LooksAt, parts_have_forms}
 use Rattle.printed_problems.proofs.Forming.{head_of_assembled, forms_are, formed_parts, forms_there, forms_marked}
 use Rattle.printed_problems.proofs.forms.+forms.Goals as goal
-use Rattle.outside.proofs.Passed.{no_value}
+use Rattle.tasks.proofs.outside.Passed.{no_value}
 
 pub has_forms-returns-then-contains : goal.has_forms-returns-then-contains
 has_forms-returns-then-contains t c =

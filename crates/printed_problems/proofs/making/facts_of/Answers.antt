@@ -4,7 +4,7 @@ use Rattle.tasks.specs.Meaning.{body_at, declarations_at}
 use Rattle.printed_problems.specs.Made.{said_formulas}
 use Rattle.printed_problems.proofs.FactList.{formulas, formulas_more}
 use Rattle.printed_problems.proofs.making.facts_of.Goals as goal
-use Rattle.outside.proofs.Passed.{no_value}
+use Rattle.tasks.proofs.outside.Passed.{no_value}
 
 pub loop-decl-preserved : goal.loop-decl-preserved
 loop-decl-preserved c =

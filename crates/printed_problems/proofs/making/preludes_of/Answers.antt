@@ -2,7 +2,7 @@ use Rattle.std.proofs.Common.{◌≡◌, List, ℕ, [], ◌++◌, ap, ◌∙◌,
 use Rattle.tasks.specs.Meaning.{declarations_at}
 use Rattle.printed_problems.specs.Problems.{general, of_theories, texts_where}
 use Rattle.printed_problems.proofs.making.preludes_of.Goals as goal
-use Rattle.outside.proofs.Passed.{no_value}
+use Rattle.tasks.proofs.outside.Passed.{no_value}
 
 pub returns : goal.returns
 returns c s =

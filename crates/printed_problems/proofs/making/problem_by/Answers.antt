@@ -10,7 +10,7 @@ use Rattle.printed_problems.specs.Problems.{is_sort, is_declared_symbol, places_
 use Rattle.printed_problems.specs.declared.fault.PrintFault.TheVariants.{Memory}
 use Rattle.printed_problems.proofs.First.{meets_fault}
 use Rattle.printed_problems.proofs.making.problem_by.Goals as goal
-use Rattle.outside.proofs.Passed.{no_value}
+use Rattle.tasks.proofs.outside.Passed.{no_value}
 
 pub returns : goal.returns
 returns c =

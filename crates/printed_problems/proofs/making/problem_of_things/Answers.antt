@@ -2,7 +2,7 @@ use Rattle.std.proofs.Common.{sym}
 use Rattle.printed_problems.specs.declared.fault.PrintFault.TheVariants.{Memory}
 use Rattle.printed_problems.proofs.First.{meets_same, meets_fault}
 use Rattle.printed_problems.proofs.making.problem_of_things.Goals as goal
-use Rattle.outside.proofs.Passed.{no_value}
+use Rattle.tasks.proofs.outside.Passed.{no_value}
 
 pub returns-in_err-bare : goal.returns-in_err-bare
 returns-in_err-bare c =

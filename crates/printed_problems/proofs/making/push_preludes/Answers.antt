@@ -3,7 +3,7 @@ use Rattle.tasks.specs.Meaning.{declarations_at}
 use Rattle.printed_problems.specs.Made.{text_if, is_told}
 use Rattle.printed_problems.proofs.FactList.{texts_step, texts_end}
 use Rattle.printed_problems.proofs.making.push_preludes.Goals as goal
-use Rattle.outside.proofs.Passed.{no_ok}
+use Rattle.tasks.proofs.outside.Passed.{no_ok}
 
 pub loop-prelude-preserved : goal.loop-prelude-preserved
 loop-prelude-preserved c s =

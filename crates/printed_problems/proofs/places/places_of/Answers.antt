@@ -6,7 +6,7 @@ use Rattle.printed_problems.specs.Tests.{asks, place_if}
 use Rattle.printed_problems.proofs.Placing.{places_step}
 use Rattle.printed_problems.proofs.places.places_of.Goals.{then-asks+in_ok-push, else-asks}
 use Rattle.printed_problems.proofs.places.places_of.Goals as goal
-use Rattle.outside.proofs.Passed.{no_value}
+use Rattle.tasks.proofs.outside.Passed.{no_value}
 
 pub loop-place-preserved : goal.loop-place-preserved
 loop-place-preserved c s =

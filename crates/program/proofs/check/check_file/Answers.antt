@@ -1,8 +1,8 @@
 use Rattle.std.proofs.Common.{rules, List, ℕ, subst}
 use Rattle.tasks.specs.Meaning.{task_at}
-use Rattle.fault_order.specs.Answers.{IsStageAnswer, result_bytes}
-use Rattle.fault_order.proofs.Meeting.{answers_then, answers_stop}
-use Rattle.fault_order.proofs.Stages.{answers_stage}
+use Rattle.statuses.specs.fault_order.Answers.{IsStageAnswer, result_bytes}
+use Rattle.statuses.proofs.fault_order.Meeting.{answers_then, answers_stop}
+use Rattle.statuses.proofs.fault_order.Stages.{answers_stage}
 use Rattle.program.specs.Order.{Checks}
 use Rattle.program.proofs.check.check_file.Goals as goal
 

@@ -1,6 +1,6 @@
 use Rattle.std.proofs.Common.{rules, Err, None}
 use Rattle.source_goals.proofs.Determined.{determined}
-use Rattle.fault_order.proofs.Meeting.{answers_then, answers_stop, ends}
+use Rattle.statuses.proofs.fault_order.Meeting.{answers_then, answers_stop, ends}
 use Rattle.program.specs.Order.{Derivation, CheckText}
 use Rattle.program.specs.Only.{IsOnlyAnswer}
 use Rattle.program.proofs.One.{only, one_check}

@@ -1,6 +1,6 @@
 use Rattle.std.proofs.Common.{◌≡◌, ◌∙◌, List, Ok, sym, subst}
 use Rattle.tasks.specs.Meaning.{task_at}
-use Rattle.evidence.specs.Stages.{parts_at}
+use Rattle.stages.specs.evidence.Stages.{parts_at}
 use Rattle.stages.specs.declared.transformation.Transformation.{Transformation}
 use Rattle.stages.specs.Listing.{stages_of}
 use Rattle.stages.specs.Lifted.{AreRefuted}

@@ -6,8 +6,8 @@ use Rattle.tasks.specs.Valid.{IsValid}
 use Rattle.tasks.proofs.Growth.{task_later, task_held_later}
 use Rattle.rule_rows.specs.declared.rule.Step.{Step}
 use Rattle.rule_rows.specs.Meaning.{steps_at, StepsHeld}
-use Rattle.kernel.specs.Right.{Closes}
-use Rattle.evidence.specs.Stages.{parts_at}
+use Rattle.written_files.specs.kernel.Right.{Closes}
+use Rattle.stages.specs.evidence.Stages.{parts_at}
 use Rattle.stages.specs.Lifted.{HandedHasSequents}
 use Rattle.tasks.specs.Words.{NamesAreWords}
 use Rattle.program.proofs.Lifting.{lifted_of}

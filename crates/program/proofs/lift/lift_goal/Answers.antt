@@ -1,6 +1,6 @@
 use Rattle.std.proofs.Common.{rules, Err, None, map, string_bytes}
 use Rattle.program.specs.Order.{Lifting, LiftText}
-use Rattle.fault_order.proofs.Meeting.{answers_then, answers_stop, ends}
+use Rattle.statuses.proofs.fault_order.Meeting.{answers_then, answers_stop, ends}
 use Rattle.source_goals.proofs.Determined.{determined}
 use Rattle.program.specs.Only.{IsOnlyStop}
 use Rattle.program.proofs.One.{only_stop, stop_lift}

@@ -3,7 +3,7 @@ use Rattle.tasks.specs.Task.{TaskTree}
 use Rattle.tasks.specs.Meaning.{task_at}
 use Rattle.tasks.specs.Valid.{IsValid}
 use Rattle.tasks.proofs.Growth.{task_later, task_held_later}
-use Rattle.evidence.specs.Stages.{parts_at}
+use Rattle.stages.specs.evidence.Stages.{parts_at}
 use Rattle.tasks.specs.Words.{NamesAreWords}
 use Rattle.program.specs.Lifted.{AreRefutedUnder, IsLifted}
 use Rattle.source_goals.specs.Order.{setting_of}

@@ -1,9 +1,9 @@
 use Rattle.std.proofs.Common.{rules, ◌≡◌, ◌∙◌, ◌+◌, Err, length, map, string_bytes, sym, subst}
 use Rattle.std.proofs.lemmas.List.{length-map}
 use Rattle.tasks.specs.Meaning.{task_at, tasks_at}
-use Rattle.fault_order.specs.Answers.{Answers}
+use Rattle.statuses.specs.fault_order.Answers.{Answers}
 use Rattle.program.specs.Order.{Handed}
-use Rattle.fault_order.specs.declared.faults.RunFault.{RunFault}
+use Rattle.statuses.specs.fault_order.declared.faults.RunFault.{RunFault}
 use Rattle.program.proofs.Lifting.{count_refused, handed_answers}
 use Rattle.program.proofs.lift.read_counted.Goals as goal
 

@@ -2,8 +2,8 @@ use Rattle.std.proofs.Common.{rules, ◌+◌, List, length, map, string_bytes, s
 use Rattle.std.proofs.lemmas.Result.{IfOk-weaker}
 use Rattle.tasks.specs.declared.task.Task.{Task}
 use Rattle.tasks.specs.Meaning.{tasks_at}
-use Rattle.evidence.specs.Stages.{parts_at, PartsClose}
-use Rattle.fault_order.specs.Answers.{Answers}
+use Rattle.stages.specs.evidence.Stages.{parts_at, PartsClose}
+use Rattle.statuses.specs.fault_order.Answers.{Answers}
 use Rattle.program.specs.Order.{Handed}
 use Rattle.program.specs.Values.{handed_in, setting_at}
 use Rattle.program.proofs.Lifting.{read_after, read_stop}

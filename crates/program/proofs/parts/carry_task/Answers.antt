@@ -5,8 +5,8 @@ use Rattle.stages.specs.Transformations.{equation_of}
 use Rattle.stages.specs.Carried.{carried_task}
 use Rattle.stages.specs.Faults.{IsCarryFault}
 use Rattle.stages.specs.Steps.{AreTasksOf}
-use Rattle.fault_order.specs.Answers.{IsStageAnswer}
-use Rattle.fault_order.specs.declared.faults.RunFault.{RunFault}
+use Rattle.statuses.specs.fault_order.Answers.{IsStageAnswer}
+use Rattle.statuses.specs.fault_order.declared.faults.RunFault.{RunFault}
 use Rattle.program.specs.Order.{Carried}
 use Rattle.program.specs.Values.{setting_at}
 use Rattle.program.proofs.PartAnswers.{not_built, carried_ok, carried_err}

@@ -1,10 +1,10 @@
 use Rattle.std.proofs.Common.{rules, Err, None}
 use Rattle.tasks.specs.Meaning.{task_at}
-use Rattle.fault_order.specs.Answers.{result_bytes}
+use Rattle.statuses.specs.fault_order.Answers.{result_bytes}
 use Rattle.source_goals.specs.Order.{setting_of}
 use Rattle.program.specs.Order.{ProblemTexts, PrintText}
-use Rattle.fault_order.proofs.Meeting.{answers_then, answers_stop, ends}
-use Rattle.fault_order.proofs.Stages.{answers_stage}
+use Rattle.statuses.proofs.fault_order.Meeting.{answers_then, answers_stop, ends}
+use Rattle.statuses.proofs.fault_order.Stages.{answers_stage}
 use Rattle.source_goals.proofs.Determined.{determined}
 use Rattle.program.specs.Only.{IsOnlyAnswer}
 use Rattle.program.proofs.One.{only, one_print}

@@ -1,11 +1,11 @@
 use Rattle.std.proofs.Common.{◌+◌, List, ℕ, Some, subst}
 use Rattle.tasks.specs.Meaning.{task_at}
-use Rattle.fault_order.specs.Answers.{IsStageAnswer}
-use Rattle.name_entries.specs.declared.names.NameEntry.{NameEntry}
+use Rattle.statuses.specs.fault_order.Answers.{IsStageAnswer}
+use Rattle.written_files.specs.name_entries.declared.names.NameEntry.{NameEntry}
 use Rattle.program.specs.Order.{AreSteps, RefutesPart}
 use Rattle.program.specs.Values.{steps_in}
-use Rattle.fault_order.proofs.Meeting.{answers_then}
-use Rattle.fault_order.proofs.Stages.{answers_stage}
+use Rattle.statuses.proofs.fault_order.Meeting.{answers_then}
+use Rattle.statuses.proofs.fault_order.Stages.{answers_stage}
 use Rattle.program.proofs.refutations.read_file.Goals as goal
 
 pub returns-clause-answers : goal.returns-clause-answers

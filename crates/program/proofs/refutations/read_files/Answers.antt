@@ -1,20 +1,20 @@
 use Rattle.std.proofs.Common.{rules, arith, ◌≡◌, ◌+◌, ◌<◌, ◌∙◌, ◌++◌, ◌∷◌, [], ℕ, List, length, map, Ok, Err, Result, string_bytes, sym, ap, subst}
 use Rattle.tasks.specs.Task.{TaskTree}
-use Rattle.trees.proofs.Nodes.{Grows_trans}
+use Rattle.tasks.proofs.trees.Nodes.{Grows_trans}
 use Rattle.std.proofs.lemmas.List.{length-map}
 use Rattle.tasks.specs.Meaning.{task_at, tasks_at, TaskHeld}
 use Rattle.tasks.proofs.Growth.{task_later}
 use Rattle.rule_rows.specs.declared.rule.Step.{Step}
 use Rattle.rule_rows.specs.Trees.{StepTree}
 use Rattle.rule_rows.specs.Meaning.{steps_at}
-use Rattle.evidence.specs.Stages.{parts_at, task_or, PartsHeld}
-use Rattle.kernel.specs.Right.{Closes}
-use Rattle.printed_problems.specs.declared.printed.Problem.{Problem}
-use Rattle.printed_problems.specs.Problems.{problem_of}
+use Rattle.stages.specs.evidence.Stages.{parts_at, task_or, PartsHeld}
+use Rattle.written_files.specs.kernel.Right.{Closes}
+use Rattle.part_texts.specs.printed_problems.declared.printed.Problem.{Problem}
+use Rattle.part_texts.specs.printed_problems.Problems.{problem_of}
 use Rattle.part_texts.proofs.Parted.{problem_there, names_there}
-use Rattle.fault_order.specs.Answers.{Answers}
+use Rattle.statuses.specs.fault_order.Answers.{Answers}
 use Rattle.program.specs.Order.{PartFile, FirstFiles}
-use Rattle.fault_order.specs.declared.faults.RunFault.{RunFault}
+use Rattle.statuses.specs.fault_order.declared.faults.RunFault.{RunFault}
 use Rattle.program.proofs.Files.{FirstClose, close_all, part_later, part_held, handed_later, handed_held, handed_more, held_more, close_more, name_at, files_more, files_stop}
 use Rattle.program.proofs.refutations.read_files.Goals as goal
 

@@ -1,8 +1,8 @@
 use Rattle.std.proofs.Common.{◌+◌, Ok, map, string_bytes}
-use Rattle.trees.specs.Node.{Grows}
+use Rattle.tasks.specs.trees.Node.{Grows}
 use Rattle.tasks.specs.Meaning.{tasks_at}
-use Rattle.evidence.specs.Stages.{parts_at, PartsHeld}
-use Rattle.fault_order.specs.Answers.{Answers}
+use Rattle.stages.specs.evidence.Stages.{parts_at, PartsHeld}
+use Rattle.statuses.specs.fault_order.Answers.{Answers}
 use Rattle.program.specs.Order.{FirstFiles}
 use Rattle.program.proofs.Files.{FirstClose}
 use Rattle.program.proofs.refutations.read_files.Given as goal

@@ -1,7 +1,7 @@
 use Rattle.std.proofs.Common.{List, subst}
-use Rattle.trees.specs.Tree.{Tree}
+use Rattle.tasks.specs.trees.Tree.{Tree}
 use Rattle.tasks.specs.Meaning.{task_at}
-use Rattle.kernel.specs.Right.{Closes}
+use Rattle.written_files.specs.kernel.Right.{Closes}
 use Rattle.rule_rows.specs.Meaning.{steps_at}
 use Rattle.program.proofs.steps.read_steps.Goals as goal
 

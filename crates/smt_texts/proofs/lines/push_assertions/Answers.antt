@@ -3,8 +3,8 @@ use Rattle.printed_terms.specs.Meaning.{printing}
 use Rattle.smt_texts.specs.Text.{assertion}
 use Rattle.smt_texts.proofs.Joins.{mapped_step}
 use Rattle.smt_texts.proofs.lines.push_assertions.Goals as goal
-use Rattle.plain_laws.proofs.Lists.{then_piece}
-use Rattle.outside.proofs.Passed.{no_ok}
+use Rattle.trees.proofs.plain_laws.Lists.{then_piece}
+use Rattle.tasks.proofs.outside.Passed.{no_ok}
 
 pub loop-formula-preserved : goal.loop-formula-preserved
 loop-formula-preserved c =

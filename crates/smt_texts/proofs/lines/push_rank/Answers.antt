@@ -5,9 +5,9 @@ use Rattle.printed_terms.specs.Meaning.{printing}
 use Rattle.smt_texts.specs.Text.{smt_result_text}
 use Rattle.smt_texts.proofs.Joins.{last_piece}
 use Rattle.smt_texts.proofs.lines.push_rank.Goals as goal
-use Rattle.plain_laws.proofs.Lists.{then_piece}
-use Rattle.plain_laws.proofs.Results.{ok_items}
-use Rattle.outside.proofs.Passed.{no_ok}
+use Rattle.trees.proofs.plain_laws.Lists.{then_piece}
+use Rattle.trees.proofs.plain_laws.Results.{ok_items}
+use Rattle.tasks.proofs.outside.Passed.{no_ok}
 
 pub returns : goal.returns
 returns c =

@@ -3,8 +3,8 @@ use Rattle.printed_terms.specs.Texts.{name_at}
 use Rattle.printed_terms.specs.Meaning.{printing}
 use Rattle.smt_texts.specs.Text.{smt_sort_line}
 use Rattle.smt_texts.proofs.lines.push_sort_lines.Goals as goal
-use Rattle.plain_laws.proofs.Lists.{then_piece, lines_step}
-use Rattle.outside.proofs.Passed.{no_ok}
+use Rattle.trees.proofs.plain_laws.Lists.{then_piece, lines_step}
+use Rattle.tasks.proofs.outside.Passed.{no_ok}
 
 pub loop-place-preserved : goal.loop-place-preserved
 loop-place-preserved c =

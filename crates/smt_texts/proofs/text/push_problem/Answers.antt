@@ -9,9 +9,9 @@ use Rattle.printed_terms.specs.Meaning.{printing}
 use Rattle.smt_texts.specs.Text.{smt_head_line, smt_sort_line, smt_symbol_line, smt_parameter_lines, assertion, smt_goal_line}
 use Rattle.smt_texts.proofs.Joins.{last_piece}
 use Rattle.smt_texts.proofs.text.push_problem.Goals as goal
-use Rattle.plain_laws.proofs.Lists.{then_piece}
-use Rattle.plain_laws.proofs.Results.{ok_items}
-use Rattle.outside.proofs.Passed.{no_ok}
+use Rattle.trees.proofs.plain_laws.Lists.{then_piece}
+use Rattle.trees.proofs.plain_laws.Results.{ok_items}
+use Rattle.tasks.proofs.outside.Passed.{no_ok}
 
 pub returns : goal.returns
 returns c =

@@ -1,5 +1,5 @@
 use Rattle.std.proofs.Common.{Ok, Err, Result, sym, subst}
-use Rattle.driver_parts.specs.declared.driver.Driver.{Driver}
+use Rattle.driver_files.specs.driver_parts.declared.driver.Driver.{Driver}
 use Rattle.fault_order.specs.Answers.{Answers}
 use Rattle.source_goals.specs.Order.{DriverOf}
 use Rattle.source_goals.specs.Values.{next_after_driver}

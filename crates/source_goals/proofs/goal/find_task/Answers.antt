@@ -1,4 +1,4 @@
-use Rattle.goal_tasks.specs.Meaning.{theories_at}
+use Rattle.theories.specs.goal_tasks.Meaning.{theories_at}
 use Rattle.source_goals.specs.Order.{TaskOf}
 use Rattle.source_goals.specs.Values.{task_in}
 use Rattle.fault_order.proofs.Meeting.{answers_then}

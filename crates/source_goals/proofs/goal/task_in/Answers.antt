@@ -1,6 +1,6 @@
 use Rattle.tasks.specs.Meaning.{task_at}
-use Rattle.goal_tasks.specs.Meaning.{theories_at}
-use Rattle.goal_tasks.specs.declared.making.TaskFault.TheVariants.{NoTheory, NoGoal}
+use Rattle.theories.specs.goal_tasks.Meaning.{theories_at}
+use Rattle.theories.specs.goal_tasks.declared.making.TaskFault.TheVariants.{NoTheory, NoGoal}
 use Rattle.source_goals.proofs.Naming.{named-ok, named-no_theory, named-no_goal, same_fault}
 use Rattle.source_goals.proofs.goal.task_in.Goals as goal
 

@@ -1,6 +1,6 @@
 use Rattle.std.proofs.Common.{◌≡◌, ◌∙◌, map, ap}
 use Rattle.tasks.specs.declared.signature.Signature.{Signature}
-use Rattle.goal_tasks.specs.Meaning.{theories_at}
+use Rattle.theories.specs.goal_tasks.Meaning.{theories_at}
 use Rattle.source_goals.specs.Known.{theory_in, known_of, named_bytes}
 use Rattle.source_goals.proofs.KnownNames.{are_known}
 use Rattle.source_goals.proofs.known.driver_over.Goals as goal

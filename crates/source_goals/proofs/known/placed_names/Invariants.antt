@@ -1,5 +1,5 @@
 use Rattle.std.proofs.Common.{◌≡◌, map, take, string_bytes}
-use Rattle.goal_tasks.specs.Meaning.{placed}
+use Rattle.theories.specs.goal_tasks.Meaning.{placed}
 use Rattle.source_goals.specs.Known.{names_in}
 use Rattle.source_goals.proofs.known.placed_names.Given as goal
 

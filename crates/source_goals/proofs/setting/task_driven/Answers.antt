@@ -1,5 +1,5 @@
 use Rattle.std.proofs.Common.{rules}
-use Rattle.goal_tasks.specs.Meaning.{theories_at}
+use Rattle.theories.specs.goal_tasks.Meaning.{theories_at}
 use Rattle.fault_order.proofs.Meeting.{answers_then, answers_stop}
 use Rattle.source_goals.specs.Values.{next_in, setting_in}
 use Rattle.source_goals.proofs.Settings.{under, under_answers}

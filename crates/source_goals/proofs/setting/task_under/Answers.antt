@@ -1,6 +1,6 @@
 use Rattle.std.proofs.Common.{rules}
 use Rattle.tasks.specs.Meaning.{task_at}
-use Rattle.goal_tasks.specs.Meaning.{theories_at}
+use Rattle.theories.specs.goal_tasks.Meaning.{theories_at}
 use Rattle.source_goals.proofs.Settings.{under_ok, under_err}
 use Rattle.source_goals.proofs.setting.task_under.Goals as goal
 

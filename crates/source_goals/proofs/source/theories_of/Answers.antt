@@ -1,6 +1,6 @@
 use Rattle.std.proofs.Common.{Result, Err, sym, subst}
 use Rattle.syntax_why.specs.SurfaceDeclarations.{file_of}
-use Rattle.goal_tasks.specs.Theories.{TheoriesTree}
+use Rattle.theories.specs.goal_tasks.Theories.{TheoriesTree}
 use Rattle.fault_order.specs.declared.faults.RunFault.{RunFault}
 use Rattle.fault_order.specs.Answers.{IsStageAnswer}
 use Rattle.source_goals.specs.Order.{Declares}

@@ -1,5 +1,5 @@
 use Rattle.std.proofs.Common.{◌≡◌, List, map, Ok, subst}
-use Rattle.trees.proofs.Nodes.{Grows_trans}
+use Rattle.tasks.proofs.trees.Nodes.{Grows_trans}
 use Rattle.tasks.specs.declared.task.Task.{Task}
 use Rattle.tasks.specs.Meaning.{task_at, tasks_at}
 use Rattle.stages.specs.Transformations.{equation_of}

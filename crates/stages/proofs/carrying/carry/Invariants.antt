@@ -1,5 +1,5 @@
 use Rattle.std.proofs.Common.{map}
-use Rattle.trees.specs.Node.{Grows}
+use Rattle.tasks.specs.trees.Node.{Grows}
 use Rattle.tasks.specs.Meaning.{task_at, tasks_at}
 use Rattle.stages.specs.Transformations.{equation_of}
 use Rattle.stages.specs.Carried.{carried_task}

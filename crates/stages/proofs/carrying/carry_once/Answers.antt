@@ -1,6 +1,6 @@
 use Rattle.std.proofs.Common.{rules}
 use Rattle.tasks.specs.Meaning.{tasks_at}
-use Rattle.trees.proofs.Nodes.{Grows_trans}
+use Rattle.tasks.proofs.trees.Nodes.{Grows_trans}
 use Rattle.stages.specs.Transformations.{equation_of}
 use Rattle.stages.specs.Carried.{carried_once, at_stage}
 use Rattle.stages.specs.Faults.{IsCarryFault}

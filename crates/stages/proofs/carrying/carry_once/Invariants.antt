@@ -1,4 +1,4 @@
-use Rattle.trees.specs.Node.{Grows}
+use Rattle.tasks.specs.trees.Node.{Grows}
 use Rattle.stages.specs.Transformations.{equation_of}
 use Rattle.stages.specs.Steps.{AreTasks}
 use Rattle.stages.proofs.CarriedTasks.{SoFar}

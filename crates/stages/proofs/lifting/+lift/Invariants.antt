@@ -1,5 +1,5 @@
 use Rattle.std.proofs.Common.{◌+◌, ◌*◌, ◌∷◌, length, map}
-use Rattle.trees.specs.Node.{Grows}
+use Rattle.tasks.specs.trees.Node.{Grows}
 use Rattle.tasks.specs.Meaning.{tasks_at}
 use Rattle.evidence.specs.Stages.{PartsHeld, parts_at}
 use Rattle.stages.specs.Transformations.{equation_of}

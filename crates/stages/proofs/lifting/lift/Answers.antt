@@ -1,8 +1,8 @@
 use Rattle.std.proofs.Common.{rules, ◌≡◌, ◌∙◌, ◌∷◌, List, length, map, take, Ok, ap, sym, subst}
-use Rattle.trees.proofs.Nodes.{Grows_refl}
+use Rattle.tasks.proofs.trees.Nodes.{Grows_refl}
 use Rattle.tasks.specs.Meaning.{task_at}
-use Rattle.rule_rows.specs.declared.rule.Step.{Step}
-use Rattle.rule_rows.specs.Trees.{StepTree}
+use Rattle.kernel.specs.rule_rows.declared.rule.Step.{Step}
+use Rattle.kernel.specs.rule_rows.Trees.{StepTree}
 use Rattle.evidence.specs.Stages.{PartsHeld, parts_at}
 use Rattle.stages.specs.declared.transformation.Transformation.{Transformation}
 use Rattle.stages.specs.Transformations.{equation_of}

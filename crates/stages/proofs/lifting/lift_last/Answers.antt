@@ -2,8 +2,8 @@ use Rattle.std.proofs.Common.{rules, ◌≡◌, ◌≤◌, ◌∙◌, ℕ, List,
 use Rattle.std.proofs.lemmas.List.{length-map, length-take-le, take-map}
 use Rattle.std.proofs.lemmas.List.Elements.{All-take}
 use Rattle.tasks.specs.Meaning.{task_at, tasks_at}
-use Rattle.rule_rows.specs.Meaning.{steps_at, StepsHeld}
-use Rattle.rule_rows.specs.Trees.{StepTree}
+use Rattle.kernel.specs.rule_rows.Meaning.{steps_at, StepsHeld}
+use Rattle.kernel.specs.rule_rows.Trees.{StepTree}
 use Rattle.evidence.specs.Stages.{PartsClose, parts_at}
 use Rattle.stages.specs.Lifted.{IsDerived}
 use Rattle.stages.proofs.lifting.lift_last.Goals as goal

@@ -1,5 +1,5 @@
 use Rattle.std.proofs.Common.{◌≡◌, ◌++◌, List, drop}
-use Rattle.trees.specs.Tree.{Tree}
+use Rattle.tasks.specs.trees.Tree.{Tree}
 use Rattle.tasks.specs.Meaning.{declarations_at}
 use Rattle.stages.specs.Listing.{removed_of}
 use Rattle.stages.proofs.listing.push_all_removed.Given as goal

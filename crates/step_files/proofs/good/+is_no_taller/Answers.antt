@@ -1,6 +1,6 @@
 use Rattle.std.proofs.Common.{◌≤◌, arith}
-use Rattle.trees.specs.Tree.{Tree, Leaf, One, Two, Three, height}
-use Rattle.trees.specs.Node.{tree_at}
+use Rattle.tasks.specs.trees.Tree.{Tree, Leaf, One, Two, Three, height}
+use Rattle.tasks.specs.trees.Node.{tree_at}
 use Rattle.step_files.proofs.Progress.{no_true}
 use Rattle.step_files.proofs.good.+is_no_taller.Goals as goal
 

@@ -1,4 +1,4 @@
-use Rattle.trees.specs.Node.{Grows}
+use Rattle.tasks.specs.trees.Node.{Grows}
 use Rattle.tasks.specs.Meaning.{task_at}
 use Rattle.tree_lines.specs.Words.{texts}
 use Rattle.step_files.specs.Marks.{AreMarkedTyped}

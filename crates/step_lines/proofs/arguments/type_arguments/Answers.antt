@@ -1,5 +1,5 @@
 use Rattle.std.proofs.lemmas.List.Elements.{All-push}
-use Rattle.trees.specs.declared.TermId.{TermId}
+use Rattle.term_store.specs.trees.declared.TermId.{TermId}
 use Rattle.rule_words.specs.Arguments.{ArgumentHeld}
 use Rattle.tree_lines.proofs.Growing.{type_there}
 use Rattle.step_lines.proofs.Taking.{type_taken, type_is_held}

@@ -1,6 +1,6 @@
 use Rattle.std.proofs.Common.{◌+◌, ℕ, List, take, drop, Some, Option, ap, ◌∙◌}
 use Rattle.std.specs.Borrow.{Bor}
-use Rattle.trees.specs.Tree.{Tree}
+use Rattle.term_store.specs.trees.Tree.{Tree}
 use Rattle.tasks.specs.Meaning.{task_at, trees_at}
 use Rattle.tasks.proofs.Growth.{trees_later}
 use Rattle.rule_rows.specs.Trees.{StepTree}

@@ -1,8 +1,8 @@
 use Rattle.std.proofs.Common.{◌≡◌, ◌+◌, List, take, drop, All, IfOk, IfSome, Option, sym, ap, subst, ◌∙◌}
 use Rattle.std.specs.Option.{option_map}
 use Rattle.std.specs.Borrow.{Bor}
-use Rattle.trees.specs.declared.TermId.{TermId}
-use Rattle.trees.specs.Node.{Holds}
+use Rattle.term_store.specs.trees.declared.TermId.{TermId}
+use Rattle.term_store.specs.trees.Node.{Holds}
 use Rattle.tasks.specs.Meaning.{task_at, trees_at}
 use Rattle.rule_rows.specs.Trees.{StepTree}
 use Rattle.rule_rows.specs.Meaning.{step_at}

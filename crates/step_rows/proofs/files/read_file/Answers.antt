@@ -1,10 +1,10 @@
 use Rattle.std.proofs.Common.{◌≡◌, List, sym, subst, ◌∙◌}
 use Rattle.std.specs.Prelude.{IfOk}
-use Rattle.trees.specs.Tree.{Tree}
+use Rattle.tasks.specs.trees.Tree.{Tree}
 use Rattle.tasks.specs.Task.{TaskTree}
 use Rattle.tasks.specs.Meaning.{task_at, TaskHeld}
 use Rattle.tasks.proofs.Growth.{task_held_later, task_later}
-use Rattle.kernel.specs.Right.{Closes}
+use Rattle.written_files.specs.kernel.Right.{Closes}
 use Rattle.rule_rows.specs.Meaning.{steps_at}
 use Rattle.step_rows.proofs.files.read_file.Goals as goal
 

@@ -1,5 +1,5 @@
 use Rattle.tff_texts.proofs.lines.push_head.Goals as goal
-use Rattle.outside.proofs.Passed.{no_ok}
+use Rattle.tasks.proofs.outside.Passed.{no_ok}
 
 pub returns-in_err-extend_from_slice : goal.returns-in_err-extend_from_slice
 returns-in_err-extend_from_slice c = no_ok _ _ c.from_residual.result c.from_residual.ensures.1

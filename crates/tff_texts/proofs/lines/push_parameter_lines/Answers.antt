@@ -4,8 +4,8 @@ use Rattle.printed_terms.specs.Meaning.{printing}
 use Rattle.tff_texts.specs.Text.{tff_typed}
 use Rattle.tff_texts.proofs.Joins.{parameter_step}
 use Rattle.tff_texts.proofs.lines.push_parameter_lines.Goals as goal
-use Rattle.plain_laws.proofs.Lists.{then_piece}
-use Rattle.outside.proofs.Passed.{no_ok}
+use Rattle.trees.proofs.plain_laws.Lists.{then_piece}
+use Rattle.tasks.proofs.outside.Passed.{no_ok}
 
 pub loop-number-preserved : goal.loop-number-preserved
 loop-number-preserved c =

@@ -4,9 +4,9 @@ use Rattle.printed_terms.specs.Meaning.{printing}
 use Rattle.tff_texts.specs.Text.{tff_typed, arguments_text, tff_result_text}
 use Rattle.tff_texts.proofs.Joins.{last_piece}
 use Rattle.tff_texts.proofs.lines.push_rank.Goals as goal
-use Rattle.plain_laws.proofs.Lists.{then_piece}
-use Rattle.plain_laws.proofs.Results.{ok_items}
-use Rattle.outside.proofs.Passed.{no_ok}
+use Rattle.trees.proofs.plain_laws.Lists.{then_piece}
+use Rattle.trees.proofs.plain_laws.Results.{ok_items}
+use Rattle.tasks.proofs.outside.Passed.{no_ok}
 
 pub returns : goal.returns
 returns c =

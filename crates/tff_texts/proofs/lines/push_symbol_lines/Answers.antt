@@ -2,8 +2,8 @@ use Rattle.tasks.specs.Meaning.{symbols_at}
 use Rattle.printed_terms.specs.Meaning.{printing}
 use Rattle.tff_texts.specs.Text.{tff_symbol_line}
 use Rattle.tff_texts.proofs.lines.push_symbol_lines.Goals as goal
-use Rattle.plain_laws.proofs.Lists.{lines_step}
-use Rattle.outside.proofs.Passed.{no_ok}
+use Rattle.trees.proofs.plain_laws.Lists.{lines_step}
+use Rattle.tasks.proofs.outside.Passed.{no_ok}
 
 pub loop-place-preserved : goal.loop-place-preserved
 loop-place-preserved c =

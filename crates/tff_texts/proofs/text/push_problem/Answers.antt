@@ -9,8 +9,8 @@ use Rattle.printed_terms.specs.Meaning.{printing}
 use Rattle.tff_texts.specs.Text.{tff_head_line, tff_sort_line, tff_symbol_line, tff_parameter_lines, axiom_lines, tff_goal_line}
 use Rattle.tff_texts.proofs.Joins.{last_piece}
 use Rattle.tff_texts.proofs.text.push_problem.Goals as goal
-use Rattle.plain_laws.proofs.Lists.{then_piece}
-use Rattle.outside.proofs.Passed.{no_ok}
+use Rattle.trees.proofs.plain_laws.Lists.{then_piece}
+use Rattle.tasks.proofs.outside.Passed.{no_ok}
 
 pub returns : goal.returns
 returns c =

@@ -1,13 +1,13 @@
 use Rattle.std.proofs.Common.{◌≡◌, ◌∷◌, suc, List, All, length, ap, subst, ◌∙◌, arith, [], true, refl}
 use Rattle.std.proofs.lemmas.Result.{on_ok_weaker}
-use Rattle.trees.specs.Tree.{Tree}
+use Rattle.tasks.specs.trees.Tree.{Tree}
 use Rattle.tasks.specs.declared.declaration.Decl.{Decl}
 use Rattle.tasks.specs.Meaning.{declarations_at, DeclHeld}
 use Rattle.theory_states.specs.declared.states.Typed.{Typed}
 use Rattle.theory_states.specs.States.{with_declarations}
 use Rattle.theory_declarations.proofs.Pushed.{first_of, some_left}
 use Rattle.theory_declarations.proofs.kept.+push_decls.Goals as goal
-use Rattle.outside.proofs.Passed.{no_ok}
+use Rattle.tasks.proofs.outside.Passed.{no_ok}
 
 first_held : (s : List Tree) (ds es : List Decl) (d : Decl) → ds ≡ d ∷ es → All (DeclHeld s) ds → DeclHeld s d
 first_held s ds es d q h = let g : All (DeclHeld s) (d ∷ es) = subst (All (DeclHeld s)) q h in g 0 d (omega arith)

@@ -1,7 +1,7 @@
 use Rattle.std.proofs.Common.{◌≡◌, Option, OnOk, subst}
 use Rattle.tasks.specs.Meaning.{declarations_at}
 use Rattle.syntax_why.specs.declared.declarations.PropKind.{PropKind}
-use Rattle.elab_names.specs.Abstract.{Expression}
+use Rattle.elab_parts.specs.elab_names.Abstract.{Expression}
 use Rattle.theory_states.specs.States.{StateTree}
 use Rattle.theory_states.specs.Meaning.{state_at}
 use Rattle.theory_declarations.specs.Declared.{known_by}

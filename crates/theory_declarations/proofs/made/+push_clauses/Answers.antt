@@ -1,10 +1,10 @@
 use Rattle.std.proofs.Common.{[], map, length, ap, arith}
-use Rattle.names_space.specs.declared.Table.TheVariants.{Propositions}
+use Rattle.elab_parts.specs.names_space.declared.Table.TheVariants.{Propositions}
 use Rattle.syntax_why.specs.SurfaceDeclarations.{plain_name, clause_of}
 use Rattle.elab_parts.specs.Declarations.{symbol, clause, made_by_clauses}
 use Rattle.theory_declarations.proofs.Appended.{on_ok, name_then}
 use Rattle.theory_declarations.proofs.made.+push_clauses.Goals as goal
-use Rattle.outside.proofs.Passed.{no_ok}
+use Rattle.tasks.proofs.outside.Passed.{no_ok}
 
 pub returns-in_err-push_proposition : goal.returns-in_err-push_proposition
 returns-in_err-push_proposition t c = no_ok _ _ c.from_residual.result c.from_residual.ensures.1

@@ -1,10 +1,10 @@
 use Rattle.std.proofs.Common.{[], map, length, ap, arith}
-use Rattle.names_space.specs.declared.Table.TheVariants.{Symbols}
+use Rattle.elab_parts.specs.names_space.declared.Table.TheVariants.{Symbols}
 use Rattle.syntax_why.specs.SurfaceDeclarations.{constructor_of}
 use Rattle.elab_parts.specs.Declarations.{word, constructor, made_by_constructors}
 use Rattle.theory_declarations.proofs.Appended.{on_ok, name_then}
 use Rattle.theory_declarations.proofs.made.+push_constructors.Goals as goal
-use Rattle.outside.proofs.Passed.{no_ok}
+use Rattle.tasks.proofs.outside.Passed.{no_ok}
 
 pub returns-in_err-push_plain : goal.returns-in_err-push_plain
 returns-in_err-push_plain t c = no_ok _ _ c.from_residual.result c.from_residual.ensures.1

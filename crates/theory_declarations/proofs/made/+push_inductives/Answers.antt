@@ -1,11 +1,11 @@
 use Rattle.std.proofs.Common.{◌≡◌, ◌++◌, map, length, ap, arith}
-use Rattle.names_space.specs.declared.Table.TheVariants.{Symbols}
+use Rattle.elab_parts.specs.names_space.declared.Table.TheVariants.{Symbols}
 use Rattle.syntax_why.specs.SurfaceDeclarations.{declared_name, param_of, clause_of, inductive_of}
 use Rattle.elab_parts.specs.Declarations.{symbol, parameter_of, names_of_parameters, clause, inductive_predicate, made_by_clauses, made_by_inductives}
 use Rattle.theory_declarations.specs.Made.{moves_made}
 use Rattle.theory_declarations.proofs.Appended.{on_ok, name_then_both}
 use Rattle.theory_declarations.proofs.made.+push_inductives.Goals as goal
-use Rattle.outside.proofs.Passed.{no_ok}
+use Rattle.tasks.proofs.outside.Passed.{no_ok}
 
 pub returns : goal.returns
 returns t c =

@@ -1,10 +1,10 @@
 use Rattle.std.proofs.Common.{map, length, ap, arith}
-use Rattle.names_space.specs.declared.Table.TheVariants.{Symbols}
+use Rattle.elab_parts.specs.names_space.declared.Table.TheVariants.{Symbols}
 use Rattle.syntax_why.specs.SurfaceDeclarations.{declared_name, param_of, member_of}
 use Rattle.elab_parts.specs.Declarations.{symbol, parameter_of, names_of_parameters, group_member, made_by_members}
 use Rattle.theory_declarations.proofs.Appended.{on_ok, name_then}
 use Rattle.theory_declarations.proofs.made.+push_members.Goals as goal
-use Rattle.outside.proofs.Passed.{no_ok}
+use Rattle.tasks.proofs.outside.Passed.{no_ok}
 
 pub returns-in_err-push_symbol : goal.returns-in_err-push_symbol
 returns-in_err-push_symbol t c = no_ok _ _ c.from_residual.result c.from_residual.ensures.1

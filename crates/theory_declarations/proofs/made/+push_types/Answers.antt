@@ -1,11 +1,11 @@
 use Rattle.std.proofs.Common.{◌≡◌, ◌++◌, map, length, ap, arith}
-use Rattle.names_space.specs.declared.Table.TheVariants.{Types}
+use Rattle.elab_parts.specs.names_space.declared.Table.TheVariants.{Types}
 use Rattle.syntax_why.specs.SurfaceDeclarations.{constructor_of, algebraic_of}
 use Rattle.elab_parts.specs.Declarations.{word, constructor, algebraic_type, made_by_constructors, made_type_names}
 use Rattle.theory_declarations.specs.Made.{moves_made}
 use Rattle.theory_declarations.proofs.Appended.{on_ok, name_then_both}
 use Rattle.theory_declarations.proofs.made.+push_types.Goals as goal
-use Rattle.outside.proofs.Passed.{no_ok}
+use Rattle.tasks.proofs.outside.Passed.{no_ok}
 
 pub returns : goal.returns
 returns t c =

@@ -1,5 +1,5 @@
 use Rattle.std.proofs.Common.{◌≡◌, ◌∷◌, [], map, option_map, sym, ap, ◌∙◌, append-nil}
-use Rattle.names_space.specs.declared.Table.TheVariants.{Types, Symbols, Propositions}
+use Rattle.elab_parts.specs.names_space.declared.Table.TheVariants.{Types, Symbols, Propositions}
 use Rattle.syntax_why.specs.declared.declarations.DeclNode.TheVariants as dv
 use Rattle.syntax_why.specs.Surface.{form_of}
 use Rattle.syntax_why.specs.SurfaceDeclarations.{decl_of, declared_name, plain_name, param_of, member_of, algebraic_of, inductive_of}

@@ -5,7 +5,7 @@ use Rattle.theory_states.specs.declared.states.AxiomAt.{AxiomAt}
 use Rattle.theory_states.specs.States.{StateTree, with_declaration}
 use Rattle.theory_states.specs.Meaning.{state_at, StateHeld}
 use Rattle.theory_declarations.proofs.proposed.push_axiom.Goals as goal
-use Rattle.outside.proofs.Passed.{no_ok}
+use Rattle.tasks.proofs.outside.Passed.{no_ok}
 
 pub push_decl-requires : goal.push_decl-requires
 push_decl-requires c = c.requires.state.opened.visible

@@ -1,17 +1,17 @@
 use Rattle.std.proofs.Common.{◌≡◌, Option, Some, length, sym, ap, ◌∙◌}
 use Rattle.std.proofs.lemmas.Result.{IfOk-weaker}
-use Rattle.trees.specs.Tree.{Tree}
-use Rattle.trees.specs.Node.{tree_at}
+use Rattle.tasks.specs.trees.Tree.{Tree}
+use Rattle.tasks.specs.trees.Node.{tree_at}
 use Rattle.tasks.specs.Meaning.{declaration_at}
-use Rattle.goal_tasks.specs.declared.theories.GoalAt.{GoalAt}
-use Rattle.goal_tasks.specs.Theories.{GoalTree}
-use Rattle.goal_tasks.specs.Meaning.{goal_at}
+use Rattle.theory_states.specs.goal_tasks.declared.theories.GoalAt.{GoalAt}
+use Rattle.theory_states.specs.goal_tasks.Theories.{GoalTree}
+use Rattle.theory_states.specs.goal_tasks.Meaning.{goal_at}
 use Rattle.theory_states.specs.Meaning.{state_at}
 use Rattle.theory_declarations.specs.Declared.{known_formula, to_prove, goals_said}
-use Rattle.trees.proofs.Nodes.{Grows_refl}
+use Rattle.tasks.proofs.trees.Nodes.{Grows_refl}
 use Rattle.theory_declarations.proofs.Pushed.{with_goals, no_goals, goal_pushed, goal_held}
 use Rattle.theory_declarations.proofs.proposed.push_goal.Goals as goal
-use Rattle.outside.proofs.Passed.{no_ok}
+use Rattle.tasks.proofs.outside.Passed.{no_ok}
 
 pub returns-clause-state : goal.returns-clause-state
 returns-clause-state c =

@@ -5,7 +5,7 @@ use Rattle.tasks.proofs.Growth.{decl_held_later, declaration_later}
 use Rattle.theory_states.specs.States.{with_declaration}
 use Rattle.theory_states.specs.Meaning.{state_at}
 use Rattle.theory_declarations.proofs.proposed.push_lemma.Goals as goal
-use Rattle.outside.proofs.Passed.{no_ok}
+use Rattle.tasks.proofs.outside.Passed.{no_ok}
 
 pub returns-clause-state : goal.returns-clause-state
 returns-clause-state c =

@@ -1,7 +1,7 @@
 use Rattle.std.proofs.Common.{◌≡◌, ◌∷◌, All, subst, arith, [], true, refl}
 use Rattle.tasks.specs.Meaning.{DeclHeld}
 use Rattle.std.proofs.lemmas.Result.{on_ok_weaker}
-use Rattle.trees.proofs.Nodes.{Grows_refl}
+use Rattle.tasks.proofs.trees.Nodes.{Grows_refl}
 use Rattle.theory_declarations.proofs.Pushed.{first_of, some_left}
 use Rattle.theory_declarations.proofs.proposed.push_proposed.Goals as goal
 

@@ -1,7 +1,7 @@
 use Rattle.std.proofs.Common.{List, map, All, refl, subst}
 use Rattle.tasks.specs.Meaning.{symbols_at}
-use Rattle.elab_walk.specs.declared.draft.MatchAt.{MatchAt}
-use Rattle.elab_walk.specs.Drafts.{match_at}
+use Rattle.elab_parts.specs.elab_walk.declared.draft.MatchAt.{MatchAt}
+use Rattle.elab_parts.specs.elab_walk.Drafts.{match_at}
 use Rattle.side_conditions.specs.Sides.{IsCovered}
 use Rattle.theory_declarations.proofs.typing.check_made.Goals as goal
 

@@ -20,7 +20,7 @@ use Rattle.theory_declarations.specs.Faults.{side_fault}
 use Rattle.theory_declarations.proofs.Typed.{setting_typed}
 use Rattle.theory_declarations.proofs.Refused.{or_memory, logical_parts, told, refused_by, matches_are}
 use Rattle.theory_declarations.proofs.typing.elaborate_checked.Goals as goal
-use Rattle.outside.proofs.Passed.{no_value}
+use Rattle.tasks.proofs.outside.Passed.{no_value}
 
 all_ok : {T E : Type 0} (r : Result T E) (x : T) (A B : Type 0) (P : T → Type 0) → IfOk r (λ v. v ≡ x) → IfOk r (λ _. A) → IfOk r (λ _. B) → (A → B → P x) → IfOk r P
 all_ok (Ok v) x A B P e a b f = subst P (sym e) (f a b)

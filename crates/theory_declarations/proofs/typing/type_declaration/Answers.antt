@@ -3,13 +3,13 @@ use Rattle.syntax_why.specs.SurfaceDeclarations.{decl_of}
 use Rattle.theory_states.specs.declared.states.Opened.{Opened}
 use Rattle.valid_tasks.proofs.Quoted.{quoted_in}
 use Rattle.valid_tasks.specs.Sound.{IsSoundState}
-use Rattle.trees.proofs.Nodes.{Grows_trans}
+use Rattle.tasks.proofs.trees.Nodes.{Grows_trans}
 use Rattle.tasks.specs.Task.{DeclarationTree}
 use Rattle.tasks.specs.Meaning.{declarations_at}
 use Rattle.syntax_why.specs.Lexeme.{Word}
 use Rattle.syntax_why.specs.declared.declarations.PropKind.TheVariants as kind
 use Rattle.syntax_why.specs.declared.declarations.PropKind.{PropKind}
-use Rattle.elab_names.specs.Abstract.{Expression}
+use Rattle.elab_parts.specs.elab_names.Abstract.{Expression}
 use Rattle.elab_terms.specs.Outcomes.{proposition_seen}
 use Rattle.elab_parts.proofs.Solving.{if_err}
 use Rattle.theory_states.specs.declared.states.Typed.{Typed}
@@ -20,7 +20,7 @@ use Rattle.theory_declarations.specs.Declared.{proposition_in, with_proposition,
 use Rattle.theory_declarations.proofs.Named.{named_held, known_state, is_declared, is_typed}
 use Rattle.theory_declarations.proofs.Sound.{declared_sound}
 use Rattle.theory_declarations.proofs.typing.type_declaration.Goals as goal
-use Rattle.outside.proofs.Passed.{no_ok}
+use Rattle.tasks.proofs.outside.Passed.{no_ok}
 
 -- what becomes known by a declaration leaves its number
 declarations_number : (ds : List DeclarationTree) (c : StateTree) → (with_declarations ds c).number ≡ c.number

@@ -1,10 +1,10 @@
 use Rattle.std.proofs.Common.{◌≡◌, ◌+◌, [], ◌∷◌, ◌++◌, length, Some, None, sym, ap, subst, ◌∙◌}
 use Rattle.std.proofs.lemmas.List.Elements.{All-cons, All-nil}
-use Rattle.trees.specs.declared.Op.TheVariants.{Iff}
-use Rattle.trees.specs.declared.Sort.TheVariants.{Formula}
-use Rattle.trees.specs.Tree.{Tree, Two, HLet}
-use Rattle.trees.specs.Node.{tree_at}
-use Rattle.trees.specs.Sorts.{sort_of}
+use Rattle.tasks.specs.trees.declared.Op.TheVariants.{Iff}
+use Rattle.tasks.specs.trees.declared.Sort.TheVariants.{Formula}
+use Rattle.tasks.specs.trees.Tree.{Tree, Two, HLet}
+use Rattle.tasks.specs.trees.Node.{tree_at}
+use Rattle.tasks.specs.trees.Sorts.{sort_of}
 use Rattle.tasks.specs.Task.{neg}
 use Rattle.tasks.specs.Meaning.{trees_at}
 use Rattle.kernel.specs.Right.{IsGroundExpression}

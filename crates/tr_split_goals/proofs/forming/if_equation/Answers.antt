@@ -2,12 +2,12 @@ use Rattle.evidence.specs.Laws.{AddsTrees_trans, AddsTrees_extends}
 use Rattle.evidence.proofs.Formulas.{formula_later}
 use Rattle.std.proofs.Common.{◌≡◌, ◌∙◌}
 use Rattle.std.proofs.lemmas.Result.{IfOk-weaker}
-use Rattle.trees.specs.declared.Op.TheVariants.{Imp, Iff}
-use Rattle.trees.specs.Tree.{Two, HJoin}
-use Rattle.trees.specs.Node.{tree_at}
+use Rattle.tasks.specs.trees.declared.Op.TheVariants.{Imp, Iff}
+use Rattle.tasks.specs.trees.Tree.{Two, HJoin}
+use Rattle.tasks.specs.trees.Node.{tree_at}
 use Rattle.tasks.specs.Task.{neg}
 use Rattle.tr_split_goals.proofs.forming.if_equation.Goals as goal
-use Rattle.outside.proofs.Passed.{no_value}
+use Rattle.tasks.proofs.outside.Passed.{no_value}
 
 pub returns-in_err-yes-clause-formula : goal.returns-in_err-yes-clause-formula
 returns-in_err-yes-clause-formula c = no_value _ _ c.from_residual.result c.from_residual.ensures.1

@@ -1,11 +1,11 @@
 use Rattle.std.proofs.Common.{◌≡◌, ◌∙◌, ◌++◌, ◌∷◌, [], ℕ, suc, ◌+◌, List, length, min, map, sym, ap, subst, append_assoc, arith}
 use Rattle.std.proofs.lemmas.Result.{IfOk-weaker}
 use Rattle.std.proofs.lemmas.List.{length-append}
-use Rattle.trees.specs.declared.Op.TheVariants.{And, AndThen, Imp}
-use Rattle.trees.specs.Tree.{Tree, Two, Three, HJoin, HIf, HForall, HLet}
-use Rattle.trees.specs.Binding.{Param}
+use Rattle.tasks.specs.trees.declared.Op.TheVariants.{And, AndThen, Imp}
+use Rattle.tasks.specs.trees.Tree.{Tree, Two, Three, HJoin, HIf, HForall, HLet}
+use Rattle.tasks.specs.trees.Binding.{Param}
 use Rattle.tasks.specs.Task.{neg}
-use Rattle.trees.specs.Node.{tree_at, Holds}
+use Rattle.tasks.specs.trees.Node.{tree_at, Holds}
 use Rattle.tasks.specs.Meaning.{trees_at}
 use Rattle.evidence.specs.Laws.{Extends_trans, AddsTrees_extends, AddsTrees_refl, AddsTrees_trans}
 use Rattle.evidence.proofs.Formulas.{same, formulas_later, formula_later}
@@ -19,7 +19,7 @@ use Rattle.evidence.proofs.Rules.{refutes_later}
 use Rattle.tr_split_goals.proofs.Values.{left_below, joined_below, premise_below, below_later, same_parts, opened_splits, valued_splits, new_below, then_below, else_below}
 use Rattle.tr_split_goals.proofs.Moving.{two_later}
 use Rattle.tr_split_goals.proofs.gluing.+glue.Goals as goal
-use Rattle.outside.proofs.Passed.{no_value}
+use Rattle.tasks.proofs.outside.Passed.{no_value}
 
 -- ---- a conjunction
 pub glue_and-refute_and-requires-clause-front : goal.glue_and-refute_and-requires-clause-front

@@ -1,5 +1,5 @@
 use Rattle.std.proofs.Common.{◌+◌, ◌*◌}
-use Rattle.trees.specs.Node.{tree_at}
+use Rattle.tasks.specs.trees.Node.{tree_at}
 use Rattle.tr_split_goals.specs.Goals.{splits}
 use Rattle.tr_split_goals.proofs.gluing.+glue.Given as goal
 

@@ -1,8 +1,8 @@
 use Rattle.std.proofs.Common.{◌≡◌, ◌∙◌, ◌∷◌, [], get_or, sym, ap, subst, arith}
 use Rattle.std.proofs.lemmas.Result.{IfOk-weaker}
-use Rattle.trees.specs.declared.Op.TheVariants.{Iff, Imp}
-use Rattle.trees.specs.Tree.{Tree, Two, HJoin}
-use Rattle.trees.specs.Node.{tree_at}
+use Rattle.tasks.specs.trees.declared.Op.TheVariants.{Iff, Imp}
+use Rattle.tasks.specs.trees.Tree.{Tree, Two, HJoin}
+use Rattle.tasks.specs.trees.Node.{tree_at}
 use Rattle.tasks.specs.Task.{neg}
 use Rattle.tasks.specs.Meaning.{trees_at}
 use Rattle.evidence.specs.Drafts.{Extends}
@@ -13,7 +13,7 @@ use Rattle.tr_split.specs.Glue.{EndsOfParts}
 use Rattle.tr_split.proofs.Pieces.{sides_of, neg_back}
 use Rattle.tr_split_goals.proofs.Moving.{moved, two_later}
 use Rattle.tr_split_goals.proofs.gluing.glue_iff.Goals as goal
-use Rattle.outside.proofs.Passed.{no_value}
+use Rattle.tasks.proofs.outside.Passed.{no_value}
 
 pub refute_iff-requires-clause-front : goal.refute_iff-requires-clause-front
 refute_iff-requires-clause-front c =

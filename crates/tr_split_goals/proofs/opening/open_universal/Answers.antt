@@ -1,7 +1,7 @@
 use Rattle.std.proofs.Common.{◌≡◌, ◌∙◌, map, sym, ap}
-use Rattle.trees.specs.Tree.{Tree, Two, HForall}
-use Rattle.trees.specs.Node.{tree_at}
-use Rattle.trees.specs.Binding.{inst, Param}
+use Rattle.tasks.specs.trees.Tree.{Tree, Two, HForall}
+use Rattle.tasks.specs.trees.Node.{tree_at}
+use Rattle.tasks.specs.trees.Binding.{inst, Param}
 use Rattle.tasks.specs.Meaning.{trees_at}
 use Rattle.evidence.specs.Drafts.{Extends}
 use Rattle.evidence.specs.Laws.{Extends_trans, AddsTrees_extends, AddsTrees_trans}
@@ -12,7 +12,7 @@ use Rattle.tr_split_goals.specs.Over.{wholes, inners}
 use Rattle.tr_split_goals.proofs.Inner.{opened_formula}
 use Rattle.tr_split_goals.proofs.Opened.{param_at, opened_split, wholes_ends, inner_ends, kind}
 use Rattle.tr_split_goals.proofs.opening.open_universal.Goals as goal
-use Rattle.outside.proofs.Passed.{no_value}
+use Rattle.tasks.proofs.outside.Passed.{no_value}
 
 pub ends_over-requires-clause-front : goal.ends_over-requires-clause-front
 ends_over-requires-clause-front c =

@@ -1,7 +1,7 @@
 use Rattle.std.proofs.Common.{◌≡◌, ◌∙◌, map, sym, ap, subst}
-use Rattle.trees.specs.Tree.{Tree, Two, HLet}
-use Rattle.trees.specs.Node.{tree_at}
-use Rattle.trees.specs.Binding.{inst}
+use Rattle.tasks.specs.trees.Tree.{Tree, Two, HLet}
+use Rattle.tasks.specs.trees.Node.{tree_at}
+use Rattle.tasks.specs.trees.Binding.{inst}
 use Rattle.tasks.specs.Meaning.{trees_at}
 use Rattle.evidence.specs.Laws.{AddsTrees_extends, Extends_trans}
 use Rattle.evidence.proofs.Formulas.{same, formulas_later, formula_later}
@@ -14,7 +14,7 @@ use Rattle.tr_split_goals.proofs.Opened.{valued_below, valued_split, wholes_ends
 use Rattle.tr_split_goals.proofs.Overs.{over_later}
 use Rattle.tr_split_goals.proofs.Values.{value_at}
 use Rattle.tr_split_goals.proofs.opening.open_valued.Goals as goal
-use Rattle.outside.proofs.Passed.{no_value}
+use Rattle.tasks.proofs.outside.Passed.{no_value}
 
 pub instance-requires-clause-closed : goal.instance-requires-clause-closed
 instance-requires-clause-closed c = (value_at c.args.draft.now c.args.goal c.args.value c.args.body c.requires.goal c.requires.tree c.requires.value_held).term.closed

@@ -1,7 +1,7 @@
 use Rattle.std.proofs.Common.{◌<◌, ◌++◌, ℕ, List, length, get_or, arith}
 use Rattle.std.proofs.lemmas.List.{length-map}
-use Rattle.trees.specs.Tree.{Tree, Leaf, HEnd}
-use Rattle.trees.specs.Node.{tree_at}
+use Rattle.tasks.specs.trees.Tree.{Tree, Leaf, HEnd}
+use Rattle.tasks.specs.trees.Node.{tree_at}
 use Rattle.tasks.specs.Meaning.{trees_at}
 use Rattle.evidence.specs.Laws.{Extends_trans}
 use Rattle.evidence.proofs.Formulas.{formulas_later}
@@ -11,7 +11,7 @@ use Rattle.tr_split.specs.Glue.{sequent_of_part}
 use Rattle.tr_split_goals.specs.Over.{whole_of, inner_of, extra_of, inners}
 use Rattle.tr_split_goals.proofs.Overs.{over_later, whole_end, inner_end, all_ends}
 use Rattle.tr_split_goals.proofs.over.ends_over.Goals as goal
-use Rattle.outside.proofs.Passed.{no_value}
+use Rattle.tasks.proofs.outside.Passed.{no_value}
 
 pub part_end-requires-clause-front : goal.part_end-requires-clause-front
 part_end-requires-clause-front c = formulas_later c.args.draft.now c.loop-end.draft c.loop-end.invariant.grows c.args.front.now c.requires.front

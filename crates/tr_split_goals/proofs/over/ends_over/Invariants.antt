@@ -1,5 +1,5 @@
 use Rattle.std.proofs.Common.{◌++◌}
-use Rattle.trees.specs.Node.{tree_at}
+use Rattle.tasks.specs.trees.Node.{tree_at}
 use Rattle.tasks.specs.Meaning.{trees_at}
 use Rattle.evidence.specs.Drafts.{Extends}
 use Rattle.evidence.specs.Stages.{HaveSequents}

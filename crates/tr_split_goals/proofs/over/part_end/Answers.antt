@@ -4,9 +4,9 @@ use Rattle.tr_split_goals.specs.declared.over.Over.{Over}
 use Rattle.tr_split_goals.specs.Over.{PartOf, whole_of, OverHeld}
 use Rattle.std.proofs.lemmas.List.{append-nil}
 use Rattle.std.proofs.lemmas.Result.{IfOk-weaker}
-use Rattle.trees.specs.Tree.{Tree}
-use Rattle.trees.specs.Node.{tree_at}
-use Rattle.trees.specs.Binding.{inst}
+use Rattle.tasks.specs.trees.Tree.{Tree}
+use Rattle.tasks.specs.trees.Node.{tree_at}
+use Rattle.tasks.specs.trees.Binding.{inst}
 use Rattle.tasks.specs.Task.{neg}
 use Rattle.tr_split_goals.proofs.over.part_end.Goals as goal
 

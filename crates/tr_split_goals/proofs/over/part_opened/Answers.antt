@@ -1,8 +1,8 @@
 use Rattle.std.proofs.Common.{◌≡◌, [], ◌∷◌, sym, ap, ◌∙◌, subst, arith}
 use Rattle.std.proofs.lemmas.Result.{IfOk-weaker}
-use Rattle.trees.specs.Tree.{Tree, Two, HForall}
-use Rattle.trees.specs.Node.{tree_at}
-use Rattle.trees.specs.Binding.{inst}
+use Rattle.tasks.specs.trees.Tree.{Tree, Two, HForall}
+use Rattle.tasks.specs.trees.Node.{tree_at}
+use Rattle.tasks.specs.trees.Binding.{inst}
 use Rattle.tasks.specs.Task.{neg}
 use Rattle.tasks.specs.Meaning.{trees_at}
 use Rattle.evidence.specs.Drafts.{Extends}
@@ -13,7 +13,7 @@ use Rattle.tr_split_goals.proofs.Inner.{neg_same, opened_formula}
 use Rattle.tr_split.specs.Glue.{IsNegation}
 use Rattle.tr_split_goals.specs.Over.{IsBinding}
 use Rattle.tr_split_goals.proofs.over.part_opened.Goals as goal
-use Rattle.outside.proofs.Passed.{no_value}
+use Rattle.tasks.proofs.outside.Passed.{no_value}
 
 pub negation-requires : goal.negation-requires
 negation-requires c =

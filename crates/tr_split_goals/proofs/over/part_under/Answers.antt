@@ -1,7 +1,7 @@
 use Rattle.std.proofs.Common.{◌≡◌, [], ◌∷◌, sym, ap, ◌∙◌, subst}
 use Rattle.std.proofs.lemmas.Result.{IfOk-weaker}
-use Rattle.trees.specs.Tree.{Tree}
-use Rattle.trees.specs.Node.{tree_at}
+use Rattle.tasks.specs.trees.Tree.{Tree}
+use Rattle.tasks.specs.trees.Node.{tree_at}
 use Rattle.tasks.specs.Task.{neg}
 use Rattle.tasks.specs.Meaning.{trees_at}
 use Rattle.evidence.specs.Drafts.{Extends}
@@ -12,7 +12,7 @@ use Rattle.tr_split_goals.proofs.Moving.{moved}
 use Rattle.tr_split_goals.proofs.Inner.{neg_same}
 use Rattle.tr_split.specs.Glue.{IsNegation, IsImplication}
 use Rattle.tr_split_goals.proofs.over.part_under.Goals as goal
-use Rattle.outside.proofs.Passed.{no_value}
+use Rattle.tasks.proofs.outside.Passed.{no_value}
 
 pub end_under-requires-clause-front : goal.end_under-requires-clause-front
 end_under-requires-clause-front c =

@@ -1,8 +1,8 @@
 use Rattle.std.proofs.Common.{◌≡◌, [], ◌∷◌, sym, ap, ◌∙◌, subst}
 use Rattle.std.proofs.lemmas.Result.{IfOk-weaker}
-use Rattle.trees.specs.Tree.{Tree, Two, HLet, HJoin}
-use Rattle.trees.specs.Node.{tree_at}
-use Rattle.trees.specs.Binding.{inst}
+use Rattle.tasks.specs.trees.Tree.{Tree, Two, HLet, HJoin}
+use Rattle.tasks.specs.trees.Node.{tree_at}
+use Rattle.tasks.specs.trees.Binding.{inst}
 use Rattle.tasks.specs.Task.{neg}
 use Rattle.tasks.specs.Meaning.{trees_at}
 use Rattle.evidence.specs.Drafts.{Extends}
@@ -12,9 +12,9 @@ use Rattle.tr_split_goals.proofs.Moving.{moved}
 use Rattle.tr_split_goals.proofs.Inner.{neg_same, valued_formula}
 use Rattle.tr_split.specs.Glue.{IsNegation}
 use Rattle.tr_split_goals.specs.Over.{IsBinding}
-use Rattle.trees.specs.declared.Op.TheVariants.{Iff}
+use Rattle.tasks.specs.trees.declared.Op.TheVariants.{Iff}
 use Rattle.tr_split_goals.proofs.over.part_valued.Goals as goal
-use Rattle.outside.proofs.Passed.{no_value}
+use Rattle.tasks.proofs.outside.Passed.{no_value}
 
 pub negation-requires : goal.negation-requires
 negation-requires c =

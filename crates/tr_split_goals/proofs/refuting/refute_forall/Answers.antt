@@ -1,9 +1,9 @@
 use Rattle.std.proofs.Common.{◌≡◌, List, [], ◌∷◌, ◌++◌, length, Some, None, sym, ap, subst, ◌∙◌}
 use Rattle.std.proofs.lemmas.Result.{IfOk-weaker}
 use Rattle.std.proofs.lemmas.List.Elements.{All-cons, All-nil}
-use Rattle.trees.specs.Tree.{Tree, Two, HForall}
-use Rattle.trees.specs.Node.{tree_at}
-use Rattle.trees.specs.Binding.{inst, Param}
+use Rattle.tasks.specs.trees.Tree.{Tree, Two, HForall}
+use Rattle.tasks.specs.trees.Node.{tree_at}
+use Rattle.tasks.specs.trees.Binding.{inst, Param}
 use Rattle.tasks.specs.Task.{neg}
 use Rattle.tasks.specs.Meaning.{trees_at}
 use Rattle.rule_rows.specs.Rows.{IsNew}
@@ -16,7 +16,7 @@ use Rattle.proof_scripts.specs.declared.line.Line.TheVariants as line
 use Rattle.tr_split_goals.proofs.Moving.{end_back, moved, front_length, lines_held}
 use Rattle.tr_split_goals.proofs.Scripts.{forall_at}
 use Rattle.tr_split_goals.proofs.refuting.refute_forall.Goals as goal
-use Rattle.outside.proofs.Passed.{no_value}
+use Rattle.tasks.proofs.outside.Passed.{no_value}
 
 pub derive-requires-clause-front : goal.derive-requires-clause-front
 derive-requires-clause-front c = formulas_later c.args.draft.now c.negation.new.draft (AddsTrees_extends _ _ c.in_ok-no_goal.ensures.grows) c.args.front.now c.requires.front

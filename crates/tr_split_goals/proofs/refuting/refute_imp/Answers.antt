@@ -1,8 +1,8 @@
 use Rattle.std.proofs.Common.{◌≡◌, [], ◌∷◌, length, refl, ap, ◌∙◌}
 use Rattle.std.proofs.lemmas.Result.{IfOk-weaker}
 use Rattle.std.proofs.lemmas.List.Elements.{All-nil}
-use Rattle.trees.specs.declared.Op.TheVariants.{Imp}
-use Rattle.trees.specs.Node.{tree_at}
+use Rattle.tasks.specs.trees.declared.Op.TheVariants.{Imp}
+use Rattle.tasks.specs.trees.Node.{tree_at}
 use Rattle.tasks.specs.Task.{neg}
 use Rattle.tasks.specs.Meaning.{trees_at}
 use Rattle.rule_rows.specs.Forms.{join}
@@ -13,7 +13,7 @@ use Rattle.proof_scripts.specs.declared.line.Line.TheVariants as line
 use Rattle.tr_split_goals.proofs.Moving.{end_back, moved, front_length, lines_held}
 use Rattle.tr_split_goals.proofs.Scripts.{imp_follows}
 use Rattle.tr_split_goals.proofs.refuting.refute_imp.Goals as goal
-use Rattle.outside.proofs.Passed.{no_value}
+use Rattle.tasks.proofs.outside.Passed.{no_value}
 
 pub derive-requires-clause-front : goal.derive-requires-clause-front
 derive-requires-clause-front c = formulas_later c.args.draft.now c.negation.new.draft (AddsTrees_extends _ _ c.in_ok-no_goal.ensures.grows) c.args.front.now c.requires.front

@@ -1,4 +1,4 @@
-use Rattle.tasks.specs.Task.{made_by}
+use Rattle.elab_parts.specs.tasks.Task.{made_by}
 use Rattle.valid_tasks.proofs.Distinct.{pairs_distinct}
 use Rattle.valid_tasks.proofs.Copied.{cloning_copied}
 use Rattle.valid_tasks.proofs.Taken.{cloning_left, cloning_taken, cloning_entries}

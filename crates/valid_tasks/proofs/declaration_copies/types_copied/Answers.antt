@@ -1,5 +1,5 @@
 use Rattle.std.proofs.Common.{refl}
-use Rattle.clones.specs.Copies.{entry_copied}
+use Rattle.clone_copies.specs.clones.Copies.{entry_copied}
 use Rattle.valid_tasks.proofs.CopiedTypes.{type_in_mapped, types_copied}
 use Rattle.valid_tasks.proofs.declaration_copies.types_copied.Goals as goal
 

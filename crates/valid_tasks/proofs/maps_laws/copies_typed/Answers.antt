@@ -1,6 +1,6 @@
 use Rattle.std.proofs.Common.{map}
 use Rattle.std.proofs.lemmas.List.Elements.{All-append}
-use Rattle.tasks.specs.Rigid.{rigid_symbol}
+use Rattle.elab_parts.specs.tasks.Rigid.{rigid_symbol}
 use Rattle.valid_tasks.specs.Placed.{IsPlacedEntry}
 use Rattle.valid_tasks.proofs.Copies.{all_placed, all_copies_typed, rigids_placed}
 use Rattle.valid_tasks.proofs.maps_laws.copies_typed.Goals as goal

@@ -1,5 +1,5 @@
 use Rattle.std.proofs.Common.{None}
-use Rattle.clone_elements.specs.Left.{last_place}
+use Rattle.clone_copies.specs.clone_elements.Left.{last_place}
 use Rattle.valid_tasks.proofs.Rights.{all_typed, rights_typed, rights_built}
 use Rattle.valid_tasks.proofs.maps_laws.sides_typed.Goals as goal
 

@@ -1,5 +1,5 @@
 use Rattle.std.proofs.Common.{subst, refl, arith}
-use Rattle.name_entries.specs.declared.names.NameEntry.{NameEntry}
+use Rattle.name_tables.specs.name_entries.declared.names.NameEntry.{NameEntry}
 use Rattle.written_files.specs.Named.{IsName}
 use Rattle.written_files.proofs.Naming.{all_more, all_done}
 use Rattle.written_files.proofs.named.are_words.Goals as goal

@@ -1,5 +1,5 @@
 use Rattle.std.proofs.Common.{arith, rules}
-use Rattle.tasks.specs.Words.{IsPlainByte}
+use Rattle.kernel.specs.tasks.Words.{IsPlainByte}
 use Rattle.written_files.proofs.Naming.{all_more, all_done, all_none}
 use Rattle.written_files.proofs.named.is_word.Goals as goal
 

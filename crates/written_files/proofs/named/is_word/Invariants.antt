@@ -1,5 +1,5 @@
 use Rattle.std.proofs.Common.{All, take}
-use Rattle.tasks.specs.Words.{IsPlainByte}
+use Rattle.kernel.specs.tasks.Words.{IsPlainByte}
 use Rattle.written_files.proofs.named.is_word.Given as goal
 
 abbrev pub invariant-loop-byte : goal.invariant-loop-byte

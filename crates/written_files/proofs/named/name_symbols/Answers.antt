@@ -1,9 +1,9 @@
 use Rattle.std.proofs.Common.{◌≡◌, ◌<◌, List, ℕ, false, length, get_or, subst, sym, ap, refl, ◌∙◌, arith}
 use Rattle.std.proofs.lemmas.List.{get_or-map, length-map}
-use Rattle.rule_rows.specs.declared.rule.Step.{Step}
-use Rattle.rule_rows.specs.Trees.{no_step}
-use Rattle.rule_rows.specs.Meaning.{step_at, steps_at}
-use Rattle.trees.specs.Tree.{Tree}
+use Rattle.kernel.specs.rule_rows.declared.rule.Step.{Step}
+use Rattle.kernel.specs.rule_rows.Trees.{no_step}
+use Rattle.kernel.specs.rule_rows.Meaning.{step_at, steps_at}
+use Rattle.kernel.specs.trees.Tree.{Tree}
 use Rattle.written_files.specs.Named.{SymbolsNamed}
 use Rattle.written_files.proofs.Naming.{all_more, all_done, no_true}
 use Rattle.written_files.proofs.named.name_symbols.Goals as goal

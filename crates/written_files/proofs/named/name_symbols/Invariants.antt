@@ -1,5 +1,5 @@
 use Rattle.std.proofs.Common.{All, take}
-use Rattle.rule_rows.specs.Meaning.{steps_at}
+use Rattle.kernel.specs.rule_rows.Meaning.{steps_at}
 use Rattle.written_files.specs.Named.{SymbolsNamed}
 use Rattle.written_files.proofs.named.name_symbols.Given as goal
 

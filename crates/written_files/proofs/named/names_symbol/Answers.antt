@@ -1,8 +1,8 @@
 use Rattle.std.proofs.Common.{[], All, IsTrue, sym, subst}
-use Rattle.trees.specs.Node.{tree_at}
-use Rattle.name_entries.specs.declared.names.NameOf.TheVariants.{Symbol}
-use Rattle.rule_rows.specs.declared.rule.Rule.{Rule}
-use Rattle.rule_rows.specs.Meaning.{rule_at}
+use Rattle.kernel.specs.trees.Node.{tree_at}
+use Rattle.name_tables.specs.name_entries.declared.names.NameOf.TheVariants.{Symbol}
+use Rattle.kernel.specs.rule_rows.declared.rule.Rule.{Rule}
+use Rattle.kernel.specs.rule_rows.Meaning.{rule_at}
 use Rattle.tree_writing.specs.Spelt.{IsSpelt}
 use Rattle.written_files.specs.Named.{rule_symbols}
 use Rattle.written_files.proofs.Naming.{only}

@@ -1,5 +1,5 @@
 use Rattle.std.proofs.Common.{[], ◌∷◌, ◌++◌, sym, ap, subst, append-nil, ◌∙◌}
-use Rattle.tasks.specs.Meaning.{trees_at}
+use Rattle.kernel.specs.tasks.Meaning.{trees_at}
 use Rattle.rule_words.specs.declared.argument.Argument.{Argument}
 use Rattle.rule_words.specs.Arguments.{argument_at, ArgumentHeld}
 use Rattle.written_files.specs.Named.{trees_in}

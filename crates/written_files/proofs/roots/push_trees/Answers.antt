@@ -1,5 +1,5 @@
 use Rattle.std.proofs.Common.{◌<◌, length, arith}
-use Rattle.tasks.specs.Meaning.{trees_at}
+use Rattle.kernel.specs.tasks.Meaning.{trees_at}
 use Rattle.rule_words.specs.declared.argument.Argument.TheVariants as made
 use Rattle.written_files.proofs.Rooting.{arguments_more}
 use Rattle.written_files.proofs.roots.push_trees.Goals as goal

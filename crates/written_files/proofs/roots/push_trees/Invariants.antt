@@ -1,6 +1,6 @@
 use Rattle.std.proofs.Common.{◌≡◌, ◌++◌, All, take}
-use Rattle.trees.specs.Node.{Holds}
-use Rattle.tasks.specs.Meaning.{trees_at}
+use Rattle.kernel.specs.trees.Node.{Holds}
+use Rattle.kernel.specs.tasks.Meaning.{trees_at}
 use Rattle.rule_words.specs.Arguments.{arguments_at}
 use Rattle.written_files.specs.Named.{trees_in}
 use Rattle.written_files.proofs.roots.push_trees.Given as goal

@@ -1,8 +1,8 @@
 use Rattle.std.proofs.Common.{◌≡◌, All, take}
 use Rattle.std.specs.Prelude.{flat_map}
-use Rattle.trees.specs.Node.{Holds}
-use Rattle.tasks.specs.Meaning.{trees_at}
-use Rattle.rule_rows.specs.Meaning.{steps_at}
+use Rattle.kernel.specs.trees.Node.{Holds}
+use Rattle.kernel.specs.tasks.Meaning.{trees_at}
+use Rattle.kernel.specs.rule_rows.Meaning.{steps_at}
 use Rattle.written_files.specs.Named.{step_trees}
 use Rattle.written_files.proofs.roots.step_roots.Given as goal
 

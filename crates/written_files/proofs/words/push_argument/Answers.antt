@@ -1,8 +1,8 @@
 use Rattle.std.specs.Int.{w128}
 use Rattle.std.proofs.lemmas.Int.{to_z-of_z}
 use Rattle.std.proofs.Common.{rules, FitsSigned, ◌≡◌, [], ◌∷◌, Some, sym, subst, ap, ◌∙◌}
-use Rattle.trees.specs.Node.{tree_at}
-use Rattle.integer_words.specs.Integers.{integer}
+use Rattle.kernel.specs.trees.Node.{tree_at}
+use Rattle.step_lines.specs.integer_words.Integers.{integer}
 use Rattle.rule_words.specs.declared.argument.Argument.{Argument}
 use Rattle.rule_words.specs.Arguments.{argument_at}
 use Rattle.tree_writing.specs.Referring.{words_of}

@@ -1,4 +1,4 @@
-use Rattle.trees.specs.Node.{tree_at}
+use Rattle.kernel.specs.trees.Node.{tree_at}
 use Rattle.tree_writing.specs.Referring.{words_of}
 use Rattle.tree_writing.proofs.Reading.{on_ok}
 use Rattle.written_files.proofs.Pushing.{reference_pushed}

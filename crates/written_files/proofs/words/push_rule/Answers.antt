@@ -1,5 +1,5 @@
 use Rattle.std.proofs.Common.{List, All, ap, subst, sym, ◌∙◌}
-use Rattle.rule_rows.specs.Meaning.{rule_at}
+use Rattle.kernel.specs.rule_rows.Meaning.{rule_at}
 use Rattle.rule_words.specs.declared.argument.Argument.{Argument}
 use Rattle.rule_words.specs.Arguments.{arguments_at}
 use Rattle.rule_words.specs.Rules.{name_by_word}

@@ -1,5 +1,5 @@
 use Rattle.std.proofs.Common.{◌<◌, length, arith}
-use Rattle.trees.specs.declared.TermId.{TermId}
+use Rattle.kernel.specs.trees.declared.TermId.{TermId}
 use Rattle.tree_writing.specs.Referring.{words_of}
 use Rattle.written_files.proofs.Pushing.{sequent_none, sequent_more, line_at_place}
 use Rattle.written_files.proofs.words.push_sequent.Goals as goal

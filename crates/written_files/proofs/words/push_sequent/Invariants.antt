@@ -1,5 +1,5 @@
 use Rattle.std.proofs.Common.{take}
-use Rattle.tasks.specs.Meaning.{trees_at}
+use Rattle.kernel.specs.tasks.Meaning.{trees_at}
 use Rattle.tree_writing.specs.Referring.{words_of}
 use Rattle.written_files.specs.Words.{PushesSequent}
 use Rattle.written_files.proofs.words.push_sequent.Given as goal

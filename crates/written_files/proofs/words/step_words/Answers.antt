@@ -1,6 +1,6 @@
 use Rattle.std.proofs.Common.{List, ℕ, ap, subst}
-use Rattle.trees.specs.declared.TermId.{TermId}
-use Rattle.tasks.specs.Meaning.{trees_at}
+use Rattle.kernel.specs.trees.declared.TermId.{TermId}
+use Rattle.kernel.specs.tasks.Meaning.{trees_at}
 use Rattle.tree_lines.specs.Words.{LineWord}
 use Rattle.tree_writing.specs.Referring.{words_of, PushesNumbers}
 use Rattle.written_files.specs.Words.{PushesSequent}

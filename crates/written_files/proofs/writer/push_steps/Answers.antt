@@ -1,7 +1,7 @@
 use Rattle.std.proofs.Common.{◌≡◌, ◌<◌, ◌++◌, ◌∷◌, [], length, get_or, sym, ap, subst, ◌∙◌, arith}
 use Rattle.std.proofs.lemmas.List.{get_or-map, length-map}
-use Rattle.rule_rows.specs.Trees.{no_step}
-use Rattle.rule_rows.specs.Meaning.{step_at, steps_at}
+use Rattle.kernel.specs.rule_rows.Trees.{no_step}
+use Rattle.kernel.specs.rule_rows.Meaning.{step_at, steps_at}
 use Rattle.tree_writing.specs.Referring.{words_of}
 use Rattle.tree_writing.specs.Text.{line_text}
 use Rattle.written_files.specs.Words.{StepReady}

@@ -1,7 +1,7 @@
 use Rattle.std.proofs.Common.{◌≡◌, ℕ, List, Option, sym, ap, subst, ◌∙◌}
 use Rattle.std.specs.Prelude.{IfSome, IfNone, flat_map}
-use Rattle.tasks.specs.Meaning.{trees_at}
-use Rattle.rule_rows.specs.Meaning.{steps_at}
+use Rattle.kernel.specs.tasks.Meaning.{trees_at}
+use Rattle.kernel.specs.rule_rows.Meaning.{steps_at}
 use Rattle.tree_writing.specs.declared.writer.WrittenLines.{WrittenLines}
 use Rattle.tree_writing.specs.Whole.{IsWritten, HaveLines, LacksName}
 use Rattle.written_files.specs.declared.words.Lines.{Lines}

@@ -1,7 +1,7 @@
 use Rattle.std.proofs.Common.{None, subst}
 use Rattle.std.specs.Prelude.{IfSome, IfNone}
-use Rattle.rule_rows.specs.Meaning.{steps_at}
-use Rattle.tasks.specs.Meaning.{task_at}
+use Rattle.kernel.specs.rule_rows.Meaning.{steps_at}
+use Rattle.kernel.specs.tasks.Meaning.{task_at}
 use Rattle.written_files.specs.Named.{AreWords, AreNamed}
 use Rattle.written_files.specs.Written.{StepsReadBack}
 use Rattle.written_files.proofs.Derivations.{no_low}

@@ -1,9 +1,9 @@
 use Rattle.std.proofs.Common.{List, Option, Some, None, sym, subst}
 use Rattle.std.specs.Prelude.{IfOk, IfSome, IfNone}
 use Rattle.kernel.proofs.Growth.{steps_later}
-use Rattle.rule_rows.specs.Trees.{StepTree}
-use Rattle.rule_rows.specs.Meaning.{steps_at}
-use Rattle.tasks.specs.Meaning.{task_at}
+use Rattle.kernel.specs.rule_rows.Trees.{StepTree}
+use Rattle.kernel.specs.rule_rows.Meaning.{steps_at}
+use Rattle.kernel.specs.tasks.Meaning.{task_at}
 use Rattle.tree_writing.proofs.Reading.{if_ok}
 use Rattle.written_files.specs.Named.{AreNamed, AreSorted}
 use Rattle.written_files.specs.Written.{StepsReadBack}

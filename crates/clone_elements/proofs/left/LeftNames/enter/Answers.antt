@@ -2,11 +2,11 @@ use Rattle.std.proofs.Common.{◌≡◌, ℕ, cond, Bool, List, Option, Some, sy
 use Rattle.std.proofs.lemmas.List.{get_or-map}
 use Rattle.std.specs.Option.{option_map}
 use Rattle.tasks.specs.Meaning.{symbols_at, declaration_at, declarations_at}
-use Rattle.names_space.proofs.Listed.{updates_name}
+use Rattle.elab_names.proofs.names_space.Listed.{updates_name}
 use Rattle.clone_elements.specs.Left.{left_key, is_key, decl_or, no_declaration}
 use Rattle.clone_elements.specs.Origins.{origin_at, place_at}
 use Rattle.clone_elements.proofs.left.LeftNames.enter.Goals as goal
-use Rattle.outside.proofs.Passed.{no_ok}
+use Rattle.tasks.proofs.outside.Passed.{no_ok}
 
 pub returns-in_ok-insert : goal.returns-in_ok-insert
 returns-in_ok-insert c = λ s x.

@@ -1,5 +1,5 @@
 use Rattle.std.proofs.Common.{◌≡◌, ℕ, List, drop, None}
-use Rattle.trees.specs.Tree.{Tree}
+use Rattle.tasks.specs.trees.Tree.{Tree}
 use Rattle.tasks.specs.Meaning.{symbols_at}
 use Rattle.clone_elements.specs.Left.{last_place}
 use Rattle.clone_elements.specs.Origins.{origin_at, place_at}

@@ -1,9 +1,9 @@
 use Rattle.std.proofs.Common.{◌≡◌, ◌+◌, ◌-◌, ◌<◌, ◌≤◌, get_or, refl, arith}
-use Rattle.trees.specs.Tree.{loose}
-use Rattle.trees.specs.Binding.{Bound}
-use Rattle.trees.specs.Facts.{IndicesFit}
-use Rattle.trees.specs.Sorts.{Fits}
-use Rattle.trees.specs.Node.{tree_at}
+use Rattle.term_store.specs.trees.Tree.{loose}
+use Rattle.term_store.specs.trees.Binding.{Bound}
+use Rattle.term_store.specs.trees.Facts.{IndicesFit}
+use Rattle.term_store.specs.trees.Sorts.{Fits}
+use Rattle.term_store.specs.trees.Node.{tree_at}
 use Rattle.binders.proofs.Telling.{left_is, is_above}
 use Rattle.binders.proofs.Reading.{put_made, put_fits}
 use Rattle.elab_walk.specs.Patterns.{reordering}

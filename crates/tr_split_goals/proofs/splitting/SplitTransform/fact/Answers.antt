@@ -1,4 +1,4 @@
-use Rattle.trees.specs.Node.{tree_at}
+use Rattle.tasks.specs.trees.Node.{tree_at}
 use Rattle.tasks.specs.Meaning.{trees_at, task_at}
 use Rattle.tr_split.proofs.Glued.{fact_kept}
 use Rattle.tr_split_goals.specs.Kept.{unlimited}
