@@ -1,5 +1,5 @@
-//! Tests of the binding functions: tables, random trees against a plain walk, and trees with more nodes than a number counts.
-//! It depends on binders; nothing depends on it.
+//! Tests of the binding functions: tables, random trees against a plain walk, and trees with more nodes than a number
+//! counts.
 #![tactic(auto)]
 
 #[cfg(test)]

@@ -1,5 +1,7 @@
-//! The copies of a theory that is cloned: entries of symbols, declarations, and names.
-//! It depends on plans of clones and on what is known of theories; clones depend on it.
+//! The copies of a theory that is cloned: entries, declarations with what axioms become, and names.
+//!
+//! Contract: exactly the entries, declarations, axioms and goals of the copies, the places that are joined, and the mapped
+//! names.
 #![tactic(auto)]
 
 mod entries;

@@ -1,5 +1,7 @@
 //! The elements of a clone: what their sides stand for, the first that is wrong, and what they replace.
-//! It depends on the walk of names and types and on maps of symbols; the copies of theories depend on it.
+//!
+//! Contract: exactly the first fault of names on the right and the first wrong element, and exactly the plan and the map of
+//! a clone.
 #![tactic(auto)]
 
 mod elements;

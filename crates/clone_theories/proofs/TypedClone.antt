@@ -24,7 +24,7 @@ use Rattle.syntax_why.specs.declared.declarations.PropKind.TheVariants as kind
 use Rattle.syntax_why.specs.Declarations.{Element, type_element, symbol_element, prop_element, all_axioms}
 use Rattle.clone_copies.specs.clones.Mapped.{Map}
 use Rattle.clone_copies.specs.clones.Copies.{entry_copied}
-use Rattle.theory_states.specs.goal_tasks.Theories.{GoalTree}
+use Rattle.valid_tasks.specs.goal_tasks.Theories.{GoalTree}
 use Rattle.elab_parts.specs.elab_names.Abstract.{text_of_own}
 use Rattle.elab_parts.specs.elab_names.Faults.{first_of}
 use Rattle.elab_parts.specs.elab_names.declared.NamingFault.{NamingFault}

@@ -1,5 +1,6 @@
-//! Clones of theories: the first fault of a clone, or the copies with their names.
-//! It depends on the elements of clones, on copies and on what is known of theories; the theories of a source depend on it.
+//! Clones of theories: the first fault of a clone, or its copies with their names.
+//!
+//! Contract: exactly what is known after a clone, or its first fault; what is known stays typed.
 #![tactic(auto)]
 
 mod cloning;

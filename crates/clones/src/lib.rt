@@ -1,5 +1,8 @@
-//! Maps of symbols: the trees of one signature as trees of another one, and copies of declarations and entries under them.
-//! They depend on the store, the binding functions and the tasks; the clones of theories depend on them.
+//! Maps of symbols, under which type symbols may become types; the trees of one signature as trees of another, a shared
+//! tree mapped once; copies of declarations and entries under such a map.
+//!
+//! Contract: exactly the mapped tree and the copy: the kind of a declaration and the form of a clause, an equation and a
+//! proposition stay.
 #![tactic(auto)]
 
 mod copies;

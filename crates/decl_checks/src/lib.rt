@@ -1,5 +1,7 @@
-//! The checks of a source's declarations: the clauses of inductive predicates, recursive definitions, values of algebraic types.
-//! It depends on tasks; the theories of a source depend on it.
+//! The checks of a declaration after its types: clauses of inductive predicates, structural recursion, finite values of
+//! algebraic types.
+//!
+//! Contract: the first thing that is wrong, exactly, and none where nothing is.
 #![tactic(auto)]
 
 mod checks;

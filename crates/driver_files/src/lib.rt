@@ -1,5 +1,6 @@
-//! Drivers: `read_driver` reads a driver file with its imports, or names what is in its way first.
-//! It depends on a library of files and on the parts of drivers; nothing depends on it yet.
+//! A driver file with its imports in place: which files are fetched, in which order, each whole file once.
+//!
+//! Contract: the driver of the files, or the first thing that is in its way.
 #![tactic(auto)]
 
 mod fetching;

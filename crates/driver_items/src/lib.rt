@@ -1,6 +1,7 @@
-//! What the lines of a driver say: which transformations and printers strings name, the pieces of templates, what names of
-//! symbols and theories stand for.
-//! It depends on signatures and the lines of driver texts; the reader of drivers depends on it.
+//! What the names and strings of a driver say: which transformations and printers words name, the pieces of templates, what
+//! names of symbols and of theories stand for.
+//!
+//! Contract: exactly these values.
 #![tactic(auto)]
 
 mod items;

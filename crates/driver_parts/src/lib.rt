@@ -1,5 +1,6 @@
-//! What has been read of a driver so far, and what each line but an import does to it, or what is wrong with it.
-//! It depends on what the lines of a driver say; the reader of driver files depends on it.
+//! What has been read of a driver so far, and what each line but an import does to it; the driver and its faults.
+//!
+//! Contract: the parts that an item makes, or what is wrong with it.
 #![tactic(auto)]
 
 mod driver;

@@ -1,5 +1,4 @@
 //! Reads drivers, one a line with the files that it may import, and says of each what it gives or its first fault.
-//! It depends on the reader of drivers; its input and output are by `tools/driver-rows`.
 #![tactic(auto)]
 
 mod answers;

@@ -1,5 +1,6 @@
-//! The tokens of a driver file and the lines that they make: `read_lines` names the first byte that no driver file allows there.
-//! It depends on the word tables and on the classes of bytes of sources; the reader of drivers depends on it.
+//! The tokens of a driver file, and the lines that they make, found by a finite automaton without trees; what strings say.
+//!
+//! Contract: the only lines of a text, or the first byte that no driver file allows there.
 #![tactic(auto)]
 
 mod bytes;

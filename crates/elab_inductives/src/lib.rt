@@ -1,4 +1,7 @@
-//! Groups of inductive predicates: their entries and names, and their clauses.
+//! Groups of inductive predicates: their names and those of their clauses, the entries, the clauses by one list of type
+//! equations.
+//!
+//! Contract: exactly what such a group makes, or its first fault.
 #![tactic(auto)]
 
 mod clauses;

@@ -1,4 +1,7 @@
-//! The members of a group of functions, predicates and constants: the names that they make and use, their signatures and entries.
+//! The members of a group of functions, predicates and constants: the names that they make and use, the types of their
+//! signatures, their entries.
+//!
+//! Contract: exactly their entries and names, or the first fault of names.
 #![tactic(auto)]
 
 mod naming;

@@ -1,4 +1,5 @@
 pub use Rattle.names_space.proofs as names_space
+pub use Rattle.syntax_why.proofs as syntax_why
 pub mod Placed
 pub mod Nodes
 pub mod Told

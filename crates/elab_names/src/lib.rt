@@ -1,5 +1,7 @@
-//! The names of expressions, patterns and types: their first fault in reading order.
-//! It depends on the surface trees and on signatures; the walk that makes trees depends on it.
+//! The abstract syntax of types, patterns, terms and formulas; the first fault of their names, in the order of the tokens
+//! at which the checks stand.
+//!
+//! Contract: the first fault of names, and none where there is none.
 #![tactic(auto)]
 
 mod bound;
@@ -18,6 +20,9 @@ pub use names_space::{Scope, Table, TypeName};
 pub use operators::{Operation, infix_operation, own_name, prefix_operator};
 pub use patterns::{check_pattern, check_patterns};
 use std::alloc::{AllocError, AllocFailed};
+pub use syntax_why::{
+    DeclNode, DeclTree, Expr, MemberTree, Name, OpName, ParamTree, PropKind, Style, TypeTree,
+};
 pub use triggers::{Trigger, TriggerHead, names_predicate, trigger_of};
 pub use type_names::check_form;
 pub use world::{World, variable_named};

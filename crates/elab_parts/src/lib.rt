@@ -1,6 +1,7 @@
-//! What the elaboration of each kind of declaration depends on: entries of a signature, the names that a declaration makes, and
-//! formulas from expressions by the walk of trees and the solution of type equations.
-//! It depends on the walks of names and of trees; the kinds of declarations depend on it.
+//! What the elaboration of each kind of declaration depends on: declarations in abstract syntax and the names that they
+//! make, entries of a signature, formulas by the walk and the solution of type equations.
+//!
+//! Contract: a formula at every solution of its equations, or its first fault of types.
 #![tactic(auto)]
 
 mod entries;
@@ -11,17 +12,20 @@ mod solution;
 ghost use Rattle.std.specs.Prelude.{◌≡◌};
 
 pub use binders::inst_types;
-pub use elab_names::{Names, NamingFault, check, check_form, own_name};
+pub use elab_names::{NamingFault, own_name};
 pub use elab_variables::{Seen, enter_form, enter_variables};
-pub use elab_walk::{MatchAt, type_of_form};
+pub use elab_walk::MatchAt;
 pub use entries::{join_words, push_constructor, push_entry, push_tuples, push_type, variables};
 pub use made::{Elaborated, Place, declare, naming_fault, typing_fault};
 pub use names::{NamedToken, find_repeated, gather, texts_of, world_over};
 pub use names_space::{NameFault, Scope, Seq, Table, Text, TypeName};
 pub use solution::{Formula, TypingFault, put_matches, put_trees, solve_draft, solve_formula};
 use std::alloc::{AllocError, AllocFailed};
-pub use syntax_why::PropKind;
-pub use tasks::{Ints, Signature, Store};
+pub use syntax_why::{
+    AlgTree, ClauseTree, ConTree, DeclNode, DeclTree, ElemTree, Expr, File, IndTree, Link,
+    MemberTree, Name, OpName, Path, PropKind, Style, TheoryTree, lex,
+};
+pub use tasks::{Body, Decl, Ints, Signature, Sort, Store, Task, TermId};
 
 /// Why a declaration isn't elaborated; `decl` is its number.
 #[derive(Clone, Copy)]

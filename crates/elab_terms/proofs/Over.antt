@@ -3,8 +3,8 @@ use Rattle.std.proofs.Common.{◌≡◌, ℕ, List, [], ◌∷◌, map, None, re
 use Rattle.std.specs.Prelude.{OnOk}
 use Rattle.tasks.specs.trees.Tree.{Tree}
 use Rattle.syntax_why.specs.declared.names.Name.{Name}
-use Rattle.elab_parts.specs.elab_names.Abstract.{Expression, texts_of_names}
-use Rattle.elab_parts.specs.elab_names.Where.{Where}
+use Rattle.elab_names.specs.Abstract.{Expression, texts_of_names}
+use Rattle.elab_names.specs.Where.{Where}
 use Rattle.elab_parts.specs.elab_walk.Pieces.{piece}
 use Rattle.elab_parts.specs.declared.solution.TypingFault.{TypingFault}
 use Rattle.elab_parts.specs.Declarations.{word, words}

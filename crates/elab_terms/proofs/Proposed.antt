@@ -8,16 +8,16 @@ use Rattle.tasks.specs.Task.{SymbolTree, Says}
 use Rattle.tasks.specs.Rigid.{rigid_symbol}
 use Rattle.tasks.specs.Meaning.{symbol_at, symbols_at, declarations_at, DeclHeld}
 use Rattle.tasks.specs.declared.signature.Signature.{Signature}
-use Rattle.names_space.specs.declared.Table.TheVariants.{Propositions}
-use Rattle.names_space.specs.declared.TypeName.TheVariants as stands
-use Rattle.names_space.specs.Names.{ScopeNames, with_name}
+use Rattle.elab_names.specs.names_space.declared.Table.TheVariants.{Propositions}
+use Rattle.elab_names.specs.names_space.declared.TypeName.TheVariants as stands
+use Rattle.elab_names.specs.names_space.Names.{ScopeNames, with_name}
 use Rattle.syntax_why.specs.Lexeme.{Word}
 use Rattle.syntax_why.specs.declared.declarations.PropKind.{PropKind}
-use Rattle.elab_parts.specs.elab_names.Abstract.{Expression}
-use Rattle.elab_parts.specs.elab_names.declared.NamingFault.{NamingFault}
-use Rattle.elab_parts.specs.elab_names.Faults.{fault}
-use Rattle.elab_parts.specs.elab_names.Naming.{Tells}
-use Rattle.elab_parts.specs.elab_names.Where.{Where}
+use Rattle.elab_names.specs.Abstract.{Expression}
+use Rattle.elab_names.specs.declared.NamingFault.{NamingFault}
+use Rattle.elab_names.specs.Faults.{fault}
+use Rattle.elab_names.specs.Naming.{Tells}
+use Rattle.elab_names.specs.Where.{Where}
 use Rattle.elab_parts.specs.elab_walk.Pieces.{NotedTree, piece}
 use Rattle.elab_parts.specs.elab_variables.Seen.{SeenTree}
 use Rattle.elab_parts.specs.elab_walk.Drafts.{match_at, MatchHeld}

@@ -6,10 +6,10 @@ use Rattle.tasks.specs.Task.{SymbolTree, int_symbol}
 use Rattle.tasks.specs.Equations.{cells}
 use Rattle.syntax_why.specs.Lexeme.{Word}
 use Rattle.syntax_why.specs.declared.declarations.PropKind.TheVariants.{Axiom, Goal}
-use Rattle.names_space.specs.declared.Table.TheVariants.{Types}
-use Rattle.names_space.specs.Names.{empty_names, with_entry}
-use Rattle.elab_parts.specs.elab_names.Abstract.{variable_type, composed_type, no_types, more_types, applied_expression, equality_expression, cast_expression, integer_expression, quantified_expression, no_expressions}
-use Rattle.elab_parts.specs.elab_names.declared.NamingFault.TheVariants.{Unknown, Duplicate, Arity}
+use Rattle.elab_names.specs.names_space.declared.Table.TheVariants.{Types}
+use Rattle.elab_names.specs.names_space.Names.{empty_names, with_entry}
+use Rattle.elab_names.specs.Abstract.{variable_type, composed_type, no_types, more_types, applied_expression, equality_expression, cast_expression, integer_expression, quantified_expression, no_expressions}
+use Rattle.elab_names.specs.declared.NamingFault.TheVariants.{Unknown, Duplicate, Arity}
 use Rattle.elab_parts.specs.Entries.{tuple_entries, wanting_tuples}
 use Rattle.elab_parts.specs.Declarations.{TokenName, token_name, abstract_type, alias, proposition_declaration, made_names, made_fault}
 use Rattle.elab_parts.specs.Outcomes.{Setting, declared_in}

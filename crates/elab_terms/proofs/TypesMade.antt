@@ -15,11 +15,11 @@ use Rattle.tasks.specs.declared.declaration.Body.TheVariants.{TypeSymbol, Symbol
 use Rattle.tasks.specs.declared.declaration.Decl.{Decl}
 use Rattle.syntax_why.specs.Lexeme.{Word}
 use Rattle.tasks.specs.declared.signature.Signature.{Signature}
-use Rattle.names_space.specs.declared.Table.TheVariants.{Types}
-use Rattle.names_space.specs.declared.TypeName.TheVariants as stands
-use Rattle.names_space.specs.Names.{ScopeNames, with_name}
-use Rattle.elab_parts.specs.elab_names.Abstract.{TypeExpression}
-use Rattle.elab_parts.specs.elab_names.Faults.{form_fault}
+use Rattle.elab_names.specs.names_space.declared.Table.TheVariants.{Types}
+use Rattle.elab_names.specs.names_space.declared.TypeName.TheVariants as stands
+use Rattle.elab_names.specs.names_space.Names.{ScopeNames, with_name}
+use Rattle.elab_names.specs.Abstract.{TypeExpression}
+use Rattle.elab_names.specs.Faults.{form_fault}
 use Rattle.elab_parts.specs.elab_walk.Pieces.{type_at}
 use Rattle.elab_parts.specs.elab_walk.Drafts.{HoldsType, MatchHeld, match_at}
 use Rattle.elab_parts.specs.declared.made.Elaborated.{Elaborated}

@@ -6,7 +6,7 @@ use Rattle.syntax_why.specs.declared.expressions.Expr.{Expr}
 use Rattle.syntax_why.specs.declared.declarations.ParamTree.{ParamTree}
 use Rattle.syntax_why.specs.declared.declarations.MemberTree.{MemberTree}
 use Rattle.syntax_why.specs.SurfaceDeclarations.{declared_name, member_of}
-use Rattle.elab_parts.specs.elab_names.Abstract.{expression_of}
+use Rattle.elab_names.specs.Abstract.{expression_of}
 use Rattle.elab_parts.specs.Declarations.{GroupMember, symbol, group_member}
 use Rattle.elab_members.specs.Sources.{parameters_of, result_form}
 

@@ -7,16 +7,16 @@ use Rattle.tasks.specs.Task.{MakesType, Says}
 use Rattle.tasks.specs.Rigid.{rigid_symbol}
 use Rattle.tasks.specs.Meaning.{symbols_at, declarations_at, DeclHeld}
 use Rattle.tasks.specs.declared.signature.Signature.{Signature}
-use Rattle.names_space.specs.Names.{ScopeNames, with_entry, with_name}
-use Rattle.names_space.specs.declared.Table.TheVariants.{Types, Propositions}
-use Rattle.names_space.specs.declared.TypeName.TheVariants as stands
+use Rattle.elab_names.specs.names_space.Names.{ScopeNames, with_entry, with_name}
+use Rattle.elab_names.specs.names_space.declared.Table.TheVariants.{Types, Propositions}
+use Rattle.elab_names.specs.names_space.declared.TypeName.TheVariants as stands
 use Rattle.syntax_why.specs.Lexeme.{Word}
 use Rattle.syntax_why.specs.Declarations.{SyntaxDeclaration, use_decl, clone_decl, scope_decl}
 use Rattle.syntax_why.specs.declared.declarations.PropKind.{PropKind}
 use Rattle.syntax_why.specs.declared.declarations.PropKind.TheVariants as kind
-use Rattle.elab_parts.specs.elab_names.Abstract.{TypeExpression, Expression}
-use Rattle.elab_parts.specs.elab_names.declared.NamingFault.{NamingFault}
-use Rattle.elab_parts.specs.elab_names.Faults.{first_of, fault, form_fault}
+use Rattle.elab_names.specs.Abstract.{TypeExpression, Expression}
+use Rattle.elab_names.specs.declared.NamingFault.{NamingFault}
+use Rattle.elab_names.specs.Faults.{first_of, fault, form_fault}
 use Rattle.elab_parts.specs.elab_variables.Seen.{SeenTree, seen, form_seen}
 use Rattle.elab_parts.specs.elab_variables.declared.variables.Seen.{Seen as SeenCode}
 use Rattle.elab_parts.specs.elab_walk.Patterns.{Notes, no_notes}

@@ -2,7 +2,7 @@
 ghost use Rattle.std.specs.Prelude.{◌≡◌, ◌∷◌, ◌↔◌, ℕ, List, [], None, length, IsTrue, IfSome, IfOk, IfErr};
 ghost use Rattle.std.specs.Option.{option_copied};
 ghost use Rattle.tasks.specs.trees.Tree.{Tree};
-ghost use Rattle.names_space.specs.Names.{empty_names};
+ghost use Rattle.elab_names.specs.names_space.Names.{empty_names};
 ghost use Rattle.tasks.specs.trees.Node.{Grows};
 ghost use Rattle.syntax_why.specs.SurfaceDeclarations.{decl_of};
 ghost use Rattle.tasks.specs.Task.{int_symbol};
@@ -19,12 +19,12 @@ use crate::types::elaborate_type_declaration;
 use elab_groups::elaborate_group;
 use elab_inductives::elaborate_inductives;
 use elab_members::{MemberSource, gather_members};
+use elab_names::Scope;
 use elab_parts::{ElabFault, Elaborated, Place};
 use elab_types::elaborate_algebraic;
-use names_space::{Scope, Seq, Text};
 use std::alloc::{AllocError, Global};
 use syntax_why::{DeclNode, DeclTree, Expr, MemberTree, OpName, ParamTree, TypeTree};
-use tasks::{Signature, Store, SymbolInfo, SymbolKind};
+use tasks::{Seq, Signature, Store, SymbolInfo, SymbolKind, Text};
 
 // The first member of a group.
 fn head_member<'a>(

@@ -1,5 +1,7 @@
-//! Elaboration: a declaration becomes entries of a signature, names, declarations of tasks and matches, or its first fault.
-//! It depends on the parts of elaboration; theories depend on it.
+//! Declarations of all kinds but `use`, `clone` and `scope`: types without a definition, aliases, groups of algebraic
+//! types, groups of functions, predicates and constants, groups of inductive predicates, axioms, lemmas and goals.
+//!
+//! Contract: exactly what a declaration makes, or its first fault.
 #![tactic(auto)]
 
 mod declarations;

@@ -6,9 +6,9 @@ ghost use Rattle.tasks.specs.trees.Node.{tree_at, Holds, Grows};
 ghost use Rattle.tasks.specs.Task.{Says};
 ghost use Rattle.tasks.specs.Rigid.{rigid_symbol};
 ghost use Rattle.tasks.specs.Meaning.{symbols_at, declarations_at, trees_at, DeclHeld};
-ghost use Rattle.elab_parts.specs.elab_names.Abstract.{expression_of};
-ghost use Rattle.elab_parts.specs.elab_names.Faults.{fault};
-ghost use Rattle.elab_parts.specs.elab_names.Naming.{Tells};
+ghost use Rattle.elab_names.specs.Abstract.{expression_of};
+ghost use Rattle.elab_names.specs.Faults.{fault};
+ghost use Rattle.elab_names.specs.Naming.{Tells};
 ghost use Rattle.elab_parts.specs.elab_variables.Entered.{seen_at};
 ghost use Rattle.syntax_why.specs.SurfaceDeclarations.{plain_name};
 ghost use Rattle.elab_parts.specs.elab_walk.Drafts.{HoldsType, MatchHeld, match_at};
@@ -19,15 +19,14 @@ ghost use Rattle.elab_parts.specs.Entries.{wanting_tuples, IsSignature, IsExtend
 ghost use Rattle.elab_parts.specs.Outcomes.{over, setting, IsKept};
 ghost use Rattle.elab_terms.specs.Outcomes.{proposition_seen, proposition_piece, rigid_names, entry_numbers, rigid_types, said_as, schematic, solved_piece, IsTypedProposition, IsElaborated, IsRefusal};
 
+use elab_names::{Names, NamingFault, Scope, Table, TypeName, check, own_name};
 use elab_parts::{
-    ElabFault, Elaborated, Formula, Names, NamingFault, Place, Seen, TypingFault, check, declare,
-    enter_variables, inst_types, join_words, naming_fault, own_name, push_entry, push_tuples,
-    solve_formula, typing_fault, world_over,
+    ElabFault, Elaborated, Formula, Place, Seen, TypingFault, declare, enter_variables, inst_types,
+    join_words, naming_fault, push_entry, push_tuples, solve_formula, typing_fault, world_over,
 };
-use names_space::{Scope, Seq, Table, Text, TypeName};
 use std::alloc::{AllocError, Global};
 use syntax_why::{Expr, Name, PropKind, Style};
-use tasks::{Body, Decl, Grow, Node, Signature, Store, SymbolInfo, TermId};
+use tasks::{Body, Decl, Grow, Node, Seq, Signature, Store, SymbolInfo, TermId, Text};
 
 // The first fault of a proposition's names.
 fn check_formula(alloc: Global, sig: &Signature, scope: &Scope, e: &Expr) -> Result<(), NamingFault>

@@ -6,10 +6,10 @@ ghost use Rattle.tasks.specs.trees.Node.{tree_at, Grows};
 ghost use Rattle.tasks.specs.trees.Facts.{TyVarsBelow};
 ghost use Rattle.tasks.specs.Task.{MakesType};
 ghost use Rattle.tasks.specs.Meaning.{symbols_at, declarations_at};
-ghost use Rattle.names_space.specs.Names.{with_name};
-ghost use Rattle.elab_parts.specs.elab_names.Abstract.{type_expression_of};
-ghost use Rattle.elab_parts.specs.elab_names.Faults.{form_fault};
-ghost use Rattle.elab_parts.specs.elab_names.Naming.{Tells};
+ghost use Rattle.elab_names.specs.names_space.Names.{with_name};
+ghost use Rattle.elab_names.specs.Abstract.{type_expression_of};
+ghost use Rattle.elab_names.specs.Faults.{form_fault};
+ghost use Rattle.elab_names.specs.Naming.{Tells};
 ghost use Rattle.elab_parts.specs.elab_walk.Pieces.{type_at};
 ghost use Rattle.elab_parts.specs.elab_walk.Drafts.{HoldsType};
 ghost use Rattle.elab_parts.specs.Declarations.{word, abstract_type, alias, made_fault, makes, binds_names};
@@ -17,15 +17,15 @@ ghost use Rattle.elab_parts.specs.Entries.{type_entry, wanting_tuples, IsSignatu
 ghost use Rattle.elab_parts.specs.Outcomes.{over, setting, declared_in, IsKept};
 ghost use Rattle.elab_terms.specs.Outcomes.{alias_seen, type_declaration, IsElaborated, IsRefusal};
 
+use elab_names::{NamingFault, Scope, Table, TypeName, check_form};
 use elab_parts::{
-    ElabFault, Elaborated, NamingFault, Place, Seen, check_form, declare, enter_form,
-    find_repeated, gather, join_words, naming_fault, push_tuples, push_type, texts_of,
-    type_of_form, world_over,
+    ElabFault, Elaborated, Place, Seen, declare, enter_form, find_repeated, gather, join_words,
+    naming_fault, push_tuples, push_type, texts_of, world_over,
 };
-use names_space::{Scope, Seq, Table, Text, TypeName};
+use elab_types::type_of_form;
 use std::alloc::{AllocError, Global};
 use syntax_why::{Name, TypeTree};
-use tasks::{Body, Decl, Signature, Store, TermId};
+use tasks::{Body, Decl, Seq, Signature, Store, TermId, Text};
 
 // The declaration of a type symbol, whose entry is at the signature's end.
 fn make_type(

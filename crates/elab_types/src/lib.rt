@@ -1,5 +1,6 @@
-//! The elaboration of algebraic types: a group of them becomes entries of a signature, names and one declaration, or its first
-//! fault. It depends on the parts of elaboration; the elaboration of declarations depends on it.
+//! Groups of algebraic types: their names, the types of their fields, the entries of types, constructors and projections.
+//!
+//! Contract: exactly what such a group makes, or its first fault.
 #![tactic(auto)]
 
 mod entries;
@@ -8,4 +9,5 @@ mod group;
 mod naming;
 mod widths;
 
+pub use elab_walk::type_of_form;
 pub use group::elaborate_algebraic;

@@ -1,5 +1,6 @@
-//! The type variables of a declaration and the widths of its tuples, by first appearance.
-//! It depends on the walk of names; the walk that makes trees depends on it.
+//! The type variables of an expression and the widths of its tuples, by first appearance.
+//!
+//! Contract: exactly these lists.
 #![tactic(auto)]
 
 mod variables;

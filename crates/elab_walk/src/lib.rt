@@ -1,5 +1,7 @@
-//! The walk of terms and formulas whose names are there: trees over unknowns, their type equations, and who takes each unknown.
-//! It depends on what names mean; what solves the equations depends on it.
+//! The walk of terms and formulas whose names are there: trees over unknowns, type equations and matches in preorder, and
+//! who takes each unknown.
+//!
+//! Contract: exactly the piece of an expression.
 #![tactic(auto)]
 
 mod arms;

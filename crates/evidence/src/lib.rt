@@ -1,5 +1,6 @@
-//! Evidence: drafts of derivations, transformations with the laws by which refutations of what they make are brought back,
-//! and a whole stage brought back. It depends on the kernel; each transformation depends on it.
+//! Drafts of right steps; steps by each rule; what a transformation is; a stage brought back.
+//!
+//! Contract: a transformation's laws, and refutations of its tasks made one of the old task.
 #![tactic(auto)]
 
 mod by;

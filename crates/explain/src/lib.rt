@@ -1,5 +1,6 @@
-//! What a refusal of `why3lift` says of a file, in words and with its place.
-//! It depends on the tokens; the program `why3lift_explain` depends on it.
+//! The words and the place of a refusal: the table of codes, lines and columns, the message, the words of its program.
+//!
+//! Contract: exactly the message of a fault in a text.
 #![tactic(auto)]
 
 mod message;

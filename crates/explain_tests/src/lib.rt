@@ -1,4 +1,4 @@
-//! Tests of the messages of faults. They depend on `explain`; nothing depends on them.
+//! Tests of the messages of faults.
 #![tactic(auto)]
 
 #[cfg(test)]

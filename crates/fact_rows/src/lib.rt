@@ -1,6 +1,6 @@
-//! The rows that cite a fact of the task, `fact`, `def`, `clause` and `inv`, and those of integers: `linear`, `trichotomy` and
-//! `bound`.
-//! They depend on the table of rules and read a task through its look-up; the checker of a step depends on them.
+//! The rows that cite a fact of the task, and those of integers.
+//!
+//! Contract: each row exactly.
 #![tactic(auto)]
 
 mod facts;

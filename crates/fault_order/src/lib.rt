@@ -1,5 +1,7 @@
-//! The order of faults: parts of a run answer one after another, and the first fault is the answer.
-//! It depends on the library of files; the commands and what they read depend on it.
+//! The faults of a run; files that are fetched by their numbers; how parts of a run answer one after another, the first
+//! stop first.
+//!
+//! Contract: exactly the file, or what stops; laws of the answers of parts.
 #![tactic(auto)]
 
 mod faults;

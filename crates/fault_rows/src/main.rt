@@ -1,5 +1,4 @@
 //! Compares the table of faults in `data/FAULTS.md` with what `explain` says of each code.
-//! It depends on `explain` and on the numbers of refusals.
 #![tactic(auto)]
 
 mod answers;

@@ -1,6 +1,8 @@
-//! Theories with their goals, and the task of a goal: the declarations that are before it, after those of the tuples that
-//! they name.
-//! It depends on the tasks and on the entries of tuples; the typing of sources makes theories.
+//! Theories over one signature, each declaration kept once, with the goals that can be named; the symbols that
+//! declarations, the types of what they make, and a goal name, a shared tree looked at once; the task of a goal, with the
+//! declarations of tuples in front.
+//!
+//! Contract: exactly these symbols, and exactly the task of a goal, or that there is no such theory or goal.
 #![tactic(auto)]
 
 mod declarations;

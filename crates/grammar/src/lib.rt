@@ -1,5 +1,8 @@
-//! The grammar of sources as one table, and a machine over it that decides without trees which tokens are a source or an
-//! expression, where they go wrong, and what completes them.
+//! The grammar of sources as one table (a rule takes a terminal and leaves symbols), and a machine over it: a stack of
+//! copied symbols that takes one token after another, without trees.
+//!
+//! Contract: where tokens are no string of a rule, and whether another terminal could be there; the longest string; what
+//! completes a beginning.
 #![tactic(auto)]
 
 mod accept;

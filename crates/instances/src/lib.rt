@@ -1,5 +1,7 @@
-//! Instances of open trees: closed terms put in for the open variables, and what stays of a tree there.
-//! They depend on `binders` and on what tasks call typed; the transformations and what they bring back depend on them.
+//! Instances of open trees: closed terms put in for open variables, and what stays of typing, type variables and parameters
+//! there.
+//!
+//! Contract: an instance by a closed term, typed where both are; laws for any number of terms.
 #![tactic(auto)]
 
 ghost use Rattle.std.specs.Prelude.{◌≡◌, IfOk};

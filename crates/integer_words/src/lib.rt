@@ -1,5 +1,6 @@
-//! The integers of step files: a word read as an integer of 128 bits, and an integer's word.
-//! It depends on std alone.
+//! Integers of 128 bits as words in decimal.
+//!
+//! Contract: exactly the integer of a word; an integer's word is read back as it.
 #![tactic(auto)]
 
 mod word;

@@ -1,5 +1,6 @@
-//! The checker: which steps of a refutation are right, and which steps derive a task.
-//! It depends on the rows of the table of rules, makes no trees and takes no memory; evidence and step files depend on it.
+//! Which steps are right, and which derive a task.
+//!
+//! Contract: exactly the right steps, with one entry for steps whose trees are known to be typed.
 #![tactic(auto)]
 
 mod rows;
@@ -8,6 +9,6 @@ mod typed;
 
 pub use rule_rows::{Rule, Step};
 pub use steps::{closes, ends_in_start, first_wrong, right_step, right_typed_step};
-pub use tasks::Task;
+pub use tasks::{Body, Decl, Seq, Signature, SymbolInfo, Task, Text};
 pub use term_store::Store;
-pub use trees::TermId;
+pub use trees::{Ints, TermId};

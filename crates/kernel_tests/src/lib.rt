@@ -1,5 +1,4 @@
 //! Tests of the checker: random steps against a plain check, and steps that no step file can write.
-//! It depends on the kernel; nothing depends on it.
 #![tactic(auto)]
 
 #[cfg(test)]

@@ -1,5 +1,6 @@
-//! The linear leaf: whether a weighted sum of formulas over the integers can't hold (Farkas), found without memory.
-//! It depends on the store's queries alone; the checker's rule `linear` depends on it.
+//! The linear leaf over the integers.
+//!
+//! Contract: exactly which weighted sums can't hold, without memory.
 #![tactic(auto)]
 
 mod terms;

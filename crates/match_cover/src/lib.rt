@@ -1,5 +1,4 @@
-//! Whether the patterns of a `match` take every value of their type, and a shape that none takes where they don't.
-//! It depends on tasks.
+//! A shape of values that no pattern of a list meets, found by the constructors of columns.
 #![tactic(auto)]
 
 mod constructors;

@@ -1,5 +1,6 @@
-//! The entries of a name table: a name, and what it stands for.
-//! It depends on texts; the name tables, the printers and the readers of step files depend on it.
+//! The entries of name tables: a name, and what it stands for.
+//!
+//! Contract: the types alone.
 #![tactic(auto)]
 
 mod names;

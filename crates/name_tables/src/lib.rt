@@ -1,5 +1,7 @@
-//! Name tables: what is in them, at which place, and under which name it is printed.
-//! It depends on the tasks; what makes problems of tasks and the printers depend on it.
+//! The name tables of whole tasks: what occurs in one, each symbol at its types by first appearance, a shared term looked
+//! at once; what is in a table, found by place; names spelt out.
+//!
+//! Contract: exactly the table of a task's problem and of a task; no two names are the same.
 #![tactic(auto)]
 
 mod spelling;

@@ -1,5 +1,6 @@
-//! What a name means at a place: scopes inside one another, each with four tables of names.
-//! It is under the elaboration of declarations and of theories.
+//! Scopes of names, an alias of a type among them; look-ups by strings and by bytes.
+//!
+//! Contract: what a name means at a place.
 #![tactic(auto)]
 
 ghost use Rattle.std.specs.Prelude.{◌≡◌};

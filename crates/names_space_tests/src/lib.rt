@@ -1,5 +1,4 @@
 //! Tests of what names mean in scopes.
-//! It depends on the scopes; nothing depends on it.
 #![tactic(auto)]
 
 #[cfg(test)]

@@ -1,5 +1,4 @@
 //! Tests of the collections, the library and the sinks.
-//! It depends on them; nothing depends on it.
 #![tactic(auto)]
 
 #[cfg(test)]

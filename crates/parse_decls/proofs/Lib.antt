@@ -1,3 +1,4 @@
+pub use Rattle.recognise_why.proofs as recognise_why
 pub mod Common
 pub mod DeclaredRead
 pub mod ParamsRead

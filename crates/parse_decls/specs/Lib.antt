@@ -1,3 +1,5 @@
+pub use Rattle.reading.specs as reading
+pub use Rattle.recognise_why.specs as recognise_why
 pub mod Common
 pub mod Bodies
 pub mod Clauses

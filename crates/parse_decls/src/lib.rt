@@ -1,4 +1,7 @@
-//! Reading of declarations, theories and files from tokens that are known to be good; the reader of sources.
+//! Descent of declarations, scopes, theories and files; the reader of sources.
+//!
+//! Contract: the one file of the tokens, with its places, or the first token that is nested too deep, or the least with
+//! which no source begins.
 #![tactic(auto)]
 
 mod bodies;

@@ -1,5 +1,7 @@
-//! Reading of types, patterns, terms and formulas from tokens that are known to be good, and of the longest expression from
-//! any tokens.
+//! Descent of names, types, patterns, terms and formulas over tokens that are known to be good, which sets the places as it
+//! makes the trees; the longest expression from a place.
+//!
+//! Contract: the longest expression from a place, its one tree with its places, or the least token with which none begins.
 #![tactic(auto)]
 
 mod expressions;

@@ -1,5 +1,6 @@
-//! The problems of the parts of a goal, in order, and what is written of them: their texts in the syntax of the driver's printer,
-//! or their name tables. It depends on problems and both printers; the program depends on it.
+//! The problems of the parts of a goal, and their texts or name tables, one after another.
+//!
+//! Contract: exactly the texts, or the first fault by its part.
 #![tactic(auto)]
 
 mod fault;
@@ -10,5 +11,5 @@ mod texts;
 pub use fault::PartFault;
 pub use making::problems_of;
 pub use names::name_texts;
-pub use printed_problems::Problem;
+pub use printed_problems::{PrintFault, Problem};
 pub use texts::part_texts;

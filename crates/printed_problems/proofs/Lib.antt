@@ -1,3 +1,4 @@
+pub use Rattle.trees.proofs.plain_laws as plain_laws
 pub mod Finding
 pub mod First
 pub mod Forming

@@ -1,5 +1,7 @@
-//! What is printed of a task under a driver, or why it can't be printed.
-//! It needs the name tables and the drivers; the printers need it.
+//! What is printed of a task under a driver: names, preludes, the declared types and symbols, formulas; or the task's first
+//! fault.
+//!
+//! Contract: exactly the problem, or exactly the first fault, declaration by declaration.
 #![tactic(auto)]
 
 mod checks;
@@ -10,7 +12,9 @@ mod places;
 mod printed;
 mod templates;
 
+pub use driver_parts::Driver;
 pub use fault::PrintFault;
 pub use making::problem;
+pub use name_tables::task_names;
 pub use printed::Problem;
 pub use templates::has_template;

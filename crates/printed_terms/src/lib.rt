@@ -1,5 +1,7 @@
-//! Types, terms and formulas as text, in the syntax of SMT-LIB 2.6 and in that of TPTP's TFF0.
-//! It needs the name tables and the templates; the texts of problems need it.
+//! Types, terms and formulas as text in the syntaxes of SMT-LIB and TFF0, by templates and by names; the ranks of symbols
+//! by places of the table.
+//!
+//! Contract: exactly the text, by cases on trees.
 #![tactic(auto)]
 
 mod lists;

@@ -1,5 +1,4 @@
 //! Reads symbols, drivers and tasks, one a line, and says of each task which names, problem and text it has, or its fault.
-//! It depends on the printers; its input is that of `rows.txt`, and `tools/problem-rows` puts its output apart.
 #![tactic(auto)]
 
 mod answers;

@@ -1,5 +1,5 @@
-//! Reads texts, one a line, and says of each what the reader of sources answers: tokens, a fault with what completes it, trees.
-//! It depends on the reader; its input and output are by `tools/reader-rows`.
+//! Reads texts, one a line, and says of each what the reader of sources answers: tokens, a fault with what completes it,
+//! trees.
 #![tactic(auto)]
 
 mod answers;

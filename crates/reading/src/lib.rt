@@ -1,3 +1,5 @@
-//! How tokens are read as trees: the grammar's rules with what each is read as, and the laws that right, placed trees are
-//! read from their tokens and nothing else is. It has no code.
+//! The same table with what each rule is read as, and the laws of both machines: what a tree writes is read as that tree,
+//! what is read is written by one right tree alone, and the two machines take the same tokens; no code.
+//!
+//! Contract: definitions and laws.
 #![tactic(auto)]

@@ -1,4 +1,3 @@
-pub use Rattle.reading.specs as reading
 pub mod Common
 pub mod Depth
 pub mod Spans

@@ -1,5 +1,8 @@
-//! What the grammar says of tokens before any tree is made: whether they are a source, or where they go wrong; how far an
-//! expression goes; how deep they are nested; and what completes them.
+//! What the grammar says of tokens before any tree is made, without trees: whether they are a source and where they go
+//! wrong, the depth of tokens counted first; where the longest expression ends; what completes an expression or a source.
+//!
+//! Contract: the least fault of a source; the end of the longest expression, or the least token with which none begins;
+//! what completes a beginning; tokens are those of one tree at most.
 #![tactic(auto)]
 
 mod completing;

@@ -1,5 +1,4 @@
 //! What the programs of rows print: trees, entries and declarations in prefix form, on one line.
-//! It depends on tasks; those programs alone depend on it.
 #![tactic(auto)]
 
 mod declarations;

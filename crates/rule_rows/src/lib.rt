@@ -1,5 +1,7 @@
-//! The table of rules: what a rule asks of its places and trees, and what its premises add, told without making a tree.
-//! It depends on tasks, typing and the linear leaf; here are the rows of connectives, quantifiers and equality.
+//! The table of the 39 rules; shapes of what premises add, told without making trees; the rows of connectives, quantifiers
+//! and equality.
+//!
+//! Contract: each row exactly.
 #![tactic(auto)]
 
 mod apart;

@@ -1,6 +1,7 @@
-//! The rules of the calculus as step files write them: each rule's word, the kinds of its arguments, and the rule that
-//! a word and arguments say.
-//! It depends on the rules and the tables of words.
+//! The words of the 39 rules with the kinds of their arguments, as step files write them; the rule of a name and arguments,
+//! and what a rule is written as.
+//!
+//! Contract: exactly the rule of a word and arguments; a rule's word and what it is written as are read back as that rule.
 #![tactic(auto)]
 
 mod argument;

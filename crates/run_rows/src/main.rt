@@ -1,5 +1,4 @@
 //! Runs the whole program over the files of each line, and prints the code of the status and what both sinks gained.
-//! It depends on the program; its input and output are by `tools/run-rows`.
 #![tactic(auto)]
 
 mod answers;

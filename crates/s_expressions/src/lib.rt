@@ -1,5 +1,6 @@
-//! S-expressions, as SMT-LIB has them, and their texts: laws over the definitions alone.
-//! It needs nothing.
+//! S-expressions as SMT-LIB has them, and laws of their texts; no code.
+//!
+//! Contract: definitions and laws: a text is that of one expression at most, and lines those of one list.
 #![tactic(auto)]
 
 ghost use Rattle.s_expressions.specs.Laws.{LawOfExpressions, LawOfLines};

@@ -1,9 +1,8 @@
-//! The side conditions of declarations: exhaustive matches, and then the checks of declarations.
-//! They depend on the cover of patterns and the checks of declarations; the theories of a source depend on them.
+//! The side conditions of a declaration: each match takes all values, and then the checks of declarations.
+//!
+//! Contract: the first match that is open, or else the first fault of the declarations, and none where there is none.
 #![tactic(auto)]
 
 mod sides;
 
-pub use decl_checks::CheckFault;
-pub use match_cover::{ValueShape, cover};
 pub use sides::{SideFault, check_sides};

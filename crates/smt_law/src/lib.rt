@@ -1,5 +1,6 @@
-//! The law of texts: what a text in SMT-LIB tells of its problem.
-//! It needs the texts of problems, S-expressions and the reading of drivers; nothing needs it.
+//! The law of texts: what a text in SMT-LIB tells of its problem, where the templates of the driver are plain; no code.
+//!
+//! Contract: definitions and the law.
 #![tactic(auto)]
 
 ghost use Rattle.smt_law.specs.Law.{LawOfTexts, NamesAreSpelt, ScopedNamesAreSpelt};

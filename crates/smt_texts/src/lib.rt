@@ -1,5 +1,6 @@
-//! Problems as text in the syntax of SMT-LIB 2.6.
-//! It needs the problems and the texts of terms; the program puts its texts together.
+//! The problems of whole tasks as SMT-LIB 2.6 text.
+//!
+//! Contract: exactly the text of a problem.
 #![tactic(auto)]
 
 mod lines;

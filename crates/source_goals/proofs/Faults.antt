@@ -1,9 +1,9 @@
 -- What a refusal of a step says, at the fault that is told.
 use Rattle.std.proofs.Common.{◌≡◌, ◌≢◌, ◌↔◌, ℕ, List, Result, Err, refl, subst}
 use Rattle.tasks.specs.trees.Tree.{Tree}
-use Rattle.tokens_why.specs.Tokens.{LexicalAt, BigLiteralAt, UnlessMemory}
-use Rattle.tokens_why.specs.declared.fault.LexFault.{LexFault}
-use Rattle.tokens_why.specs.declared.fault.LexFault.TheVariants.{Lexical, BigLiteral}
+use Rattle.syntax_why.specs.tokens_why.Tokens.{LexicalAt, BigLiteralAt, UnlessMemory}
+use Rattle.syntax_why.specs.tokens_why.declared.fault.LexFault.{LexFault}
+use Rattle.syntax_why.specs.tokens_why.declared.fault.LexFault.TheVariants.{Lexical, BigLiteral}
 use Rattle.syntax_why.specs.Declarations.{SyntaxTheory}
 use Rattle.theories.specs.theory_states.declared.fault.SourceFault.{SourceFault}
 use Rattle.theories.specs.theory_states.declared.fault.SourceFault.TheVariants as of_source

@@ -1,18 +1,18 @@
 -- A source has its theories and a goal its task, or one fault that is first, where the theories of each file are determined.
 use Rattle.std.proofs.Common.{◌≡◌, ◌≢◌, ◌<◌, ◌++◌, ◌∷◌, [], ◌∙◌, ℕ, List, Option, Ok, Err, refl, sym, ap, subst, arith, append_assoc, append-nil}
 use Rattle.fault_order.specs.outside.State.{Files}
-use Rattle.tokens_why.specs.declared.terminal.Terminal.{Terminal}
-use Rattle.tokens_why.specs.declared.token.Token.{Token}
-use Rattle.tokens_why.specs.Tokens.{Reads, AreTokens}
-use Rattle.tokens_why.specs.Tokens as text
-use Rattle.tokens_why.proofs.TurnLemmas.{Turn, first, turn, Reading, stopped}
+use Rattle.syntax_why.specs.tokens_why.declared.terminal.Terminal.{Terminal}
+use Rattle.syntax_why.specs.tokens_why.declared.token.Token.{Token}
+use Rattle.syntax_why.specs.tokens_why.Tokens.{Reads, AreTokens}
+use Rattle.syntax_why.specs.tokens_why.Tokens as text
+use Rattle.syntax_why.proofs.tokens_why.TurnLemmas.{Turn, first, turn, Reading, stopped}
 use Rattle.syntax_why.specs.Lexeme.{rest, terminals}
 use Rattle.syntax_why.specs.Declarations.{SyntaxTheory, write_file}
 use Rattle.syntax_why.specs.DeclarationRules.{IsLevelFile}
-use Rattle.std_theories.specs.reading.Sentences.{IsOf}
-use Rattle.std_theories.specs.recognise_why.Depth.{IsTooDeep, IsShallow}
-use Rattle.std_theories.specs.recognise_why.Sources.{IsProgramDecl}
-use Rattle.std_theories.proofs.recognise_why.OneFault.{one_least}
+use Rattle.parse_decls.specs.reading.Sentences.{IsOf}
+use Rattle.parse_decls.specs.recognise_why.Depth.{IsTooDeep, IsShallow}
+use Rattle.parse_decls.specs.recognise_why.Sources.{IsProgramDecl}
+use Rattle.parse_decls.proofs.recognise_why.OneFault.{one_least}
 use Rattle.fault_order.specs.declared.faults.Fault.TheVariants.{Lexical, BigLiteral, Syntax, TooDeep, ProgramDecl}
 use Rattle.fault_order.specs.Order.{RunStop, refused, misused, Answer, HasOneAnswer, fetched, if_short, ShortFile}
 use Rattle.source_goals.specs.Order.{HasNoTokens, Lexes, IsNoFile, Parses, Declares, AreDetermined, FileTheories, SourceTheories, SourceTheoriesOf, TaskOf, Goal}

@@ -1,3 +1,4 @@
+pub use Rattle.theories.specs as theories
 pub mod Known
 pub mod Order
 pub mod Sources

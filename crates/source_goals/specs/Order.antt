@@ -4,12 +4,12 @@ use Rattle.std.specs.Prelude.{◌≡◌, ℕ, List, Option, Some, None, Result, 
 use Rattle.tasks.specs.trees.Tree.{Tree}
 use Rattle.tasks.specs.Task.{TaskTree}
 use Rattle.tasks.specs.declared.signature.SymbolInfo.{SymbolInfo}
-use Rattle.tokens_why.specs.declared.token.Token.{Token}
-use Rattle.tokens_why.specs.Tokens.{AreTokens, LexicalAt, BigLiteralAt}
+use Rattle.syntax_why.specs.tokens_why.declared.token.Token.{Token}
+use Rattle.syntax_why.specs.tokens_why.Tokens.{AreTokens, LexicalAt, BigLiteralAt}
 use Rattle.syntax_why.specs.Lexeme.{Lexeme, rest, terminals}
 use Rattle.syntax_why.specs.Declarations.{SyntaxTheory}
-use Rattle.std_theories.specs.recognise_why.Depth.{IsTooDeep, IsShallow}
-use Rattle.std_theories.specs.recognise_why.Sources.{IsFileFault, IsOnlyFile, IsProgramDecl}
+use Rattle.parse_decls.specs.recognise_why.Depth.{IsTooDeep, IsShallow}
+use Rattle.parse_decls.specs.recognise_why.Sources.{IsFileFault, IsOnlyFile, IsProgramDecl}
 use Rattle.driver_files.specs.driver_items.Symbols.{NamedTheories as NamedTheories}
 use Rattle.driver_files.specs.driver_parts.declared.driver.Driver.{Driver}
 use Rattle.driver_files.specs.driver_parts.declared.fault.DriverFault.TheVariants as driver_fault

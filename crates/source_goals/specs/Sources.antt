@@ -2,11 +2,11 @@
 use Rattle.std.specs.Prelude.{ℕ, List}
 use Rattle.tasks.specs.trees.Tree.{Tree}
 use Rattle.tasks.specs.Task.{TaskTree}
-use Rattle.tokens_why.specs.declared.token.Token.{Token}
-use Rattle.tokens_why.specs.Tokens.{AreTokens}
+use Rattle.syntax_why.specs.tokens_why.declared.token.Token.{Token}
+use Rattle.syntax_why.specs.tokens_why.Tokens.{AreTokens}
 use Rattle.syntax_why.specs.Lexeme.{rest}
 use Rattle.syntax_why.specs.Declarations.{SyntaxTheory}
-use Rattle.std_theories.specs.recognise_why.Sources.{IsOnlyFile}
+use Rattle.parse_decls.specs.recognise_why.Sources.{IsOnlyFile}
 use Rattle.theories.specs.goal_tasks.Theories.{TheoriesTree}
 use Rattle.theories.specs.goal_tasks.Tasks.{IsTaskOf}
 use Rattle.theories.specs.Sound.{SoundTheoriesOf}

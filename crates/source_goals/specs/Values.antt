@@ -5,7 +5,7 @@ use Rattle.tasks.specs.trees.Tree.{Tree}
 use Rattle.tasks.specs.declared.task.Task.{Task}
 use Rattle.tasks.specs.Task.{TaskTree}
 use Rattle.tasks.specs.Meaning.{task_at}
-use Rattle.tokens_why.specs.declared.token.Token.{Token}
+use Rattle.syntax_why.specs.tokens_why.declared.token.Token.{Token}
 use Rattle.syntax_why.specs.declared.declarations.File.{File}
 use Rattle.syntax_why.specs.Declarations.{SyntaxTheory as Surface}
 use Rattle.syntax_why.specs.SurfaceDeclarations.{file_of}

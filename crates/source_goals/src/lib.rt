@@ -1,5 +1,7 @@
-//! A goal of a source: from the words of a call to the goal's task, and to the driver that it goes through.
-//! It depends on the readers of sources and drivers and on the typing of theories; the commands depend on it.
+//! A goal of a source by the words of a call: the source is fetched, read and typed, its driver is read, and the goal's
+//! task is made.
+//!
+//! Contract: exactly the goal's task and its driver, or the first thing that is in the way, in the order of faults.
 #![tactic(auto)]
 
 mod driver;

@@ -2,10 +2,10 @@
 // The task of a goal is made from them.
 ghost use Rattle.std.specs.Prelude.{◌≡◌, IfOk};
 ghost use Rattle.tasks.specs.Meaning.{symbols_at};
-ghost use Rattle.tokens_why.specs.Tokens.{AreTokens};
+ghost use Rattle.syntax_why.specs.tokens_why.Tokens.{AreTokens};
 ghost use Rattle.syntax_why.specs.Lexeme.{rest};
 ghost use Rattle.syntax_why.specs.SurfaceDeclarations.{file_of};
-ghost use Rattle.std_theories.specs.recognise_why.Sources.{IsOnlyFile};
+ghost use Rattle.parse_decls.specs.recognise_why.Sources.{IsOnlyFile};
 ghost use Rattle.theories.specs.goal_tasks.Meaning.{theories_at, AllTheoriesHeld, AreTuples};
 ghost use Rattle.theories.specs.Sound.{SoundTheoriesOf};
 ghost use Rattle.fault_order.specs.Answers.{IsStageAnswer};
@@ -14,12 +14,12 @@ ghost use Rattle.source_goals.specs.Sources.{AreSourceTheories};
 ghost use Rattle.source_goals.specs.Values.{tokens_in, file_in, theories_in, source_fault};
 
 use fault_order::{Fault, RunFault};
+use parse_decls::{SyntaxFault, parse};
 use std::alloc::Global;
-use std_theories::{SyntaxFault, drop_file, parse};
-use syntax_why::File;
+use std_theories::drop_file;
+use syntax_why::{File, LexFault, Token, lex};
 use tasks::Store;
 use theories::{SourceFault, Theories, type_file};
-use tokens_why::{LexFault, Token, lex};
 
 // The tokens of a text.
 fn tokens_of(alloc: Global, text: &[u8]) -> Result<Vec<Token>, RunFault>

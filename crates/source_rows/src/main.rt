@@ -1,7 +1,5 @@
-//! Reads sources, one a line, and says of each that it is right, its first fault, the task of a goal of it, or what the last
-//! declaration of its first theory becomes.
-//! It depends on the typing of sources, on elaboration and on the side conditions; its input and output are by
-//! `tools/source-rows`.
+//! Reads sources, one a line, and says of each that it is right, its first fault, the task of a goal of it, or what the
+//! last declaration of its first theory becomes.
 #![tactic(auto)]
 
 mod answers;

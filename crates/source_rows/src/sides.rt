@@ -2,15 +2,16 @@
 ghost use Rattle.std.specs.Prelude.{◌∷◌, [], All, IsTrue, IfSome};
 ghost use Rattle.tasks.specs.trees.Node.{Holds, tree_at};
 ghost use Rattle.tasks.specs.Meaning.{symbols_at, trees_at, SymbolHeld, DeclHeld};
-ghost use Rattle.side_conditions.specs.match_cover.Shapes.{IsPattern, HaveType};
+ghost use Rattle.theories.specs.match_cover.Shapes.{IsPattern, HaveType};
 ghost use Rattle.side_conditions.specs.Sides.{IsMatch};
 
 use elab_parts::MatchAt;
 use elab_terms::Elaborated;
 use row_texts::put_numbered;
-use side_conditions::{CheckFault, SideFault, ValueShape, check_sides, cover};
+use side_conditions::{SideFault, check_sides};
 use std::alloc::{AllocError, Global};
 use tasks::{Signature, Sort, Store, TermId};
+use theories::{CheckFault, ValueShape, cover};
 use typing::{Vocabulary, is_typed_over};
 
 // Whether a tree is a well-typed pattern of a type.

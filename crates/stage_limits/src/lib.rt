@@ -1,5 +1,6 @@
 //! How large the tasks of a stage may be, told by the sizes and heights that the store keeps.
-//! It depends on the laws of transformations; the transformations answer by it.
+//!
+//! Contract: the tasks, or `TooLarge` exactly where they are above a bound.
 #![tactic(auto)]
 
 mod heights;

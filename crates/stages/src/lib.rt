@@ -1,5 +1,7 @@
-//! Tasks carried through the stages of a driver, and refutations of what they become brought back to a derivation.
-//! It depends on the drivers and on the transformations that are built; the program depends on it.
+//! The stages of a driver, tasks carried through them, and refutations brought back through all of them.
+//!
+//! Contract: exactly the tasks of the equations, or the first refusal by its stage; a derivation of the task with the
+//! sequents of the refutations.
 #![tactic(auto)]
 
 mod carrying;

@@ -1,5 +1,6 @@
-//! How a run begins and ends: the shape of its words, its status with the line and the code, what is put on the sinks.
-//! It depends on the order of faults; the top call depends on it.
+//! The shape of the words, the statuses with their lines and codes, what is put on the sinks.
+//!
+//! Contract: exactly the command of the words; what a text or a line does to a sink, and the status after it.
 #![tactic(auto)]
 
 mod lines;

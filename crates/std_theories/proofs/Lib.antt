@@ -1,4 +1,3 @@
-pub use Rattle.recognise_why.proofs as recognise_why
 pub mod Files
 pub mod Readings
 pub mod Cut

@@ -1,3 +1,2 @@
-pub use Rattle.recognise_why.specs.reading as reading
 pub use Rattle.recognise_why.specs as recognise_why
 pub mod Library

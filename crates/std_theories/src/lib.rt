@@ -1,9 +1,11 @@
-//! The embedded library: the surface trees of nine theories, which every source may use.
-//! It depends on the reader of sources.
+//! The embedded library: the surface trees of nine theories, read from their texts, each of which is a source by
+//! computation.
+//!
+//! Contract: the one file of each text, with its places, in order.
 #![tactic(auto)]
 
 mod library;
 mod texts;
 
 pub use library::{drop_file, drop_files, library_files, texts_are_sources};
-pub use parse_decls::{SyntaxFault, parse};
+pub use parse_decls::parse;

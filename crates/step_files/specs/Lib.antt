@@ -1,3 +1,4 @@
+pub use Rattle.name_entries.specs as name_entries
 pub mod Words
 pub mod Lines
 pub mod Marks

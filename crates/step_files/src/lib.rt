@@ -1,5 +1,6 @@
-//! Step files read: refutations and derivations as lines of text.
-//! It depends on the lines of steps and on the kernel.
+//! Files of steps with all lines and rules, read.
+//!
+//! Contract: the steps of a file, or its first wrong line.
 #![tactic(auto)]
 
 mod fault;
@@ -12,3 +13,4 @@ mod words;
 
 pub use fault::ReadFault;
 pub use feeding::StepReader;
+pub use name_entries::{NameEntry, NameOf};

@@ -1,5 +1,6 @@
-//! The lines of step files: what each makes, over the lines before it and the names of a table.
-//! It depends on the lines of trees and the words of rules.
+//! What a line of a step file makes, steps with all 39 rules among them.
+//!
+//! Contract: exactly the step of a line; of a line that makes a tree what `tree_lines` says.
 #![tactic(auto)]
 
 mod arguments;
@@ -10,5 +11,4 @@ mod words;
 
 pub use integer_words::{integer, integer_word};
 pub use line::made_by_line;
-pub use rule_words::{Argument, word_of, written_rule};
 pub use thing::MadeThing;

@@ -12,10 +12,10 @@ use crate::read::{Read, keep};
 use row_texts::{put_number, put_tree, put_trees};
 use rule_rows::{Rule, Step};
 use std::alloc::{AllocError, Global};
-use step_lines::{Argument, MadeThing, integer_word, made_by_line, word_of, written_rule};
+use step_lines::{MadeThing, integer_word, made_by_line};
 use tasks::{Store, Task};
 use tree_lines::{EarlierLines, TableNames};
-use written_files::{NameEntry, right_step};
+use written_files::{Argument, NameEntry, right_step, word_of, written_rule};
 
 // An argument of a rule: the letter of its kind, and its number or its tree.
 fn put_argument(

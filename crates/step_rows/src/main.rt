@@ -1,6 +1,5 @@
-//! Reads blocks of lines, a theory and lines of a step file each, and says of each line what it makes and of each step whether
-//! it is right; or of whole files whether they are read, and written as what is read. It depends on the reader, on elaboration,
-//! on the lines of steps, on the kernel, and on the reader and the writer of step files.
+//! Reads blocks of lines, a theory and lines of a step file each, and says of each line what it makes and of each step
+//! whether it is right; or of whole files whether they are read, and written as what is read.
 #![tactic(auto)]
 
 mod answers;

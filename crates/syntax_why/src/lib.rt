@@ -1,4 +1,7 @@
-//! The surface trees of Why3 sources, their makers, and which tokens a tree writes.
+//! The surface trees of sources, with the places of their tokens; their makers; the plain trees that contracts speak of,
+//! which carry the same places; which tokens a tree writes, the level rule, which trees are placed.
+//!
+//! Contract: a maker makes the placed tree of its parts.
 #![tactic(auto)]
 
 mod declarations;
@@ -15,5 +18,5 @@ pub use declarations::{
 pub use expressions::{BinderTree, BranchTree, Expr, ExprNode, TriggerTree};
 pub use names::{At, Name, OpName, Path, QName, Style};
 pub use patterns::{Pat, PatNode};
-pub use tokens_why::lex;
+pub use tokens_why::{LexFault, Token, lex};
 pub use types::{TypeNode, TypeTree};

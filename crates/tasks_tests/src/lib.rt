@@ -1,6 +1,5 @@
-//! Tests of tasks: what is well typed over one, row by row, each with a twin that is wrong in one place; what a task declares,
-//! with an index and without; its start, its nodes and its facts.
-//! It depends on tasks and typing; nothing depends on it.
+//! Tests of tasks: what is well typed over one, row by row, each with a twin that is wrong in one place; what a task
+//! declares, with an index and without; its start, its nodes and its facts.
 #![tactic(auto)]
 
 #[cfg(test)]

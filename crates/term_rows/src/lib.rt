@@ -1,5 +1,6 @@
-//! The rows of terms of algebraic types: `matchdef`, `case`, `distinct`, `inject` and `project`.
-//! They depend on the table of rules and read a task through its look-up; the checker of a step depends on them.
+//! The rows of terms of algebraic types: `matchdef`, `case`, `distinct`, `inject`, `project`.
+//!
+//! Contract: each row exactly.
 #![tactic(auto)]
 
 mod asked;

@@ -1,10 +1,10 @@
 -- A sound state stays sound where a theory is cloned.
 use Rattle.std.proofs.Common.{◌≡◌, ◌⊎◌, inl, inr, ℕ, ◌<◌, ◌==◌, if◌then◌else◌, suc, Bool, true, false, List, [], ◌∷◌, ◌++◌, map, length, slice_get, All, Contains, Option, Some, None, option_to_list, refl, sym, ap, subst, ◌∙◌, arith, append_assoc}
 use Rattle.std.proofs.lemmas.List.Elements.{All-head, All-tail, All-contains}
-use Rattle.elab_parts.specs.trees.Tree.{Tree}
-use Rattle.elab_parts.specs.trees.Node.{Grows}
-use Rattle.elab_parts.specs.tasks.Task.{SymbolTree, BodyTree, MakesType, Makes, Defines, Induces, Constructs, Says, DeclarationTree}
-use Rattle.elab_parts.specs.tasks.Rigid.{rigid_symbol}
+use Rattle.tasks.specs.trees.Tree.{Tree}
+use Rattle.tasks.specs.trees.Node.{Grows}
+use Rattle.tasks.specs.Task.{SymbolTree, BodyTree, MakesType, Makes, Defines, Induces, Constructs, Says, DeclarationTree}
+use Rattle.tasks.specs.Rigid.{rigid_symbol}
 use Rattle.valid_tasks.specs.clones.Mapped.{Map}
 use Rattle.syntax_why.specs.Lexeme.{Word}
 use Rattle.syntax_why.specs.declared.names.Name.{Name}
@@ -13,7 +13,7 @@ use Rattle.syntax_why.specs.declared.declarations.Link.{Link}
 use Rattle.syntax_why.specs.Declarations.{Element}
 use Rattle.theory_states.specs.declared.moves.Move.{Move}
 use Rattle.theory_states.specs.Moves.{brought, handed}
-use Rattle.elab_parts.specs.elab_walk.Scoped.{IsScopedEntry}
+use Rattle.valid_tasks.specs.elab_walk.Scoped.{IsScopedEntry}
 use Rattle.valid_tasks.specs.Scopes.{IsSubvocabulary}
 use Rattle.valid_tasks.specs.Moves.{AreTypedMoves}
 use Rattle.valid_tasks.proofs.MovedScopes.{moves_more}
@@ -49,9 +49,9 @@ use Rattle.theories.proofs.Plain.{handed_plain, moves_mapped, known_more, opened
 use Rattle.theories.proofs.Goals.{IsSaidAt, IsReached, all_reached, built, scoped, is_clone}
 use Rattle.std.proofs.lemmas.Option.{slice_get-get_or as some_at}
 use Rattle.valid_tasks.proofs.Numbers.{later}
-use Rattle.elab_parts.proofs.plain_laws.Lists.{All-left as front_all}
+use Rattle.tasks.proofs.plain_laws.Lists.{All-left as front_all}
 use Rattle.valid_tasks.proofs.Scoped.{found_in}
-use Rattle.elab_parts.proofs.plain_laws.Bools.{same_number}
+use Rattle.tasks.proofs.plain_laws.Bools.{same_number}
 
 -- ---- lists
 count_places : (ds : List DeclarationTree) (ks : List ℕ) → All (λ (k : ℕ). k < length ds) ks → length (at_places ds ks) ≡ length ks

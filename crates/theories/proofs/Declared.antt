@@ -2,20 +2,20 @@
 use Rattle.std.proofs.Common.{ℕ, List, [], ◌∷◌, length, All, Option, Some, None, sym, subst}
 use Rattle.std.specs.Option.{IfSome}
 use Rattle.std.proofs.lemmas.List.Elements.{All-append, All-push}
-use Rattle.elab_parts.specs.tasks.Task.{DeclarationTree}
+use Rattle.tasks.specs.Task.{DeclarationTree}
 use Rattle.syntax_why.specs.Lexeme.{Word}
 use Rattle.syntax_why.specs.Declarations.{write_decl}
 use Rattle.syntax_why.specs.Declarations as source
 use Rattle.syntax_why.specs.declared.declarations.PropKind.{PropKind}
 use Rattle.syntax_why.specs.declared.declarations.PropKind.TheVariants as kind
-use Rattle.elab_parts.specs.elab_names.Abstract.{Expression}
-use Rattle.elab_parts.specs.Declarations.{Declaration, declaration}
+use Rattle.valid_tasks.specs.elab_names.Abstract.{Expression}
+use Rattle.valid_tasks.specs.elab_parts.Declarations.{Declaration, declaration}
 use Rattle.valid_tasks.specs.elab_terms.Outcomes.{proposition_seen}
 use Rattle.theory_states.specs.declared.states.AxiomAt.{AxiomAt}
 use Rattle.theory_states.specs.States.{StateTree, with_declaration, with_declarations}
 use Rattle.valid_tasks.specs.TypedStates.{state_setting}
 use Rattle.theory_declarations.specs.Declared.{with_proposed, proposition_in, known_by, with_named, IsDeclared}
-use Rattle.elab_parts.specs.tasks.Words.{IsScopedName}
+use Rattle.tasks.specs.Words.{IsScopedName}
 use Rattle.theories.specs.Lexemes.{AreWordLexemes}
 use Rattle.theories.specs.Names.{HasWordNames}
 use Rattle.theories.proofs.Tuples.{HasWord}

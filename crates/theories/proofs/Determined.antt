@@ -1,15 +1,15 @@
 -- The elaboration of a declaration is determined by where it is, up to the numbers of aliases.
 use Rattle.std.proofs.Common.{◌≡◌, ◌≢◌, ℕ, List, Option, None, sym, ap, subst, ◌∙◌}
-use Rattle.elab_parts.specs.trees.Tree.{Tree}
-use Rattle.elab_parts.specs.trees.Node.{Grows}
-use Rattle.elab_parts.specs.tasks.Task.{SymbolTree}
+use Rattle.tasks.specs.trees.Tree.{Tree}
+use Rattle.tasks.specs.trees.Node.{Grows}
+use Rattle.tasks.specs.Task.{SymbolTree}
 use Rattle.syntax_why.specs.Lexeme.{Word}
-use Rattle.elab_parts.specs.elab_names.declared.NamingFault.{NamingFault}
-use Rattle.elab_parts.specs.elab_walk.Patterns.{Notes}
-use Rattle.elab_parts.specs.declared.ElabFault.{ElabFault}
-use Rattle.elab_parts.specs.declared.ElabFault.TheVariants as elab
-use Rattle.elab_parts.specs.Declarations.{Declaration}
-use Rattle.elab_parts.specs.Outcomes.{Setting, Outcome, IsRefusalFor}
+use Rattle.valid_tasks.specs.elab_names.declared.NamingFault.{NamingFault}
+use Rattle.valid_tasks.specs.elab_walk.Patterns.{Notes}
+use Rattle.valid_tasks.specs.elab_parts.declared.ElabFault.{ElabFault}
+use Rattle.valid_tasks.specs.elab_parts.declared.ElabFault.TheVariants as elab
+use Rattle.valid_tasks.specs.elab_parts.Declarations.{Declaration}
+use Rattle.valid_tasks.specs.elab_parts.Outcomes.{Setting, Outcome, IsRefusalFor}
 use Rattle.valid_tasks.specs.elab_terms.Outcomes.{IsOutcome, names_fault, notes_of, rigid_of, IsRefusal}
 use Rattle.theories.specs.OutcomeSame.{IsSameSetting, IsSameOutcome}
 use Rattle.theories.proofs.Settings.{other_place, names_are_same, notes_same, rigid_same}

@@ -3,10 +3,10 @@
 use Rattle.std.proofs.Common.{◌≡◌, ◌⊎◌, inl, inr, ℕ, ◌==◌, ◌&&◌, ◌||◌, not, if◌then◌else◌, Bool, true, false, List, [], ◌∷◌, ◌++◌, length, Contains, All, Option, Some, None, refl, sym, ap, subst, ◌∙◌}
 use Rattle.std.specs.Option.{is_some, is_none}
 use Rattle.std.proofs.lemmas.List.Elements.{All-head, All-tail, Contains-append_left, Contains-append_right, Contains-append_cases}
-use Rattle.elab_parts.specs.trees.Tree.{Tree}
-use Rattle.elab_parts.specs.tasks.Task.{SymbolTree, symbol_or, MakesType, Makes}
-use Rattle.elab_parts.specs.tasks.Vocabulary.{Vocabulary}
-use Rattle.elab_parts.specs.tasks.Valid.{IsTypeIn}
+use Rattle.tasks.specs.trees.Tree.{Tree}
+use Rattle.tasks.specs.Task.{SymbolTree, symbol_or, MakesType, Makes}
+use Rattle.tasks.specs.Vocabulary.{Vocabulary}
+use Rattle.tasks.specs.Valid.{IsTypeIn}
 use Rattle.valid_tasks.specs.clones.Mapped.{Map}
 use Rattle.syntax_why.specs.declared.declarations.SymbolWord.{SymbolWord}
 use Rattle.syntax_why.specs.declared.declarations.PropKind.{PropKind}
@@ -21,9 +21,9 @@ use Rattle.valid_tasks.specs.clone_elements.Elements.{has_vars, is_wrong, is_kin
 use Rattle.valid_tasks.specs.Sides.{IsTypedRight, IsTypedSide}
 use Rattle.theories.proofs.Lefts.{IsKindOf, IsLeftType, IsLeftSymbol, IsLeft, IsFormed, IsRead}
 use Rattle.std.proofs.lemmas.Bool.{or_parts as right_both}
-use Rattle.elab_parts.proofs.elab_walk.Walking.{not_not as not_false}
+use Rattle.valid_tasks.proofs.elab_walk.Walking.{not_not as not_false}
 use Rattle.valid_tasks.proofs.Mapped.{only_here}
-use Rattle.elab_parts.proofs.plain_laws.Bools.{same_number}
+use Rattle.tasks.proofs.plain_laws.Bools.{same_number}
 use Rattle.valid_tasks.proofs.Widths.{same_width as itself}
 
 pub is_replaced_as : (o : Option Fate) → is_replaced o ≡ true → o ≡ Some Replaced

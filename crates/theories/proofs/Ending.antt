@@ -4,25 +4,25 @@ use Rattle.std.specs.Prelude.{option_to_list}
 use Rattle.std.specs.List.{AllByRecursion}
 use Rattle.std.proofs.lemmas.List.{map-append}
 use Rattle.std.proofs.lemmas.List.Elements.{All-nil, All-push, All-from_recursion}
-use Rattle.elab_parts.specs.trees.Tree.{Tree}
-use Rattle.elab_parts.specs.tasks.declared.declaration.Decl.{Decl}
-use Rattle.elab_parts.specs.tasks.Task.{SymbolTree, DeclarationTree, int_symbol}
-use Rattle.elab_parts.specs.tasks.Vocabulary.{of_signature}
-use Rattle.elab_parts.specs.names_space.Names.{empty_names}
-use Rattle.elab_parts.specs.Entries.{IsSignature}
-use Rattle.elab_parts.specs.Outcomes.{Setting}
+use Rattle.tasks.specs.trees.Tree.{Tree}
+use Rattle.tasks.specs.declared.declaration.Decl.{Decl}
+use Rattle.tasks.specs.Task.{SymbolTree, DeclarationTree, int_symbol}
+use Rattle.tasks.specs.Vocabulary.{of_signature}
+use Rattle.valid_tasks.specs.names_space.Names.{empty_names}
+use Rattle.valid_tasks.specs.elab_parts.Entries.{IsSignature}
+use Rattle.valid_tasks.specs.elab_parts.Outcomes.{Setting}
 use Rattle.valid_tasks.proofs.Begin.{begins}
 use Rattle.valid_tasks.proofs.TaskOutcomes.{begins as begins_built}
 use Rattle.valid_tasks.specs.Moves.{AreTypedMoves}
-use Rattle.elab_parts.specs.tasks.Meaning.{symbols_at, declaration_at, declarations_at, SymbolHeld, DeclHeld}
-use Rattle.elab_parts.specs.trees.declared.TermId.{TermId}
-use Rattle.elab_parts.specs.trees.Node.{Holds}
-use Rattle.elab_parts.specs.tasks.declared.signature.SymbolInfo.{SymbolInfo}
-use Rattle.elab_parts.specs.elab_walk.Drafts.{HoldsType, SymbolTyped}
-use Rattle.theory_states.specs.goal_tasks.Theories.{KnownTheoryTree, TheoriesTree}
-use Rattle.theory_states.specs.goal_tasks.declared.theories.Theory.{Theory}
-use Rattle.elab_parts.specs.tasks.declared.signature.Signature.{Signature}
-use Rattle.theory_states.specs.goal_tasks.Meaning.{placed, goal_at, theory_at, TheoryHeld}
+use Rattle.tasks.specs.Meaning.{symbols_at, declaration_at, declarations_at, SymbolHeld, DeclHeld}
+use Rattle.tasks.specs.trees.declared.TermId.{TermId}
+use Rattle.tasks.specs.trees.Node.{Holds}
+use Rattle.tasks.specs.declared.signature.SymbolInfo.{SymbolInfo}
+use Rattle.valid_tasks.specs.elab_walk.Drafts.{HoldsType, SymbolTyped}
+use Rattle.valid_tasks.specs.goal_tasks.Theories.{KnownTheoryTree, TheoriesTree}
+use Rattle.valid_tasks.specs.goal_tasks.declared.theories.Theory.{Theory}
+use Rattle.tasks.specs.declared.signature.Signature.{Signature}
+use Rattle.valid_tasks.specs.goal_tasks.Meaning.{placed, goal_at, theory_at, TheoryHeld}
 use Rattle.theory_states.specs.declared.states.KnownTheory.{KnownTheory}
 use Rattle.theory_states.specs.declared.states.Opened.{Opened}
 use Rattle.theory_states.specs.declared.states.Typed.{Typed}

@@ -1,15 +1,15 @@
 -- A declaration has one first fault of names and types, and none where it has an outcome.
 use Rattle.std.proofs.Common.{◌≡◌, ◌≢◌, ℕ, List, Option, None, refl, sym, ap, ◌∙◌, arith}
-use Rattle.elab_parts.specs.trees.Tree.{Tree}
-use Rattle.elab_parts.specs.elab_names.declared.NamingFault.{NamingFault}
-use Rattle.elab_parts.specs.elab_walk.Patterns.{Notes, no_notes}
-use Rattle.elab_parts.specs.declared.ElabFault.{ElabFault}
-use Rattle.elab_parts.specs.declared.ElabFault.TheVariants as elab
-use Rattle.elab_parts.specs.declared.solution.TypingFault.{TypingFault}
-use Rattle.elab_parts.specs.declared.solution.TypingFault.TheVariants as types
-use Rattle.elab_parts.specs.Elaborated.{IsTypingFault, elab_naming_fault, elab_typing_fault}
-use Rattle.elab_parts.specs.Declarations.{Declaration, abstract_type, alias, algebraic, member_group, inductive, proposition_declaration}
-use Rattle.elab_parts.specs.Outcomes.{Setting, Outcome, IsRefusalFor, wants_memory, of_names, of_types}
+use Rattle.tasks.specs.trees.Tree.{Tree}
+use Rattle.valid_tasks.specs.elab_names.declared.NamingFault.{NamingFault}
+use Rattle.valid_tasks.specs.elab_walk.Patterns.{Notes, no_notes}
+use Rattle.valid_tasks.specs.elab_parts.declared.ElabFault.{ElabFault}
+use Rattle.valid_tasks.specs.elab_parts.declared.ElabFault.TheVariants as elab
+use Rattle.valid_tasks.specs.elab_parts.declared.solution.TypingFault.{TypingFault}
+use Rattle.valid_tasks.specs.elab_parts.declared.solution.TypingFault.TheVariants as types
+use Rattle.valid_tasks.specs.elab_parts.Elaborated.{IsTypingFault, elab_naming_fault, elab_typing_fault}
+use Rattle.valid_tasks.specs.elab_parts.Declarations.{Declaration, abstract_type, alias, algebraic, member_group, inductive, proposition_declaration}
+use Rattle.valid_tasks.specs.elab_parts.Outcomes.{Setting, Outcome, IsRefusalFor, wants_memory, of_names, of_types}
 use Rattle.valid_tasks.specs.elab_terms.Outcomes.{IsOutcome, names_fault, notes_of, rigid_of, IsRefusal}
 use Rattle.theories.proofs.Solved.{one_typing_fault, fault_or}
 

@@ -1,10 +1,10 @@
 -- The same is found among names that mean the same.
 use Rattle.std.proofs.Common.{◌≡◌, ℕ, Bool, true, false, cond, ◌&&◌, List, [], ◌∷◌, get_or, Option, Some, None, refl, sym, ap, subst}
-use Rattle.elab_parts.specs.trees.Tree.{Tree}
-use Rattle.elab_parts.specs.names_space.Names.{ScopeNames, ScopeEntry, number_of, same_table, is_named, latest, is_declared, entries_of, innermost, first_or_zero, or_else, first_found, table_before, find_within, find_name}
-use Rattle.elab_parts.specs.names_space.declared.Table.{Table}
-use Rattle.elab_parts.specs.names_space.declared.TypeName.{TypeName}
-use Rattle.elab_parts.proofs.names_space.Listed.{same_table_is}
+use Rattle.tasks.specs.trees.Tree.{Tree}
+use Rattle.valid_tasks.specs.names_space.Names.{ScopeNames, ScopeEntry, number_of, same_table, is_named, latest, is_declared, entries_of, innermost, first_or_zero, or_else, first_found, table_before, find_within, find_name}
+use Rattle.valid_tasks.specs.names_space.declared.Table.{Table}
+use Rattle.valid_tasks.specs.names_space.declared.TypeName.{TypeName}
+use Rattle.valid_tasks.proofs.names_space.Listed.{same_table_is}
 use Rattle.theories.specs.Same.{AreEachAlike, IsSameThing, IsSameFound, IsSameEntry, AreSameNames}
 use Rattle.theories.proofs.AlikeLists.{alike_get}
 

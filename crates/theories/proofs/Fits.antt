@@ -4,20 +4,20 @@ use Rattle.std.proofs.Common.{◌≡◌, ◌≢◌, ◌⊎◌, inl, inr, ℕ, �
 use Rattle.std.specs.Str.{bytes_eq}
 use Rattle.std.proofs.lemmas.List.{get_or_append_left}
 use Rattle.std.proofs.lemmas.List.Elements.{All-nil, All-cons, All-contains, Contains-get_or}
-use Rattle.elab_parts.specs.trees.Tree.{Tree}
-use Rattle.elab_parts.specs.tasks.declared.signature.SymbolKind.TheVariants.{Kind}
-use Rattle.elab_parts.specs.tasks.Task.{SymbolTree, symbol_or, int_symbol, BodyTree, MakesType, Makes, Defines, Induces, Constructs, Says, DeclarationTree, made, made_by}
-use Rattle.elab_parts.specs.tasks.Roles.{is_constructor, role_in}
-use Rattle.elab_parts.specs.tasks.Vocabulary.{Vocabulary, of_signature}
-use Rattle.elab_parts.specs.tasks.Typing.{entry}
-use Rattle.elab_parts.specs.tasks.Valid.{IsTypeIn, HasTypes, IsTypeEntry, IsSignatureOf, IsValidBody, IsValidDecl}
+use Rattle.tasks.specs.trees.Tree.{Tree}
+use Rattle.tasks.specs.declared.signature.SymbolKind.TheVariants.{Kind}
+use Rattle.tasks.specs.Task.{SymbolTree, symbol_or, int_symbol, BodyTree, MakesType, Makes, Defines, Induces, Constructs, Says, DeclarationTree, made, made_by}
+use Rattle.tasks.specs.Roles.{is_constructor, role_in}
+use Rattle.tasks.specs.Vocabulary.{Vocabulary, of_signature}
+use Rattle.tasks.specs.Typing.{entry}
+use Rattle.tasks.specs.Valid.{IsTypeIn, HasTypes, IsTypeEntry, IsSignatureOf, IsValidBody, IsValidDecl}
 use Rattle.valid_tasks.specs.clones.Mapped.{Map}
 use Rattle.syntax_why.specs.Lexeme.{Word}
 use Rattle.syntax_why.specs.Declarations.{Element}
 use Rattle.syntax_why.specs.declared.declarations.PropKind.{PropKind}
 use Rattle.syntax_why.specs.declared.declarations.PropKind.TheVariants as kind
 use Rattle.valid_tasks.specs.clones.Copies.{entry_copied}
-use Rattle.elab_parts.specs.Entries.{builtin}
+use Rattle.valid_tasks.specs.elab_parts.Entries.{builtin}
 use Rattle.valid_tasks.specs.Scopes.{is_projection_kind, IsSubvocabulary, IsSymbolNumber}
 use Rattle.valid_tasks.proofs.Extended.{further}
 use Rattle.valid_tasks.specs.Valid.{IsTypedSetting}

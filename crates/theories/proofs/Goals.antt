@@ -3,20 +3,20 @@ use Rattle.std.proofs.Common.{◌≡◌, ℕ, ◌+◌, ◌<◌, if◌then◌else
 use Rattle.std.proofs.lemmas.List.Elements.{All-nil, All-cons, All-append, All-filter, All-map, All-contains, Contains-append_right}
 use Rattle.std.proofs.lemmas.List.{map-append}
 use Rattle.std.proofs.Math.Seq.{take-append_seam}
-use Rattle.elab_parts.specs.trees.Tree.{Tree}
-use Rattle.elab_parts.specs.trees.Facts.{TyVarsBelow}
-use Rattle.elab_parts.specs.trees.Binding.{inst_types}
-use Rattle.elab_parts.specs.tasks.Task.{SymbolTree, symbol_or, BodyTree, Says, DeclarationTree, made_by}
-use Rattle.elab_parts.specs.tasks.Rigid.{rigid_symbol}
-use Rattle.elab_parts.specs.tasks.Vocabulary.{of_signature}
-use Rattle.elab_parts.specs.tasks.Valid.{IsQuoted, IsFormulaOver, IsValidBody, IsValidDecl}
+use Rattle.tasks.specs.trees.Tree.{Tree}
+use Rattle.tasks.specs.trees.Facts.{TyVarsBelow}
+use Rattle.tasks.specs.trees.Binding.{inst_types}
+use Rattle.tasks.specs.Task.{SymbolTree, symbol_or, BodyTree, Says, DeclarationTree, made_by}
+use Rattle.tasks.specs.Rigid.{rigid_symbol}
+use Rattle.tasks.specs.Vocabulary.{of_signature}
+use Rattle.tasks.specs.Valid.{IsQuoted, IsFormulaOver, IsValidBody, IsValidDecl}
 use Rattle.valid_tasks.specs.clones.Mapped.{Map, mapped}
 use Rattle.syntax_why.specs.Lexeme.{Word}
 use Rattle.syntax_why.specs.Declarations.{Element}
 use Rattle.syntax_why.specs.declared.declarations.PropKind.{PropKind}
 use Rattle.syntax_why.specs.declared.declarations.PropKind.TheVariants as kind
 use Rattle.valid_tasks.specs.clones.Copies.{body_mapped, entry_copied}
-use Rattle.elab_parts.specs.elab_walk.Scoped.{IsScopedEntry}
+use Rattle.valid_tasks.specs.elab_walk.Scoped.{IsScopedEntry}
 use Rattle.valid_tasks.specs.elab_terms.Outcomes.{entry_numbers, rigid_types}
 use Rattle.valid_tasks.specs.Scopes.{IsTypedEntry}
 use Rattle.valid_tasks.specs.Lists.{after}
@@ -27,7 +27,7 @@ use Rattle.valid_tasks.specs.Tasks.{AreSound, IsSoundAfter}
 use Rattle.valid_tasks.proofs.Grown.{sound_more, behind_more, front_sound}
 use Rattle.valid_tasks.proofs.Kept.{IsOfSource, source_kept}
 use Rattle.valid_tasks.proofs.Trees.{formula_mapped}
-use Rattle.theory_states.specs.goal_tasks.Theories.{GoalTree}
+use Rattle.valid_tasks.specs.goal_tasks.Theories.{GoalTree}
 use Rattle.theory_states.specs.declared.states.AxiomAt.{AxiomAt}
 use Rattle.theory_states.specs.States.{KnownTree, StateTree, visible_in, visible_now, with_declaration}
 use Rattle.valid_tasks.specs.TypedStates.{state_setting, IsTypedState}
@@ -58,7 +58,7 @@ use Rattle.theories.proofs.KnownLists.{last_at, plain_more}
 use Rattle.theories.proofs.Steps.{step_is, steps_declarations, steps_taken, steps_both, right_after, made_both}
 use Rattle.theories.proofs.Fits.{says_nothing, source_sound, tupled_built, tupled_setting, keeps, steps_fit}
 use Rattle.valid_tasks.proofs.Further.{axiom_more as axiom_grown}
-use Rattle.elab_parts.proofs.plain_laws.Lists.{All-left as front_all}
+use Rattle.tasks.proofs.plain_laws.Lists.{All-left as front_all}
 
 -- ---- lists
 

@@ -1,16 +1,16 @@
 -- The entries that the declarations of int.Int give.
 use Rattle.std.proofs.Common.{ℕ, true, List, [], ◌∷◌, ◌++◌, map, codes, Some, None, refl}
-use Rattle.elab_parts.specs.trees.Tree.{Tree}
-use Rattle.elab_parts.specs.trees.Sorts.{int_type}
-use Rattle.elab_parts.specs.tasks.Task.{SymbolTree, int_symbol}
-use Rattle.elab_parts.specs.tasks.Valid.{int_function, int_predicate}
-use Rattle.elab_parts.specs.names_space.Names.{ScopeNames, with_entry, empty_names}
-use Rattle.elab_parts.specs.names_space.declared.Table.TheVariants.{Symbols}
+use Rattle.tasks.specs.trees.Tree.{Tree}
+use Rattle.tasks.specs.trees.Sorts.{int_type}
+use Rattle.tasks.specs.Task.{SymbolTree, int_symbol}
+use Rattle.tasks.specs.Valid.{int_function, int_predicate}
+use Rattle.valid_tasks.specs.names_space.Names.{ScopeNames, with_entry, empty_names}
+use Rattle.valid_tasks.specs.names_space.declared.Table.TheVariants.{Symbols}
 use Rattle.syntax_why.specs.tokens_why.declared.terminal.Terminal.TheVariants as t
 use Rattle.syntax_why.specs.Forms.{Called, called, infix_op, prefix_op, star}
 use Rattle.syntax_why.specs.Declarations.{ParamGroup, SyntaxDeclarations}
-use Rattle.elab_parts.specs.elab_names.Abstract.{type_expression}
-use Rattle.elab_parts.specs.Declarations.{GroupMember, symbol, parameter_of}
+use Rattle.valid_tasks.specs.elab_names.Abstract.{type_expression}
+use Rattle.valid_tasks.specs.elab_parts.Declarations.{GroupMember, symbol, parameter_of}
 use Rattle.std_theories.proofs.IntFile.{int_form, int_param, int_function as function_of, int_predicate as predicate_of, int_declarations}
 use Rattle.theory_states.specs.States.{StateTree}
 use Rattle.theories.specs.Typing.{AreDeclarationsTyped}

@@ -1,8 +1,8 @@
 -- What is typed only adds entries, so that those of int.Int stay where they are.
 use Rattle.std.proofs.Common.{◌≡◌, ℕ, zero, suc, Bool, true, false, if◌then◌else◌, List, [], ◌∷◌, ◌++◌, map, Option, Some, None, slice_get, sym, subst}
-use Rattle.elab_parts.specs.tasks.Task.{SymbolTree, BodyTree, MakesType, Makes, Defines, Induces, Constructs, Says, DeclarationTree}
-use Rattle.elab_parts.specs.tasks.Rigid.{rigid_symbol}
-use Rattle.elab_parts.specs.tasks.Valid.{AreInts}
+use Rattle.tasks.specs.Task.{SymbolTree, BodyTree, MakesType, Makes, Defines, Induces, Constructs, Says, DeclarationTree}
+use Rattle.tasks.specs.Rigid.{rigid_symbol}
+use Rattle.tasks.specs.Valid.{AreInts}
 use Rattle.syntax_why.specs.Lexeme.{Word}
 use Rattle.syntax_why.specs.Declarations.{Element, SyntaxDeclaration, SyntaxDeclarations, SyntaxTheory, use_decl, clone_decl, scope_decl, no_decls, more_decls}
 use Rattle.syntax_why.specs.declared.names.Name.{Name}
@@ -12,7 +12,7 @@ use Rattle.syntax_why.specs.declared.declarations.Link.{Link}
 use Rattle.syntax_why.specs.declared.declarations.PropKind.{PropKind}
 use Rattle.syntax_why.specs.declared.declarations.PropKind.TheVariants as kind
 use Rattle.syntax_why.specs.SurfaceDeclarations.{file_of}
-use Rattle.elab_parts.specs.elab_names.Abstract.{Expression}
+use Rattle.valid_tasks.specs.elab_names.Abstract.{Expression}
 use Rattle.valid_tasks.specs.elab_terms.Outcomes.{proposition_seen}
 use Rattle.theory_states.specs.States.{StateTree, with_declaration, with_declarations}
 use Rattle.theory_states.specs.Uses.{last_part, alias_text}

@@ -1,14 +1,14 @@
 -- The library's first theory is int.Int, so that its entries are the first ones after `int`.
 use Rattle.std.proofs.Common.{ℕ, List, [], ◌∷◌, codes, refl, sym, subst}
-use Rattle.elab_parts.specs.trees.Tree.{Tree}
-use Rattle.elab_parts.specs.tasks.Task.{SymbolTree}
-use Rattle.elab_parts.specs.tasks.Valid.{AreInts}
+use Rattle.tasks.specs.trees.Tree.{Tree}
+use Rattle.tasks.specs.Task.{SymbolTree}
+use Rattle.tasks.specs.Valid.{AreInts}
 use Rattle.syntax_why.specs.Declarations.{SyntaxDeclarations, SyntaxTheory}
 use Rattle.syntax_why.specs.declared.declarations.File.{File}
 use Rattle.syntax_why.specs.SurfaceDeclarations.{file_of}
 use Rattle.std_theories.specs.Library.{AreFilesOf, library}
 use Rattle.std_theories.proofs.IntFile.{IsIntTheory, IsIntFile, int_file}
-use Rattle.theory_states.specs.goal_tasks.Theories.{TheoriesTree}
+use Rattle.valid_tasks.specs.goal_tasks.Theories.{TheoriesTree}
 use Rattle.theory_states.specs.States.{StateTree}
 use Rattle.theories.specs.Ints.{int_entries}
 use Rattle.theories.specs.Typing.{AreDeclarationsTyped}

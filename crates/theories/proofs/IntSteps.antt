@@ -1,11 +1,11 @@
 -- A declaration of a function or predicate without a body gives its own entry, where the theory int.Int is typed.
 use Rattle.std.proofs.Common.{◌≡◌, ℕ, List, [], ◌∷◌, ◌++◌, codes, Some, None, sym, ap, subst, ◌∙◌}
-use Rattle.elab_parts.specs.trees.Tree.{Tree}
-use Rattle.elab_parts.specs.tasks.Task.{SymbolTree, DeclarationTree}
-use Rattle.elab_parts.specs.names_space.Names.{ScopeNames}
+use Rattle.tasks.specs.trees.Tree.{Tree}
+use Rattle.tasks.specs.Task.{SymbolTree, DeclarationTree}
+use Rattle.valid_tasks.specs.names_space.Names.{ScopeNames}
 use Rattle.syntax_why.specs.Declarations.{SyntaxDeclaration}
-use Rattle.elab_parts.specs.Declarations.{GroupMember, Declaration, member_group, declaration}
-use Rattle.elab_parts.specs.Outcomes.{Setting}
+use Rattle.valid_tasks.specs.elab_parts.Declarations.{GroupMember, Declaration, member_group, declaration}
+use Rattle.valid_tasks.specs.elab_parts.Outcomes.{Setting}
 use Rattle.valid_tasks.specs.elab_groups.Groups.{group_tuples, before_group, group_scope, IsGroup}
 use Rattle.valid_tasks.specs.elab_members.Members.{member_entries}
 use Rattle.valid_tasks.specs.elab_terms.Outcomes.{IsOutcome}

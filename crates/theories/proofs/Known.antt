@@ -1,7 +1,7 @@
 -- The theories that are known, and one that is used, where states are alike.
 use Rattle.std.proofs.Common.{◌≡◌, ℕ, Bool, true, false, cond, List, [], ◌∷◌, Option, Some, None, sym, ap, ap₂, subst, subst₂, ◌∙◌}
 use Rattle.std.specs.Str.{bytes_eq}
-use Rattle.elab_parts.specs.trees.Tree.{Tree}
+use Rattle.tasks.specs.trees.Tree.{Tree}
 use Rattle.theory_states.specs.Moves.{handed}
 use Rattle.syntax_why.specs.declared.names.Name.{Name}
 use Rattle.syntax_why.specs.declared.names.Path.{Path}

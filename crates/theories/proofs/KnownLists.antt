@@ -1,7 +1,7 @@
 -- Lists of declarations that grow, and a theory that is found by its path.
 use Rattle.std.proofs.Common.{◌≡◌, ℕ, cond, Bool, true, false, List, [], ◌∷◌, ◌++◌, length, slice_get, All, Contains, Some, sym, ◌∙◌, arith, length-append}
 use Rattle.std.proofs.lemmas.List.Elements.{All-nil, All-cons, All-head, All-tail}
-use Rattle.elab_parts.specs.tasks.Task.{DeclarationTree}
+use Rattle.tasks.specs.Task.{DeclarationTree}
 use Rattle.theory_states.specs.declared.states.AxiomAt.{AxiomAt}
 use Rattle.theory_states.specs.States.{KnownTree, known_has_path, known_named}
 use Rattle.valid_tasks.proofs.Places.{there, further}

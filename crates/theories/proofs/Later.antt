@@ -1,7 +1,7 @@
 -- States that are alike are so over stores that grew, and the other way round.
 use Rattle.std.proofs.Common.{List, sym}
-use Rattle.elab_parts.specs.trees.Tree.{Tree}
-use Rattle.elab_parts.specs.trees.Node.{Grows}
+use Rattle.tasks.specs.trees.Tree.{Tree}
+use Rattle.tasks.specs.trees.Node.{Grows}
 use Rattle.theories.proofs.AlikeLists.{alike_as, alike_turned}
 use Rattle.theories.proofs.Growing.{names_later, moves_later, names_turned, moves_turned}
 use Rattle.theory_states.specs.States.{KnownTree, OpenedTree, StateTree}

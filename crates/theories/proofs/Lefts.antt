@@ -1,12 +1,12 @@
 -- What the left side of an element names: an own declaration of a theory that makes a type, or a symbol of the element's kind.
 use Rattle.std.proofs.Common.{◌≡◌, ◌≢◌, ℕ, if◌then◌else◌, Bool, true, false, List, [], ◌∷◌, ◌++◌, Contains, All, Option, Some, None, IfSome, refl, sym, ap, ◌∙◌, arith}
 use Rattle.std.proofs.lemmas.List.Elements.{All-nil, All-cons}
-use Rattle.elab_parts.specs.trees.Tree.{Tree}
-use Rattle.elab_parts.specs.tasks.declared.signature.SymbolKind.{SymbolKind}
-use Rattle.elab_parts.specs.tasks.declared.signature.SymbolKind.TheVariants as symbol
-use Rattle.elab_parts.specs.tasks.Task.{SymbolTree, symbol_or, BodyTree, MakesType, Makes, Defines, Induces, Constructs, Says}
-use Rattle.elab_parts.specs.tasks.Typing.{MakesTerms}
-use Rattle.elab_parts.specs.names_space.Names.{ScopeNames}
+use Rattle.tasks.specs.trees.Tree.{Tree}
+use Rattle.tasks.specs.declared.signature.SymbolKind.{SymbolKind}
+use Rattle.tasks.specs.declared.signature.SymbolKind.TheVariants as symbol
+use Rattle.tasks.specs.Task.{SymbolTree, symbol_or, BodyTree, MakesType, Makes, Defines, Induces, Constructs, Says}
+use Rattle.tasks.specs.Typing.{MakesTerms}
+use Rattle.valid_tasks.specs.names_space.Names.{ScopeNames}
 use Rattle.syntax_why.specs.Lexeme.{Word}
 use Rattle.syntax_why.specs.declared.declarations.SymbolWord.{SymbolWord}
 use Rattle.syntax_why.specs.declared.declarations.SymbolWord.TheVariants as word

@@ -1,4 +1,4 @@
-pub use Rattle.theory_states.proofs.goal_tasks as goal_tasks
+pub use Rattle.valid_tasks.proofs.goal_tasks as goal_tasks
 pub mod Forgetting
 pub mod Walking
 pub mod Lists

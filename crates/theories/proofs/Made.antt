@@ -1,10 +1,10 @@
 -- Names that mean the same do so with the names that a declaration makes.
 use Rattle.std.proofs.Common.{ℕ, suc, ◌+◌, true, List, [], ◌∷◌, refl}
-use Rattle.elab_parts.specs.trees.Tree.{Tree}
-use Rattle.elab_parts.specs.names_space.Names.{ScopeNames, with_entry}
-use Rattle.elab_parts.specs.names_space.declared.Table.TheVariants.{Types, Symbols, Propositions}
-use Rattle.elab_parts.specs.elab_names.Abstract.{count_forms}
-use Rattle.elab_parts.specs.Declarations.{AlgebraicConstructor, AlgebraicType, GroupMember, InductiveClause, InductivePredicate}
+use Rattle.tasks.specs.trees.Tree.{Tree}
+use Rattle.valid_tasks.specs.names_space.Names.{ScopeNames, with_entry}
+use Rattle.valid_tasks.specs.names_space.declared.Table.TheVariants.{Types, Symbols, Propositions}
+use Rattle.valid_tasks.specs.elab_names.Abstract.{count_forms}
+use Rattle.valid_tasks.specs.elab_parts.Declarations.{AlgebraicConstructor, AlgebraicType, GroupMember, InductiveClause, InductivePredicate}
 use Rattle.valid_tasks.specs.elab_types.Algebraics.{entry_count, with_constructors, with_types}
 use Rattle.valid_tasks.specs.elab_members.Members.{with_members}
 use Rattle.valid_tasks.specs.elab_inductives.Inductives.{with_clauses, with_inductives}

@@ -1,8 +1,8 @@
 -- The map of a clone by what the theory's own declarations make: what isn't made by them stays, what is copied becomes new, each
 -- another, and what is replaced becomes what replaces it.
 use Rattle.std.proofs.Common.{◌≡◌, ◌⊎◌, inl, inr, ℕ, ◌+◌, ◌<◌, true, false, List, [], length, slice_get, Contains, All, Some, None, refl, sym, ap, subst, ◌∙◌, arith}
-use Rattle.elab_parts.specs.trees.Tree.{Tree}
-use Rattle.elab_parts.specs.tasks.Task.{SymbolTree, BodyTree, MakesType, Makes, DeclarationTree, made_by}
+use Rattle.tasks.specs.trees.Tree.{Tree}
+use Rattle.tasks.specs.Task.{SymbolTree, BodyTree, MakesType, Makes, DeclarationTree, made_by}
 use Rattle.valid_tasks.specs.clones.Mapped.{Map}
 use Rattle.valid_tasks.specs.Tasks.{AreSound}
 use Rattle.theory_states.specs.States.{KnownTree, at_places}

@@ -1,11 +1,11 @@
 -- Names that mean the same, as names come in and scopes are opened and left.
 use Rattle.std.proofs.Common.{◌≡◌, ℕ, Bool, true, false, nat_lt, if◌then◌else◌, List, [], ◌∷◌, length, set, Option, Some, None, refl, ap, subst}
-use Rattle.elab_parts.specs.trees.Tree.{Tree}
-use Rattle.elab_parts.specs.names_space.Names.{ScopeNames, ScopeEntry, entries_of, innermost, first_or_zero, rest_of_numbers, empty_names, with_name, with_entry, with_scope, closed}
-use Rattle.elab_parts.specs.names_space.declared.Table.{Table}
-use Rattle.elab_parts.specs.names_space.declared.Table.TheVariants.{Types, Symbols, Propositions, Scopes}
-use Rattle.elab_parts.specs.names_space.declared.TypeName.{TypeName}
-use Rattle.elab_parts.specs.names_space.declared.TypeName.TheVariants as stands
+use Rattle.tasks.specs.trees.Tree.{Tree}
+use Rattle.valid_tasks.specs.names_space.Names.{ScopeNames, ScopeEntry, entries_of, innermost, first_or_zero, rest_of_numbers, empty_names, with_name, with_entry, with_scope, closed}
+use Rattle.valid_tasks.specs.names_space.declared.Table.{Table}
+use Rattle.valid_tasks.specs.names_space.declared.Table.TheVariants.{Types, Symbols, Propositions, Scopes}
+use Rattle.valid_tasks.specs.names_space.declared.TypeName.{TypeName}
+use Rattle.valid_tasks.specs.names_space.declared.TypeName.TheVariants as stands
 use Rattle.syntax_why.specs.declared.declarations.Link.{Link}
 use Rattle.syntax_why.specs.declared.declarations.Link.TheVariants.{Bare, Import, Export}
 use Rattle.theory_states.specs.declared.moves.Move.{Move}

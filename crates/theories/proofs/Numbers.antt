@@ -2,11 +2,11 @@
 -- its number among the copies, and else itself.
 use Rattle.std.proofs.Common.{◌≡◌, ◌⊎◌, inl, inr, ℕ, ◌+◌, ◌==◌, if◌then◌else◌, zero, suc, Bool, true, false, List, [], ◌∷◌, slice_get, Contains, Option, Some, None, refl, sym, ap, subst, ◌∙◌, arith}
 use Rattle.std.proofs.lemmas.Bool.Decides.{nat_tests}
-use Rattle.elab_parts.specs.trees.Tree.{Tree}
+use Rattle.tasks.specs.trees.Tree.{Tree}
 use Rattle.valid_tasks.specs.clones.Mapped.{Map}
 use Rattle.valid_tasks.proofs.Places.{none_here, cases_of, here}
 use Rattle.valid_tasks.specs.clone_elements.Plans.{same_map, with_symbol, with_type, with_numbers, with_symbols, with_mapped_types, map_of}
-use Rattle.elab_parts.proofs.plain_laws.Bools.{same_number}
+use Rattle.tasks.proofs.plain_laws.Bools.{same_number}
 use Rattle.valid_tasks.proofs.Numbers.{types_leave, symbols_leave, numbers_leave, later}
 use Rattle.valid_tasks.proofs.Widths.{same_width as itself}
 

@@ -1,23 +1,23 @@
 -- The entries that a declaration makes have words as names, where the names in it are words.
 use Rattle.std.proofs.Common.{◌≡◌, ℕ, suc, List, [], ◌∷◌, ◌++◌, map, length, All, ap, arith}
 use Rattle.std.proofs.lemmas.List.Elements.{All-nil, All-cons, All-append}
-use Rattle.elab_parts.specs.trees.Tree.{Tree}
-use Rattle.elab_parts.specs.tasks.Task.{SymbolTree, ConstructorTree, AlgebraicTree}
-use Rattle.elab_parts.specs.tasks.Rigid.{rigid_symbol}
-use Rattle.elab_parts.specs.tasks.Valid.{own_type}
+use Rattle.tasks.specs.trees.Tree.{Tree}
+use Rattle.tasks.specs.Task.{SymbolTree, ConstructorTree, AlgebraicTree}
+use Rattle.tasks.specs.Rigid.{rigid_symbol}
+use Rattle.tasks.specs.Valid.{own_type}
 use Rattle.syntax_why.specs.Lexeme.{Word}
 use Rattle.syntax_why.specs.declared.declarations.PropKind.{PropKind}
 use Rattle.syntax_why.specs.declared.declarations.PropKind.TheVariants as kind
-use Rattle.elab_parts.specs.Elaborated.{unseen}
-use Rattle.elab_parts.specs.Entries.{type_entry, constructor_entries, wanting_tuples}
-use Rattle.elab_parts.specs.Declarations.{AlgebraicConstructor, AlgebraicType, GroupMember, Declaration, abstract_type, alias, algebraic, member_group, inductive, proposition_declaration}
-use Rattle.elab_parts.specs.Outcomes.{Setting, Outcome, full_name}
+use Rattle.valid_tasks.specs.elab_parts.Elaborated.{unseen}
+use Rattle.valid_tasks.specs.elab_parts.Entries.{type_entry, constructor_entries, wanting_tuples}
+use Rattle.valid_tasks.specs.elab_parts.Declarations.{AlgebraicConstructor, AlgebraicType, GroupMember, Declaration, abstract_type, alias, algebraic, member_group, inductive, proposition_declaration}
+use Rattle.valid_tasks.specs.elab_parts.Outcomes.{Setting, Outcome, full_name}
 use Rattle.valid_tasks.specs.elab_members.Members.{SignatureTree, symbol_kind_of, signed_entries, signature_trees, members_seen}
 use Rattle.valid_tasks.specs.elab_groups.Groups.{group_signatures}
 use Rattle.valid_tasks.specs.elab_inductives.Inductives.{as_members, before_inductives, inductives_seen}
 use Rattle.valid_tasks.specs.elab_types.Algebraics.{group_seen, type_entries, constructors_entries, group_trees, group_entries}
 use Rattle.valid_tasks.specs.elab_terms.Outcomes.{alias_seen, proposition_seen, rigid_names, IsOutcome}
-use Rattle.elab_parts.specs.tasks.Words.{IsScopedName}
+use Rattle.tasks.specs.Words.{IsScopedName}
 use Rattle.theories.specs.Names.{HaveWords}
 use Rattle.theories.proofs.Words.{joined}
 use Rattle.theories.proofs.Tuples.{HasWord, constructor_words, tuples_words}

@@ -3,19 +3,19 @@ use Rattle.std.proofs.Common.{◌≡◌, ℕ, Bool, true, false, cond, codes, Li
 use Rattle.std.specs.Option.{option_map}
 use Rattle.std.specs.Str.{bytes_eq}
 use Rattle.std.proofs.Math.Path.{fun_ext}
-use Rattle.elab_parts.specs.trees.Tree.{Tree}
-use Rattle.elab_parts.specs.trees.Node.{tree_at}
-use Rattle.elab_parts.specs.tasks.Task.{SymbolTree}
-use Rattle.elab_parts.specs.names_space.Names.{ScopeNames, number_of, find_name}
-use Rattle.elab_parts.specs.names_space.declared.Table.{Table}
-use Rattle.elab_parts.specs.names_space.declared.Table.TheVariants.{Types, Symbols}
-use Rattle.elab_parts.specs.names_space.declared.TypeName.{TypeName}
-use Rattle.elab_parts.specs.names_space.declared.TypeName.TheVariants as stands
+use Rattle.tasks.specs.trees.Tree.{Tree}
+use Rattle.tasks.specs.trees.Node.{tree_at}
+use Rattle.tasks.specs.Task.{SymbolTree}
+use Rattle.valid_tasks.specs.names_space.Names.{ScopeNames, number_of, find_name}
+use Rattle.valid_tasks.specs.names_space.declared.Table.{Table}
+use Rattle.valid_tasks.specs.names_space.declared.Table.TheVariants.{Types, Symbols}
+use Rattle.valid_tasks.specs.names_space.declared.TypeName.{TypeName}
+use Rattle.valid_tasks.specs.names_space.declared.TypeName.TheVariants as stands
 use Rattle.syntax_why.specs.Lexeme.{Word}
-use Rattle.elab_parts.specs.elab_names.Naming.{meaning_at, or_int, type_named, symbol_named}
-use Rattle.elab_parts.specs.elab_names.Where.{Where, MeaningTree, Stands, Abbreviates}
-use Rattle.elab_parts.specs.Entries.{tuple_in}
-use Rattle.elab_parts.specs.Outcomes.{over, declared_in}
+use Rattle.valid_tasks.specs.elab_names.Naming.{meaning_at, or_int, type_named, symbol_named}
+use Rattle.valid_tasks.specs.elab_names.Where.{Where, MeaningTree, Stands, Abbreviates}
+use Rattle.valid_tasks.specs.elab_parts.Entries.{tuple_in}
+use Rattle.valid_tasks.specs.elab_parts.Outcomes.{over, declared_in}
 use Rattle.theories.specs.Same.{IsSameMeaning, IsSameFound, AreSameNames}
 use Rattle.theories.proofs.Finding.{found_same, declared_same}
 

@@ -1,7 +1,7 @@
 -- What the own declarations of a theory make: no symbol is made at two places.
 use Rattle.std.proofs.Common.{◌≡◌, ◌⊎◌, inl, inr, ℕ, ◌<◌, if◌then◌else◌, zero, suc, Bool, true, false, List, [], ◌∷◌, ◌++◌, length, slice_get, Contains, Some, option_to_list, refl, sym, subst, ◌∙◌, arith, append-nil}
 use Rattle.std.proofs.lemmas.List.Elements.{All-contains, Contains-append_left, Contains-append_right, Contains-append_cases}
-use Rattle.elab_parts.specs.tasks.Task.{SymbolTree, DeclarationTree, made, made_by}
+use Rattle.tasks.specs.Task.{SymbolTree, DeclarationTree, made, made_by}
 use Rattle.syntax_why.specs.Lexeme.{Word}
 use Rattle.valid_tasks.specs.Tasks.{IsOwnSymbol, AreSound}
 use Rattle.valid_tasks.proofs.Distinct.{IsDistinct, pairs_distinct}

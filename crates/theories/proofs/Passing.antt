@@ -2,10 +2,10 @@
 use Rattle.std.proofs.Common.{◌≡◌, ℕ, ◌+◌, List, [], ◌∷◌, ◌++◌, refl, sym, ap, subst}
 use Rattle.std.specs.Prelude.{true}
 use Rattle.std.proofs.lemmas.List.Elements.{All-push}
-use Rattle.elab_parts.specs.trees.Tree.{Tree}
-use Rattle.elab_parts.specs.tasks.Vocabulary.{of_signature}
-use Rattle.elab_parts.specs.tasks.Meaning.{symbols_at}
-use Rattle.elab_parts.specs.names_space.Names.{with_scope}
+use Rattle.tasks.specs.trees.Tree.{Tree}
+use Rattle.tasks.specs.Vocabulary.{of_signature}
+use Rattle.tasks.specs.Meaning.{symbols_at}
+use Rattle.valid_tasks.specs.names_space.Names.{with_scope}
 use Rattle.theory_states.specs.declared.moves.Move.{Move}
 use Rattle.theory_states.specs.declared.moves.Move.TheVariants.{Opens, Closes}
 use Rattle.theory_states.specs.Moves.{left}

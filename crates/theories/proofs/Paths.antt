@@ -3,12 +3,12 @@ use Rattle.std.proofs.Common.{◌≡◌, ℕ, Bool, true, false, List, refl}
 use Rattle.std.specs.Prelude.{◌||◌}
 use Rattle.std.specs.Str.{bytes_eq}
 use Rattle.std.specs.Option.{is_some}
-use Rattle.elab_parts.specs.tasks.Vocabulary.{is_empty}
-use Rattle.elab_parts.specs.Entries.{builtin}
+use Rattle.tasks.specs.Vocabulary.{is_empty}
+use Rattle.valid_tasks.specs.elab_parts.Entries.{builtin}
 use Rattle.theory_states.specs.States.{KnownTree, known_named}
 use Rattle.theories.specs.Files.{is_path_taken}
 use Rattle.theories.specs.Right.{IsPath}
-use Rattle.elab_parts.proofs.plain_laws.Bools.{or_first as or_left, or_second as or_right}
+use Rattle.tasks.proofs.plain_laws.Bools.{or_first as or_left, or_second as or_right}
 
 pub new_path : (path : List ℕ) (known : List KnownTree) → is_path_taken path known ≡ false → IsPath path
 new_path path known h = record {

@@ -1,13 +1,13 @@
 -- Of the entries after a declaration only those of type variables have no theory.
 use Rattle.std.proofs.Common.{◌≡◌, ℕ, false, List, [], ◌∷◌, ◌++◌, Option, Some, None, refl, sym, ap, subst, ◌∙◌}
 use Rattle.std.proofs.lemmas.List.Elements.{All-append}
-use Rattle.elab_parts.specs.tasks.Task.{DeclarationTree}
-use Rattle.elab_parts.specs.tasks.Vocabulary.{is_empty}
+use Rattle.tasks.specs.Task.{DeclarationTree}
+use Rattle.tasks.specs.Vocabulary.{is_empty}
 use Rattle.syntax_why.specs.Lexeme.{Word}
 use Rattle.syntax_why.specs.Declarations.{SyntaxDeclaration}
 use Rattle.syntax_why.specs.declared.declarations.PropKind.{PropKind}
 use Rattle.syntax_why.specs.declared.declarations.PropKind.TheVariants as kind
-use Rattle.elab_parts.specs.elab_names.Abstract.{Expression}
+use Rattle.valid_tasks.specs.elab_names.Abstract.{Expression}
 use Rattle.valid_tasks.specs.Placed.{IsPlacedEntry, ArePlaced}
 use Rattle.valid_tasks.proofs.PlacedOutcomes.{outcome_placed}
 use Rattle.theory_states.specs.States.{StateTree, with_declaration, with_declarations}

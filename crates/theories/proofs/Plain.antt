@@ -1,13 +1,13 @@
 -- Theories stay plain as a theory begins and ends, is used, has scopes and is declared further.
 use Rattle.std.proofs.Common.{◌≡◌, ℕ, ◌<◌, List, [], ◌∷◌, ◌++◌, length, get_or, All, Contains, Option, Some, None, option_map, sym, subst, arith, length-append}
 use Rattle.std.proofs.lemmas.List.Elements.{All-nil, All-cons, All-append, All-contains}
-use Rattle.elab_parts.specs.trees.Tree.{Tree}
-use Rattle.elab_parts.specs.tasks.Task.{SymbolTree, DeclarationTree}
-use Rattle.elab_parts.specs.names_space.Names.{ScopeNames, find_number, find_name}
-use Rattle.elab_parts.specs.names_space.declared.Table.{Table}
-use Rattle.elab_parts.specs.names_space.declared.Table.TheVariants.{Types, Symbols, Propositions, Scopes}
-use Rattle.elab_parts.specs.names_space.declared.TypeName.{TypeName}
-use Rattle.elab_parts.specs.names_space.declared.TypeName.TheVariants as stands
+use Rattle.tasks.specs.trees.Tree.{Tree}
+use Rattle.tasks.specs.Task.{SymbolTree, DeclarationTree}
+use Rattle.valid_tasks.specs.names_space.Names.{ScopeNames, find_number, find_name}
+use Rattle.valid_tasks.specs.names_space.declared.Table.{Table}
+use Rattle.valid_tasks.specs.names_space.declared.Table.TheVariants.{Types, Symbols, Propositions, Scopes}
+use Rattle.valid_tasks.specs.names_space.declared.TypeName.{TypeName}
+use Rattle.valid_tasks.specs.names_space.declared.TypeName.TheVariants as stands
 use Rattle.theory_states.specs.declared.moves.Move.{Move}
 use Rattle.theory_states.specs.declared.moves.Move.TheVariants.{Brings, Opens, Closes}
 use Rattle.theory_states.specs.Moves.{handed}
@@ -20,9 +20,9 @@ use Rattle.syntax_why.specs.declared.declarations.PropKind.{PropKind}
 use Rattle.syntax_why.specs.declared.declarations.PropKind.TheVariants as kind
 use Rattle.syntax_why.specs.Declarations as source
 use Rattle.valid_tasks.specs.clones.Mapped.{Map}
-use Rattle.elab_parts.specs.elab_names.Abstract.{Expression, expression}
-use Rattle.elab_parts.specs.Declarations.{Declaration, proposition_declaration, declaration, symbol, Made, makes, binds_names, made_names}
-use Rattle.elab_parts.specs.Outcomes.{Setting, Outcome}
+use Rattle.valid_tasks.specs.elab_names.Abstract.{Expression, expression}
+use Rattle.valid_tasks.specs.elab_parts.Declarations.{Declaration, proposition_declaration, declaration, symbol, Made, makes, binds_names, made_names}
+use Rattle.valid_tasks.specs.elab_parts.Outcomes.{Setting, Outcome}
 use Rattle.valid_tasks.specs.elab_terms.Outcomes.{proposition_seen, IsOutcome}
 use Rattle.theory_declarations.specs.Made.{thing_named, brought_as, moves_made, moves_of, moves_declared}
 use Rattle.theory_states.specs.declared.states.AxiomAt.{AxiomAt}

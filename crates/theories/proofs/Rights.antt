@@ -3,27 +3,27 @@ use Rattle.std.proofs.Common.{◌≡◌, ◌⊎◌, inl, inr, ℕ, ◌-◌, ◌<
 use Rattle.std.specs.Option.{is_some}
 use Rattle.std.specs.Str.{bytes_eq}
 use Rattle.std.proofs.lemmas.List.Elements.{All-nil, All-cons, All-head, All-tail, Contains-append_cases}
-use Rattle.elab_parts.specs.trees.Tree.{Tree}
-use Rattle.elab_parts.specs.tasks.declared.signature.SymbolKind.{SymbolKind}
-use Rattle.elab_parts.specs.tasks.declared.signature.SymbolKind.TheVariants.{Constructor}
-use Rattle.elab_parts.specs.tasks.Task.{SymbolTree, int_symbol, DeclarationTree}
-use Rattle.elab_parts.specs.tasks.Roles.{is_constructor, maker, role_by}
-use Rattle.elab_parts.specs.tasks.Vocabulary.{Vocabulary, passes, is_empty, is_constructor_kind}
-use Rattle.elab_parts.specs.tasks.Valid.{IsTypeIn}
-use Rattle.elab_parts.specs.names_space.Names.{ScopeNames, find_name, number_of}
-use Rattle.elab_parts.specs.names_space.declared.Table.TheVariants.{Symbols}
-use Rattle.elab_parts.specs.names_space.declared.TypeName.{TypeName}
+use Rattle.tasks.specs.trees.Tree.{Tree}
+use Rattle.tasks.specs.declared.signature.SymbolKind.{SymbolKind}
+use Rattle.tasks.specs.declared.signature.SymbolKind.TheVariants.{Constructor}
+use Rattle.tasks.specs.Task.{SymbolTree, int_symbol, DeclarationTree}
+use Rattle.tasks.specs.Roles.{is_constructor, maker, role_by}
+use Rattle.tasks.specs.Vocabulary.{Vocabulary, passes, is_empty, is_constructor_kind}
+use Rattle.tasks.specs.Valid.{IsTypeIn}
+use Rattle.valid_tasks.specs.names_space.Names.{ScopeNames, find_name, number_of}
+use Rattle.valid_tasks.specs.names_space.declared.Table.TheVariants.{Symbols}
+use Rattle.valid_tasks.specs.names_space.declared.TypeName.{TypeName}
 use Rattle.syntax_why.specs.Lexeme.{Word}
 use Rattle.syntax_why.specs.declared.names.Name.{Name}
 use Rattle.syntax_why.specs.Declarations.{Element, type_element, symbol_element, prop_element, all_axioms}
-use Rattle.elab_parts.specs.elab_names.Abstract.{texts_of_names, type_expression, text_of_own}
-use Rattle.elab_parts.specs.elab_names.Faults.{first_of}
-use Rattle.elab_parts.specs.elab_names.declared.NamingFault.{NamingFault}
-use Rattle.elab_parts.specs.elab_variables.Seen.{form_seen}
-use Rattle.elab_parts.specs.elab_walk.Pieces.{type_at}
-use Rattle.elab_parts.specs.Elaborated.{unseen}
-use Rattle.elab_parts.specs.Entries.{builtin, wanting_tuples}
-use Rattle.elab_parts.specs.Outcomes.{Setting, over}
+use Rattle.valid_tasks.specs.elab_names.Abstract.{texts_of_names, type_expression, text_of_own}
+use Rattle.valid_tasks.specs.elab_names.Faults.{first_of}
+use Rattle.valid_tasks.specs.elab_names.declared.NamingFault.{NamingFault}
+use Rattle.valid_tasks.specs.elab_variables.Seen.{form_seen}
+use Rattle.valid_tasks.specs.elab_walk.Pieces.{type_at}
+use Rattle.valid_tasks.specs.elab_parts.Elaborated.{unseen}
+use Rattle.valid_tasks.specs.elab_parts.Entries.{builtin, wanting_tuples}
+use Rattle.valid_tasks.specs.elab_parts.Outcomes.{Setting, over}
 use Rattle.valid_tasks.specs.Signature.{with_entries}
 use Rattle.valid_tasks.specs.Scopes.{is_projection_kind, IsNamedBy, NamesNew, IsSubvocabulary, AgreeBelow, IsSymbolNumber, IsTypedThing, AreTypedScopes}
 use Rattle.valid_tasks.proofs.Words.{self_word}

@@ -1,7 +1,7 @@
 -- A theory is cloned in one way, or the clone has one first fault.
 use Rattle.std.proofs.Common.{◌≡◌, ℕ, List, ◌++◌, Option, Some, None, refl, sym, ap, ap₂, subst, subst₂, ◌∙◌}
-use Rattle.elab_parts.specs.trees.Tree.{Tree}
-use Rattle.elab_parts.specs.tasks.Task.{SymbolTree, DeclarationTree}
+use Rattle.tasks.specs.trees.Tree.{Tree}
+use Rattle.tasks.specs.Task.{SymbolTree, DeclarationTree}
 use Rattle.theory_states.specs.declared.moves.Move.{Move}
 use Rattle.theory_states.specs.Moves.{handed}
 use Rattle.syntax_why.specs.Lexeme.{Word}
@@ -9,7 +9,7 @@ use Rattle.syntax_why.specs.Declarations.{Element}
 use Rattle.syntax_why.specs.declared.names.Name.{Name}
 use Rattle.syntax_why.specs.declared.names.Path.{Path}
 use Rattle.syntax_why.specs.declared.declarations.Link.{Link}
-use Rattle.elab_parts.specs.elab_names.declared.NamingFault.{NamingFault}
+use Rattle.valid_tasks.specs.elab_names.declared.NamingFault.{NamingFault}
 use Rattle.valid_tasks.specs.clones.Mapped.{Map}
 use Rattle.theory_states.specs.declared.fault.SourceFault.{SourceFault}
 use Rattle.theory_states.specs.declared.fault.SourceFault.TheVariants as fault

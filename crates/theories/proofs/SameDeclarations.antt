@@ -1,13 +1,13 @@
 -- A declaration is typed in one way, or has one first fault.
 use Rattle.std.proofs.Common.{◌≡◌, ◌≢◌, ℕ, List, ◌++◌, Option, Some, sym, ap, ap₂, subst, subst₂, ◌∙◌}
-use Rattle.elab_parts.specs.trees.Tree.{Tree}
-use Rattle.elab_parts.specs.trees.Node.{Grows}
-use Rattle.elab_parts.specs.tasks.Task.{SymbolTree, DeclarationTree}
+use Rattle.tasks.specs.trees.Tree.{Tree}
+use Rattle.tasks.specs.trees.Node.{Grows}
+use Rattle.tasks.specs.Task.{SymbolTree, DeclarationTree}
 use Rattle.syntax_why.specs.Declarations as source
-use Rattle.elab_parts.specs.declared.ElabFault.{ElabFault}
-use Rattle.elab_parts.specs.declared.ElabFault.TheVariants as elab
-use Rattle.elab_parts.specs.Declarations.{Declaration, declaration}
-use Rattle.elab_parts.specs.Outcomes.{Outcome}
+use Rattle.valid_tasks.specs.elab_parts.declared.ElabFault.{ElabFault}
+use Rattle.valid_tasks.specs.elab_parts.declared.ElabFault.TheVariants as elab
+use Rattle.valid_tasks.specs.elab_parts.Declarations.{Declaration, declaration}
+use Rattle.valid_tasks.specs.elab_parts.Outcomes.{Outcome}
 use Rattle.valid_tasks.specs.elab_terms.Outcomes.{IsOutcome, IsRefusal}
 use Rattle.theory_declarations.specs.side_conditions.declared.sides.SideFault.{SideFault}
 use Rattle.theory_declarations.specs.side_conditions.declared.sides.SideFault.TheVariants as side

@@ -1,22 +1,22 @@
 -- A declaration makes states that are alike of states that are alike.
 use Rattle.std.proofs.Common.{◌≡◌, ℕ, List, [], ◌∷◌, ◌++◌, length, Option, Some, None, refl, ap, ap₂, subst₂, option_map}
-use Rattle.elab_parts.specs.trees.Tree.{Tree}
-use Rattle.elab_parts.specs.trees.Node.{Grows}
-use Rattle.elab_parts.specs.tasks.Task.{DeclarationTree}
-use Rattle.elab_parts.specs.names_space.Names.{ScopeNames, find_name, number_of}
-use Rattle.elab_parts.specs.names_space.declared.Table.{Table}
-use Rattle.elab_parts.specs.names_space.declared.Table.TheVariants.{Types, Symbols, Propositions, Scopes}
-use Rattle.elab_parts.specs.names_space.declared.TypeName.{TypeName}
-use Rattle.elab_parts.specs.names_space.declared.TypeName.TheVariants as stands
+use Rattle.tasks.specs.trees.Tree.{Tree}
+use Rattle.tasks.specs.trees.Node.{Grows}
+use Rattle.tasks.specs.Task.{DeclarationTree}
+use Rattle.valid_tasks.specs.names_space.Names.{ScopeNames, find_name, number_of}
+use Rattle.valid_tasks.specs.names_space.declared.Table.{Table}
+use Rattle.valid_tasks.specs.names_space.declared.Table.TheVariants.{Types, Symbols, Propositions, Scopes}
+use Rattle.valid_tasks.specs.names_space.declared.TypeName.{TypeName}
+use Rattle.valid_tasks.specs.names_space.declared.TypeName.TheVariants as stands
 use Rattle.syntax_why.specs.Lexeme.{Word}
 use Rattle.syntax_why.specs.Declarations as source
 use Rattle.syntax_why.specs.declared.declarations.PropKind.{PropKind}
 use Rattle.syntax_why.specs.declared.declarations.PropKind.TheVariants as kind
-use Rattle.elab_parts.specs.elab_names.Abstract.{Expression}
-use Rattle.elab_parts.specs.Declarations.{Declaration, declaration, Made, makes, binds_names, made_names}
-use Rattle.elab_parts.specs.Outcomes.{Outcome}
+use Rattle.valid_tasks.specs.elab_names.Abstract.{Expression}
+use Rattle.valid_tasks.specs.elab_parts.Declarations.{Declaration, declaration, Made, makes, binds_names, made_names}
+use Rattle.valid_tasks.specs.elab_parts.Outcomes.{Outcome}
 use Rattle.valid_tasks.specs.elab_terms.Outcomes.{proposition_seen}
-use Rattle.theory_states.specs.goal_tasks.Theories.{GoalTree}
+use Rattle.valid_tasks.specs.goal_tasks.Theories.{GoalTree}
 use Rattle.theory_declarations.specs.Made.{thing_named, brought_as, moves_made, moves_of, moves_declared}
 use Rattle.theory_states.specs.declared.states.AxiomAt.{AxiomAt}
 use Rattle.theory_states.specs.States.{StateTree, with_declaration, with_declarations}

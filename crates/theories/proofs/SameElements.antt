@@ -1,15 +1,15 @@
 -- The elements of a clone stand for the same where names mean the same, and are told once.
 use Rattle.std.proofs.Common.{◌≡◌, ℕ, Bool, true, false, List, [], ◌∷◌, ◌++◌, Option, Some, None, unwrap_or, refl, sym, ap, ap₂, ◌∙◌, inl, inr}
-use Rattle.elab_parts.specs.trees.Tree.{Tree}
-use Rattle.elab_parts.specs.tasks.Task.{SymbolTree}
-use Rattle.elab_parts.specs.names_space.Names.{ScopeNames}
+use Rattle.tasks.specs.trees.Tree.{Tree}
+use Rattle.tasks.specs.Task.{SymbolTree}
+use Rattle.valid_tasks.specs.names_space.Names.{ScopeNames}
 use Rattle.syntax_why.specs.Lexeme.{Word}
 use Rattle.syntax_why.specs.Forms.{Called}
 use Rattle.syntax_why.specs.Declarations.{Element, type_element, symbol_element, prop_element, all_axioms}
-use Rattle.elab_parts.specs.elab_names.Abstract.{texts_of_names, type_expression, text_of_own}
-use Rattle.elab_parts.specs.elab_names.Faults.{first_of, form_fault}
-use Rattle.elab_parts.specs.elab_names.Where.{Where}
-use Rattle.elab_parts.specs.elab_walk.Pieces.{type_at}
+use Rattle.valid_tasks.specs.elab_names.Abstract.{texts_of_names, type_expression, text_of_own}
+use Rattle.valid_tasks.specs.elab_names.Faults.{first_of, form_fault}
+use Rattle.valid_tasks.specs.elab_names.Where.{Where}
+use Rattle.valid_tasks.specs.elab_walk.Pieces.{type_at}
 use Rattle.valid_tasks.specs.clones.Mapped.{Map}
 use Rattle.valid_tasks.specs.clone_elements.Left.{Origin, element_key, place_by}
 use Rattle.valid_tasks.specs.clone_elements.Rights.{RightTree, type_right, symbol_right, symbol_missing, called_symbol, right_fault, type_tuples, right_tuples, right_made, rights_fault}

@@ -1,23 +1,23 @@
 -- Outcomes of a declaration that stands alike over two stores are alike.
 use Rattle.std.proofs.Common.{◌≡◌, ℕ, true, List, [], ◌∷◌, ◌++◌, length, refl, sym, ap, ap₂, subst, subst₂, ◌∙◌}
-use Rattle.elab_parts.specs.trees.Tree.{Tree}
-use Rattle.elab_parts.specs.trees.Node.{Grows}
-use Rattle.elab_parts.specs.tasks.Task.{SymbolTree, DeclarationTree, AlgebraicTree, Constructs, Says}
-use Rattle.elab_parts.specs.names_space.Names.{ScopeNames, with_name}
-use Rattle.elab_parts.specs.names_space.declared.Table.TheVariants.{Types, Propositions}
-use Rattle.elab_parts.specs.names_space.declared.TypeName.TheVariants as stands
+use Rattle.tasks.specs.trees.Tree.{Tree}
+use Rattle.tasks.specs.trees.Node.{Grows}
+use Rattle.tasks.specs.Task.{SymbolTree, DeclarationTree, AlgebraicTree, Constructs, Says}
+use Rattle.valid_tasks.specs.names_space.Names.{ScopeNames, with_name}
+use Rattle.valid_tasks.specs.names_space.declared.Table.TheVariants.{Types, Propositions}
+use Rattle.valid_tasks.specs.names_space.declared.TypeName.TheVariants as stands
 use Rattle.syntax_why.specs.declared.declarations.PropKind.{PropKind}
-use Rattle.elab_parts.specs.elab_names.Abstract.{TypeExpression, Expression}
-use Rattle.elab_parts.specs.elab_names.Where.{Where}
-use Rattle.elab_parts.specs.elab_walk.Pieces.{NotedTree, type_at}
-use Rattle.elab_parts.specs.Elaborated.{IsSolved}
-use Rattle.elab_parts.specs.Declarations.{TokenName, Declaration, abstract_type, alias, algebraic, member_group, inductive, proposition_declaration, AlgebraicType, GroupMember, InductivePredicate, words}
-use Rattle.elab_parts.specs.Outcomes.{Setting, Outcome, over, tuples_wanting, full_name}
+use Rattle.valid_tasks.specs.elab_names.Abstract.{TypeExpression, Expression}
+use Rattle.valid_tasks.specs.elab_names.Where.{Where}
+use Rattle.valid_tasks.specs.elab_walk.Pieces.{NotedTree, type_at}
+use Rattle.valid_tasks.specs.elab_parts.Elaborated.{IsSolved}
+use Rattle.valid_tasks.specs.elab_parts.Declarations.{TokenName, Declaration, abstract_type, alias, algebraic, member_group, inductive, proposition_declaration, AlgebraicType, GroupMember, InductivePredicate, words}
+use Rattle.valid_tasks.specs.elab_parts.Outcomes.{Setting, Outcome, over, tuples_wanting, full_name}
 use Rattle.valid_tasks.specs.elab_types.Algebraics.{group_outcome, group_seen, type_entries, group_entries, group_names, first_name, first_vars}
 use Rattle.valid_tasks.specs.elab_members.Members.{SignatureTree}
 use Rattle.valid_tasks.specs.elab_groups.Groups.{most_variables, bodies_pieces, pieces_notes, pieces_trees, BodiesSolved, group_decls, before_group, group_tuples, group_signatures, group_scope, within_group, IsGroup}
 use Rattle.valid_tasks.specs.elab_inductives.Inductives.{as_members, formula_members, clause_signatures, before_inductives, inductives_seen, inductives_scope, within_inductives, inductive_decls, IsInductiveGroup}
-use Rattle.elab_parts.specs.Elaborated.{unseen}
+use Rattle.valid_tasks.specs.elab_parts.Elaborated.{unseen}
 use Rattle.valid_tasks.specs.elab_terms.Outcomes.{alias_seen, IsAlias, type_outcome, proposition_seen, proposition_piece, said_as, schematic, IsProposition, IsOutcome}
 use Rattle.theories.specs.Same.{AreSameNames}
 use Rattle.theories.proofs.Names.{same_named, same_with_entry}

@@ -2,15 +2,15 @@
 use Rattle.std.proofs.Common.{◌≡◌, ◌≢◌, ℕ, ◌+◌, Bool, true, false, ◌||◌, List, [], ◌∷◌, ◌++◌, map, length, Option, Some, None, refl, sym, ap, ap₂, ◌∙◌, inl, inr}
 use Rattle.std.specs.Option.{is_some}
 use Rattle.std.specs.Str.{bytes_eq}
-use Rattle.elab_parts.specs.trees.Tree.{Tree}
-use Rattle.elab_parts.specs.tasks.Task.{SymbolTree, DeclarationTree}
-use Rattle.elab_parts.specs.tasks.Vocabulary.{is_empty}
+use Rattle.tasks.specs.trees.Tree.{Tree}
+use Rattle.tasks.specs.Task.{SymbolTree, DeclarationTree}
+use Rattle.tasks.specs.Vocabulary.{is_empty}
 use Rattle.syntax_why.specs.Declarations.{SyntaxDeclarations, SyntaxTheory}
 use Rattle.syntax_why.specs.declared.declarations.File.{File}
 use Rattle.syntax_why.specs.SurfaceDeclarations.{file_of}
 use Rattle.std_theories.specs.Library.{AreFilesOf, library}
-use Rattle.elab_parts.specs.Entries.{builtin}
-use Rattle.theory_states.specs.goal_tasks.Theories.{GoalTree, KnownTheoryTree, TheoriesTree}
+use Rattle.valid_tasks.specs.elab_parts.Entries.{builtin}
+use Rattle.valid_tasks.specs.goal_tasks.Theories.{GoalTree, KnownTheoryTree, TheoriesTree}
 use Rattle.theory_states.specs.declared.fault.SourceFault.{SourceFault}
 use Rattle.theory_states.specs.declared.fault.SourceFault.TheVariants.{Memory, Duplicate}
 use Rattle.theory_states.specs.States.{KnownTree, StateTree, at_places, known_named, known_as, opened_empty}

@@ -1,7 +1,7 @@
 -- The declarations of a theory are typed in one way, or have one first fault.
 use Rattle.std.proofs.Common.{◌≡◌, ◌≢◌, ℕ, ◌+◌, true, false, codes, List, [], ◌∷◌, ◌++◌, Option, refl, sym, ap, subst₂, ◌∙◌, ◌⊎◌, inl, inr}
-use Rattle.elab_parts.specs.names_space.Names.{with_scope, is_declared, entries_of, innermost}
-use Rattle.elab_parts.specs.names_space.declared.Table.TheVariants.{Scopes}
+use Rattle.valid_tasks.specs.names_space.Names.{with_scope, is_declared, entries_of, innermost}
+use Rattle.valid_tasks.specs.names_space.declared.Table.TheVariants.{Scopes}
 use Rattle.theory_states.specs.declared.moves.Move.TheVariants.{Opens, Closes}
 use Rattle.theory_states.specs.Moves.{left}
 use Rattle.syntax_why.specs.declared.names.Name.{Name}

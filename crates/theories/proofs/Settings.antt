@@ -1,18 +1,18 @@
 -- Where a declaration stands alike over two stores, names mean the same in it, and so its first fault of names and its type equations
 -- are the same.
 use Rattle.std.proofs.Common.{◌≡◌, Bool, true, false, List, [], ◌++◌, map, length, None, refl, ap, ap₂, ◌∙◌}
-use Rattle.elab_parts.specs.trees.Tree.{Tree}
-use Rattle.elab_parts.specs.tasks.Task.{SymbolTree}
-use Rattle.elab_parts.specs.names_space.Names.{ScopeNames}
-use Rattle.elab_parts.specs.names_space.declared.Table.{Table}
+use Rattle.tasks.specs.trees.Tree.{Tree}
+use Rattle.tasks.specs.Task.{SymbolTree}
+use Rattle.valid_tasks.specs.names_space.Names.{ScopeNames}
+use Rattle.valid_tasks.specs.names_space.declared.Table.{Table}
 use Rattle.syntax_why.specs.Lexeme.{Word}
-use Rattle.elab_parts.specs.elab_names.Faults.{first_of, fault, form_fault}
-use Rattle.elab_parts.specs.elab_names.Where.{Where}
-use Rattle.elab_parts.specs.elab_variables.Seen.{SeenTree}
-use Rattle.elab_parts.specs.elab_walk.Pieces.{NotedTree, piece}
-use Rattle.elab_parts.specs.Declarations.{Declaration, abstract_type, alias, algebraic, member_group, inductive, proposition_declaration, AlgebraicType, GroupMember, InductivePredicate, words, made_names, made_fault, types_fault, inductives_fault}
-use Rattle.elab_parts.specs.elab_names.Abstract.{Expression}
-use Rattle.elab_parts.specs.Outcomes.{Setting, over, around, where_tuples_are, tuples_wanting, declared_in}
+use Rattle.valid_tasks.specs.elab_names.Faults.{first_of, fault, form_fault}
+use Rattle.valid_tasks.specs.elab_names.Where.{Where}
+use Rattle.valid_tasks.specs.elab_variables.Seen.{SeenTree}
+use Rattle.valid_tasks.specs.elab_walk.Pieces.{NotedTree, piece}
+use Rattle.valid_tasks.specs.elab_parts.Declarations.{Declaration, abstract_type, alias, algebraic, member_group, inductive, proposition_declaration, AlgebraicType, GroupMember, InductivePredicate, words, made_names, made_fault, types_fault, inductives_fault}
+use Rattle.valid_tasks.specs.elab_names.Abstract.{Expression}
+use Rattle.valid_tasks.specs.elab_parts.Outcomes.{Setting, over, around, where_tuples_are, tuples_wanting, declared_in}
 use Rattle.valid_tasks.specs.elab_types.Algebraics as types
 use Rattle.valid_tasks.specs.elab_types.Algebraics.{first_type, first_constructor, algebraic_trees, group_trees, group_names}
 use Rattle.valid_tasks.specs.elab_members.Members.{SignatureTree, signature_of, signature_trees, signed_entries, member_entries, inside_group, members_fault}

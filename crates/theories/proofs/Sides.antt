@@ -1,18 +1,18 @@
 -- The side conditions of a declaration have one first fault, and none where they hold.
 use Rattle.std.proofs.Common.{◌≡◌, ◌≢◌, ℕ, ◌<◌, ◌≤◌, List, [], ◌∷◌, All, refl, sym, ap, ◌∙◌, arith, inl, inr}
 use Rattle.std.proofs.lemmas.List.Elements.{All-head, All-tail}
-use Rattle.elab_parts.specs.trees.Tree.{Tree}
-use Rattle.elab_parts.specs.tasks.Task.{SymbolTree, DefinitionTree, AlgebraicTree, BodyTree, MakesType, Makes, Defines, Induces, Constructs, Says}
-use Rattle.theory_declarations.specs.decl_checks.Structure.{IsStructural, IsRecursive, choices}
-use Rattle.theory_declarations.specs.decl_checks.Values.{AreInhabited}
-use Rattle.theory_declarations.specs.decl_checks.Checks.{OwnClause, group_of, all_clauses, ClauseHasForm, ClauseIsPositive, IsFirstWithout, ClausesHaveFault, DefinitionsHaveFault, TypesHaveFault, HasNoFault, HasFault}
-use Rattle.theory_declarations.specs.decl_checks.declared.fault.CheckFault.{CheckFault}
-use Rattle.theory_declarations.specs.decl_checks.declared.fault.CheckFault.TheVariants as check
+use Rattle.tasks.specs.trees.Tree.{Tree}
+use Rattle.tasks.specs.Task.{SymbolTree, DefinitionTree, AlgebraicTree, BodyTree, MakesType, Makes, Defines, Induces, Constructs, Says}
+use Rattle.valid_tasks.specs.decl_checks.Structure.{IsStructural, IsRecursive, choices}
+use Rattle.valid_tasks.specs.decl_checks.Values.{AreInhabited}
+use Rattle.valid_tasks.specs.decl_checks.Checks.{OwnClause, group_of, all_clauses, ClauseHasForm, ClauseIsPositive, IsFirstWithout, ClausesHaveFault, DefinitionsHaveFault, TypesHaveFault, HasNoFault, HasFault}
+use Rattle.valid_tasks.specs.decl_checks.declared.fault.CheckFault.{CheckFault}
+use Rattle.valid_tasks.specs.decl_checks.declared.fault.CheckFault.TheVariants as check
 use Rattle.theory_declarations.specs.side_conditions.declared.sides.SideFault.{SideFault}
 use Rattle.theory_declarations.specs.side_conditions.declared.sides.SideFault.TheVariants as side
 use Rattle.theory_declarations.specs.side_conditions.Sides.{IsCovered, IsFirstOpenMatch, IsFirstCheckFault, IsSideFault}
 use Rattle.theories.proofs.StateLists.{without_or, one_without}
-use Rattle.theory_declarations.proofs.decl_checks.Exact.{one_fault, right_not as fault_or}
+use Rattle.valid_tasks.proofs.decl_checks.Exact.{one_fault, right_not as fault_or}
 
 -- ---- what is wrong with clauses, definitions and types
 data ClauseWrong (symbols : List SymbolTree) (group : List ℕ) (cs : List OwnClause) (f : CheckFault) : Type 0 where

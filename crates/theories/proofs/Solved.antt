@@ -2,13 +2,13 @@
 use Rattle.std.proofs.Common.{◌≡◌, ◌≢◌, ℕ, zero, suc, ◌+◌, ◌<◌, ◌≤◌, List, [], ◌∷◌, take, slice_get, Some, refl, sym, ap, subst, ◌∙◌, arith, ◌⊎◌, inl, inr}
 use Rattle.std.proofs.lemmas.Bool.{cases_order}
 use Rattle.std.proofs.lemmas.Option.{slice_get_within}
-use Rattle.elab_parts.specs.trees.Tree.{Tree}
-use Rattle.elab_parts.specs.unify_types.Pairs.{SolvesAll, IsSolution, IsSolvable, IsUnsolvable}
-use Rattle.elab_parts.specs.elab_walk.Patterns.{Notes}
-use Rattle.elab_parts.specs.elab_walk.Pieces.{NotedTree}
-use Rattle.elab_parts.specs.declared.solution.TypingFault.{TypingFault}
-use Rattle.elab_parts.specs.declared.solution.TypingFault.TheVariants.{Memory, Clash, Undetermined}
-use Rattle.elab_parts.specs.Elaborated.{IsDetermined, AreMatches, IsSolved, IsTypingFault}
+use Rattle.tasks.specs.trees.Tree.{Tree}
+use Rattle.valid_tasks.specs.unify_types.Pairs.{SolvesAll, IsSolution, IsSolvable, IsUnsolvable}
+use Rattle.valid_tasks.specs.elab_walk.Patterns.{Notes}
+use Rattle.valid_tasks.specs.elab_walk.Pieces.{NotedTree}
+use Rattle.valid_tasks.specs.elab_parts.declared.solution.TypingFault.{TypingFault}
+use Rattle.valid_tasks.specs.elab_parts.declared.solution.TypingFault.TheVariants.{Memory, Clash, Undetermined}
+use Rattle.valid_tasks.specs.elab_parts.Elaborated.{IsDetermined, AreMatches, IsSolved, IsTypingFault}
 use Rattle.valid_tasks.specs.elab_groups.Groups.{AreSolved}
 
 -- ---- what is made

@@ -2,10 +2,10 @@
 use Rattle.std.proofs.Common.{◌≡◌, ℕ, List, get_or, drop, reverse, All, Option, Some, None, refl, sym, subst}
 use Rattle.std.specs.Prelude.{IsSomeAnd}
 use Rattle.std.proofs.lemmas.List.Elements.{All-drop, All-map, Contains-get_or}
-use Rattle.elab_parts.specs.tasks.Task.{TaskTree}
-use Rattle.elab_parts.specs.tasks.Valid.{IsValid}
-use Rattle.theory_states.specs.goal_tasks.Theories.{GoalTree, KnownTheoryTree, TheoriesTree, has_path, has_name, theory_named, goal_named}
-use Rattle.theory_states.specs.goal_tasks.Tasks.{task_for, IsTaskOf}
+use Rattle.tasks.specs.Task.{TaskTree}
+use Rattle.tasks.specs.Valid.{IsValid}
+use Rattle.valid_tasks.specs.goal_tasks.Theories.{GoalTree, KnownTheoryTree, TheoriesTree, has_path, has_name, theory_named, goal_named}
+use Rattle.valid_tasks.specs.goal_tasks.Tasks.{task_for, IsTaskOf}
 use Rattle.theory_states.specs.States.{KnownTree}
 use Rattle.valid_tasks.proofs.Scoped.{goal_valid}
 use Rattle.theories.specs.Files.{visible_theory, theories_of}

@@ -1,8 +1,8 @@
 -- What is known stays typed and sound, one declaration after another.
 use Rattle.std.proofs.Common.{ℕ, ◌+◌, suc, true, List, [], ◌∷◌, ◌++◌, All, refl, sym, subst, arith}
 use Rattle.std.proofs.lemmas.List.Elements.{All-nil, All-cons, All-push}
-use Rattle.elab_parts.specs.tasks.Vocabulary.{of_signature}
-use Rattle.elab_parts.specs.names_space.Names.{with_scope}
+use Rattle.tasks.specs.Vocabulary.{of_signature}
+use Rattle.valid_tasks.specs.names_space.Names.{with_scope}
 use Rattle.syntax_why.specs.tokens_why.declared.terminal.Terminal.TheVariants as t
 use Rattle.theory_states.specs.declared.moves.Move.TheVariants.{Opens, Closes}
 use Rattle.theory_states.specs.Moves.{left}

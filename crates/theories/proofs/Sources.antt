@@ -4,11 +4,11 @@ use Rattle.std.specs.Prelude.{◌||◌}
 use Rattle.std.specs.Str.{bytes_eq}
 use Rattle.std.specs.Option.{is_some}
 use Rattle.std.proofs.lemmas.List.Elements.{All-nil}
-use Rattle.elab_parts.specs.trees.Tree.{Tree}
+use Rattle.tasks.specs.trees.Tree.{Tree}
 use Rattle.syntax_why.specs.tokens_why.declared.token.Token.{Token}
 use Rattle.syntax_why.specs.tokens_why.Tokens.{AreTokens}
 use Rattle.syntax_why.specs.tokens_why.declared.terminal.Terminal.TheVariants as t
-use Rattle.elab_parts.specs.tasks.Vocabulary.{is_empty}
+use Rattle.tasks.specs.Vocabulary.{is_empty}
 use Rattle.syntax_why.specs.Lexeme.{mark, lx, rest}
 use Rattle.syntax_why.specs.Declarations.{SyntaxDeclarations, SyntaxTheory, heading, write_decls, write_theory, write_file}
 use Rattle.syntax_why.specs.DeclarationRules.{AreLevelDecls, IsLevelFile}
@@ -16,9 +16,9 @@ use Rattle.syntax_why.specs.declared.declarations.File.{File}
 use Rattle.syntax_why.specs.SurfaceDeclarations.{file_of}
 use Rattle.std_theories.specs.recognise_why.Sources.{IsOnlyFile}
 use Rattle.std_theories.specs.Library.{LibraryEntry, AreFilesOf, library}
-use Rattle.elab_parts.specs.Entries.{builtin}
+use Rattle.valid_tasks.specs.elab_parts.Entries.{builtin}
 use Rattle.valid_tasks.proofs.QuotedTokens.{tokens_quoted}
-use Rattle.theory_states.specs.goal_tasks.Theories.{TheoriesTree}
+use Rattle.valid_tasks.specs.goal_tasks.Theories.{TheoriesTree}
 use Rattle.valid_tasks.specs.Placed.{ArePlaced}
 use Rattle.theory_states.specs.States.{KnownTree, StateTree, known_named, opened_empty}
 use Rattle.valid_tasks.specs.TypedStates.{AreTypedTheories}
@@ -36,7 +36,7 @@ use Rattle.theories.proofs.IntGrowth.{source_ints}
 use Rattle.theories.proofs.IntLibrary.{library_ints}
 use Rattle.theories.specs.Sources.{AreSoundIn}
 use Rattle.theories.proofs.SourceSteps.{AreQuoted, tail_of, front_of, back_of, IsGood, decls_good}
-use Rattle.elab_parts.proofs.plain_laws.Bools.{or_second as right_false}
+use Rattle.tasks.proofs.plain_laws.Bools.{or_second as right_false}
 
 -- ---- between theories
 pub record AreGood (c : StateTree) : Type 0 where

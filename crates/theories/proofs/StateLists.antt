@@ -1,7 +1,7 @@
 -- The first of a list for which a fact fails is one.
 use Rattle.std.proofs.Common.{◌≡◌, ℕ, zero, suc, List, [], ◌∷◌, All, refl, ap}
 use Rattle.std.proofs.lemmas.List.Elements.{All-head, All-tail}
-use Rattle.theory_declarations.specs.decl_checks.Checks.{IsFirstWithout}
+use Rattle.valid_tasks.specs.decl_checks.Checks.{IsFirstWithout}
 
 module _ {X : Type 0} (P : X → Type 0) where
   pub without_or : (xs : List X) (n : ℕ) → All P xs → IsFirstWithout P xs n → ⊥

@@ -1,7 +1,7 @@
 -- The steps of a clone by places: their declarations are those at the places, and those that are joined are the ones of other theories.
 use Rattle.std.proofs.Common.{◌≡◌, ℕ, ◌<◌, not, if◌then◌else◌, cond, Bool, true, false, List, [], ◌∷◌, ◌++◌, length, get_or, slice_get, All, Option, Some, None, option_to_list, append_assoc, refl, sym, ap, ◌∙◌}
 use Rattle.std.proofs.lemmas.List.Elements.{All-head, All-tail, All-append, Contains-get_or}
-use Rattle.elab_parts.specs.tasks.Task.{SymbolTree, DeclarationTree, made_by}
+use Rattle.tasks.specs.Task.{SymbolTree, DeclarationTree, made_by}
 use Rattle.valid_tasks.specs.clones.Mapped.{Map}
 use Rattle.syntax_why.specs.Lexeme.{Word}
 use Rattle.syntax_why.specs.declared.declarations.PropKind.{PropKind}

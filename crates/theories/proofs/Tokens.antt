@@ -17,10 +17,10 @@ use Rattle.syntax_why.specs.tokens_why.Strings.{word_kind, run_kind, mark_kind, 
 use Rattle.syntax_why.specs.tokens_why.Terminals.{terminal_of}
 use Rattle.syntax_why.specs.tokens_why.Tokens.{text_of, Stop, whole, Reads, AreTokens}
 use Rattle.syntax_why.specs.Lexeme.{Word, said, lexeme, rest}
-use Rattle.elab_parts.specs.tasks.Words.{IsScopedName}
+use Rattle.tasks.specs.Words.{IsScopedName}
 use Rattle.theories.specs.Lexemes.{SaysWord, IsWordLexeme, AreWordLexemes}
 use Rattle.theories.proofs.Words.{all_to, implied, is_number_byte, is_part_byte, empty_name, part}
-use Rattle.elab_parts.proofs.plain_laws.Bools.{and_both as both, negated}
+use Rattle.tasks.proofs.plain_laws.Bools.{and_both as both, negated}
 
 -- ---- bytes of words and operators
 letter_low : (c : ℕ) → is_letter c ≡ true → c < 128

@@ -3,14 +3,14 @@ use Rattle.std.proofs.Common.{ℕ, suc, zero, codes, List, [], ◌∷◌, ◌++�
 use Rattle.std.specs.Fmt.{decimal}
 use Rattle.std.proofs.lemmas.List.{append_assoc}
 use Rattle.std.proofs.lemmas.List.Elements.{All-nil, All-cons, All-append}
-use Rattle.elab_parts.specs.trees.Tree.{Tree}
-use Rattle.elab_parts.specs.tasks.declared.signature.SymbolKind.TheVariants.{Constructor, Projection}
-use Rattle.elab_parts.specs.tasks.Task.{SymbolTree, symbol_or}
-use Rattle.elab_parts.specs.tasks.Equations.{type_variables}
-use Rattle.elab_parts.specs.tasks.Valid.{own_type}
+use Rattle.tasks.specs.trees.Tree.{Tree}
+use Rattle.tasks.specs.declared.signature.SymbolKind.TheVariants.{Constructor, Projection}
+use Rattle.tasks.specs.Task.{SymbolTree, symbol_or}
+use Rattle.tasks.specs.Equations.{type_variables}
+use Rattle.tasks.specs.Valid.{own_type}
 use Rattle.syntax_why.specs.Lexeme.{Word}
-use Rattle.elab_parts.specs.Entries.{builtin, type_entry, projection_name, projections, constructor_entries, tuple_entries, tuple_in, wanting_tuple, wanting_tuples}
-use Rattle.elab_parts.specs.tasks.Words.{IsScopedName}
+use Rattle.valid_tasks.specs.elab_parts.Entries.{builtin, type_entry, projection_name, projections, constructor_entries, tuple_entries, tuple_in, wanting_tuple, wanting_tuples}
+use Rattle.tasks.specs.Words.{IsScopedName}
 use Rattle.theories.specs.Names.{HaveWords}
 use Rattle.theories.proofs.Words.{written_name, joined, number_after, numbered}
 

@@ -11,7 +11,7 @@ use Rattle.syntax_why.specs.Declarations.{SyntaxDeclaration, SyntaxDeclarations,
 use Rattle.theory_states.specs.States.{StateTree}
 use Rattle.theory_states.specs.Uses.{last_part, alias_text, IsTheoryUsed}
 use Rattle.theories.specs.Typing.{IsPassed, IsOpened, IsDeclarationTyped, AreDeclarationsTyped}
-use Rattle.elab_parts.specs.tasks.Words.{IsScopedName}
+use Rattle.tasks.specs.Words.{IsScopedName}
 use Rattle.theories.specs.Lexemes.{IsWordLexeme, AreWordLexemes}
 use Rattle.theories.specs.Names.{HasWordNames}
 use Rattle.theories.proofs.Words.{written_name, joined}

@@ -3,8 +3,8 @@ use Rattle.std.proofs.Common.{◌≡◌, ℕ, ◌==◌, Bool, true, false, cond,
 use Rattle.std.specs.List.{find}
 use Rattle.std.specs.Option.{IfSome}
 use Rattle.std.proofs.lemmas.List.Elements.{All-nil, All-cons, All-append, All-push, All-head, All-tail}
-use Rattle.elab_parts.specs.tasks.Task.{SymbolTree, BodyTree, MakesType, Makes, Defines, Induces, Constructs, Says, DeclarationTree, symbol_or}
-use Rattle.elab_parts.specs.tasks.Rigid.{rigid_symbol}
+use Rattle.tasks.specs.Task.{SymbolTree, BodyTree, MakesType, Makes, Defines, Induces, Constructs, Says, DeclarationTree, symbol_or}
+use Rattle.tasks.specs.Rigid.{rigid_symbol}
 use Rattle.syntax_why.specs.Lexeme.{Word}
 use Rattle.syntax_why.specs.Declarations.{Element, type_element, symbol_element, prop_element, all_axioms}
 use Rattle.syntax_why.specs.declared.names.Name.{Name}
@@ -16,9 +16,9 @@ use Rattle.syntax_why.specs.declared.declarations.PropKind.TheVariants as kind
 use Rattle.theory_states.specs.Moves.{name_or}
 use Rattle.valid_tasks.specs.clones.Mapped.{Map}
 use Rattle.valid_tasks.specs.clones.Copies.{entry_copied}
-use Rattle.elab_parts.specs.elab_names.Abstract.{type_expression}
-use Rattle.elab_parts.specs.elab_variables.Seen.{form_seen}
-use Rattle.elab_parts.specs.Elaborated.{unseen}
+use Rattle.valid_tasks.specs.elab_names.Abstract.{type_expression}
+use Rattle.valid_tasks.specs.elab_variables.Seen.{form_seen}
+use Rattle.valid_tasks.specs.elab_parts.Elaborated.{unseen}
 use Rattle.valid_tasks.specs.clone_elements.Rights.{right_tuples, rights_tuples}
 use Rattle.valid_tasks.specs.clone_elements.Plans.{fates_of, kept, kind_or, is_replaced}
 use Rattle.theory_states.specs.declared.states.AxiomAt.{AxiomAt}
@@ -28,7 +28,7 @@ use Rattle.valid_tasks.specs.clone_copies.Origins.{Axioms, no_axioms, with_axiom
 use Rattle.valid_tasks.specs.clone_copies.Entries.{entries_copied}
 use Rattle.valid_tasks.specs.clone_copies.Places.{Copying, goal_with, with_copied_goal, with_kind, with_copy, copy_of, with_joined, with_own, with_place, with_places}
 use Rattle.clone_theories.specs.Cloned.{symbols_tupled, sides_in, map_in, within_of, copying_in, with_copied_entries, IsCloned}
-use Rattle.elab_parts.specs.tasks.Words.{IsScopedName}
+use Rattle.tasks.specs.Words.{IsScopedName}
 use Rattle.theories.specs.Names.{HaveWords, HaveWordVariables, HasWordNames}
 use Rattle.theories.proofs.Words.{written_name, joined}
 use Rattle.theories.proofs.Tuples.{HasWord, tuples_words, symbol_word}

@@ -5,9 +5,9 @@ use Rattle.std.specs.Fmt.{digit_glyph, digits_onto, digits, decimal}
 use Rattle.std.proofs.lemmas.Bool.Decides.{nat_tests}
 use Rattle.std.proofs.lemmas.List.Elements.{All-nil, All-cons}
 use Rattle.std.proofs.lemmas.List.Folds.{list_all-append}
-use Rattle.elab_parts.specs.tasks.Words.{IsPlainByte, IsLineWord, is_name_byte, has_no_number, IsScopedName}
+use Rattle.tasks.specs.Words.{IsPlainByte, IsLineWord, is_name_byte, has_no_number, IsScopedName}
 use Rattle.std.proofs.lemmas.Bool.{and_from as joins, and_right as right_false}
-use Rattle.elab_parts.proofs.plain_laws.Bools.{and_both as both, negated}
+use Rattle.tasks.proofs.plain_laws.Bools.{and_both as both, negated}
 
 -- ---- tests
 

@@ -11,11 +11,11 @@ use Rattle.syntax_why.specs.Forms as surface
 use Rattle.syntax_why.specs.Trees.{SyntaxTree, write, bar_before, type_part}
 use Rattle.syntax_why.specs.Declarations.{variable_row, param_row, definition, write_member, other_members, write_constructor, constructor_tail, constructor_list, write_algebraic, algebraic_tail, clause_list, write_inductive, inductive_tail, prop_word, write_decl}
 use Rattle.syntax_why.specs.Declarations as source
-use Rattle.elab_parts.specs.elab_names.Abstract.{expression, spelled, prefix_name, infix_name, text_of_own}
-use Rattle.elab_parts.specs.Declarations.{GroupMember, AlgebraicConstructor, AlgebraicType, Declaration, abstract_type, alias, algebraic, member_group, inductive, proposition_declaration, declaration, symbol, group_member, constructor, algebraic_type, inductive_predicate}
+use Rattle.valid_tasks.specs.elab_names.Abstract.{expression, spelled, prefix_name, infix_name, text_of_own}
+use Rattle.valid_tasks.specs.elab_parts.Declarations.{GroupMember, AlgebraicConstructor, AlgebraicType, Declaration, abstract_type, alias, algebraic, member_group, inductive, proposition_declaration, declaration, symbol, group_member, constructor, algebraic_type, inductive_predicate}
 use Rattle.valid_tasks.specs.elab_inductives.Inductives.{as_members}
 use Rattle.valid_tasks.specs.elab_terms.Outcomes.{proposition_seen}
-use Rattle.elab_parts.specs.tasks.Words.{IsScopedName}
+use Rattle.tasks.specs.Words.{IsScopedName}
 use Rattle.theories.specs.Lexemes.{SaysWord, IsWordLexeme, AreWordLexemes}
 use Rattle.theories.proofs.Words.{written_name, joined}
 use Rattle.valid_tasks.proofs.Variables.{VariableAs, IsVariable, tail_of, front_of, back_of, variables_told}

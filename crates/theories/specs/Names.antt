@@ -1,9 +1,9 @@
 -- Names of symbols and of type variables, of bytes of names with no digit first in a part, while the theories of a source are typed.
 use Rattle.std.specs.Prelude.{List, All}
-use Rattle.elab_parts.specs.tasks.Task.{SymbolTree}
+use Rattle.tasks.specs.Task.{SymbolTree}
 use Rattle.theory_states.specs.declared.states.AxiomAt.{AxiomAt}
 use Rattle.theory_states.specs.States.{KnownTree, StateTree}
-use Rattle.elab_parts.specs.tasks.Words.{IsScopedName}
+use Rattle.tasks.specs.Words.{IsScopedName}
 
 abbrev pub HaveWords : List SymbolTree → Type 0
 HaveWords symbols = All (λ (e : SymbolTree). IsScopedName e.name) symbols

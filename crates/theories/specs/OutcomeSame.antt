@@ -1,7 +1,7 @@
 -- Places at which a declaration stands alike over two stores, and outcomes that are alike: all but the numbers of aliases is one.
 use Rattle.std.specs.Prelude.{◌≡◌, List}
-use Rattle.elab_parts.specs.trees.Tree.{Tree}
-use Rattle.elab_parts.specs.Outcomes.{Setting, Outcome}
+use Rattle.tasks.specs.trees.Tree.{Tree}
+use Rattle.valid_tasks.specs.elab_parts.Outcomes.{Setting, Outcome}
 use Rattle.theories.specs.Same.{AreSameNames}
 
 pub record IsSameSetting (c d : Setting) : Type 0 where

@@ -1,6 +1,6 @@
 -- What a clone asks of theories beside that they are sound: no name of a symbol stands for an alias, and each axiom is a proposition.
 use Rattle.std.specs.Prelude.{◌≡◌, ◌<◌, List, length, slice_get, All, Some}
-use Rattle.elab_parts.specs.tasks.Task.{BodyTree, Says, DeclarationTree}
+use Rattle.tasks.specs.Task.{BodyTree, Says, DeclarationTree}
 use Rattle.theory_states.specs.declared.moves.Move.{Move}
 use Rattle.theory_states.specs.declared.states.AxiomAt.{AxiomAt}
 use Rattle.theory_states.specs.States.{KnownTree, StateTree}

@@ -1,10 +1,10 @@
 -- What holds before and after each declaration: all numbers are held, and all that is known is typed.
 use Rattle.std.specs.Prelude.{◌≡◌, ℕ, false, List, [], map}
 use Rattle.std.specs.Str.{bytes_eq}
-use Rattle.elab_parts.specs.trees.Tree.{Tree}
-use Rattle.elab_parts.specs.tasks.Meaning.{symbols_at, declarations_at}
-use Rattle.elab_parts.specs.tasks.Vocabulary.{is_empty}
-use Rattle.elab_parts.specs.Entries.{builtin}
+use Rattle.tasks.specs.trees.Tree.{Tree}
+use Rattle.tasks.specs.Meaning.{symbols_at, declarations_at}
+use Rattle.tasks.specs.Vocabulary.{is_empty}
+use Rattle.valid_tasks.specs.elab_parts.Entries.{builtin}
 use Rattle.theory_states.specs.declared.states.Opened.{Opened}
 use Rattle.theory_states.specs.declared.states.Typed.{Typed}
 use Rattle.theory_states.specs.States.{StateTree, opened_empty}

@@ -1,12 +1,12 @@
 -- Names over two stores that mean the same: an alias stands for one type, which each store holds under a number of its own.
 use Rattle.std.specs.Prelude.{◌≡◌, ℕ, List, [], ◌∷◌, Option, Some, None}
-use Rattle.elab_parts.specs.trees.Tree.{Tree}
-use Rattle.elab_parts.specs.trees.Node.{tree_at, Holds}
-use Rattle.elab_parts.specs.names_space.Names.{ScopeNames, ScopeEntry}
-use Rattle.elab_parts.specs.names_space.declared.Table.{Table}
-use Rattle.elab_parts.specs.names_space.declared.Table.TheVariants.{Types, Symbols, Propositions, Scopes}
-use Rattle.elab_parts.specs.names_space.declared.TypeName.{TypeName}
-use Rattle.elab_parts.specs.names_space.declared.TypeName.TheVariants as stands
+use Rattle.tasks.specs.trees.Tree.{Tree}
+use Rattle.tasks.specs.trees.Node.{tree_at, Holds}
+use Rattle.valid_tasks.specs.names_space.Names.{ScopeNames, ScopeEntry}
+use Rattle.valid_tasks.specs.names_space.declared.Table.{Table}
+use Rattle.valid_tasks.specs.names_space.declared.Table.TheVariants.{Types, Symbols, Propositions, Scopes}
+use Rattle.valid_tasks.specs.names_space.declared.TypeName.{TypeName}
+use Rattle.valid_tasks.specs.names_space.declared.TypeName.TheVariants as stands
 use Rattle.theory_states.specs.declared.moves.Move.{Move}
 use Rattle.theory_states.specs.declared.moves.Move.TheVariants.{Brings, Opens, Closes}
 

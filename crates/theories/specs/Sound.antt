@@ -1,10 +1,10 @@
 -- The theories of a source, typed so that what is known stays sound: for the laws, which know of one declaration what its typing ensures.
 use Rattle.std.specs.Prelude.{List, All}
-use Rattle.elab_parts.specs.trees.Tree.{Tree}
+use Rattle.tasks.specs.trees.Tree.{Tree}
 use Rattle.syntax_why.specs.Declarations.{SyntaxDeclaration, SyntaxDeclarations, SyntaxTheory, write_decl}
 use Rattle.valid_tasks.specs.Lists.{IsGroupWhole}
 use Rattle.valid_tasks.specs.Quoted.{IsQuotedLexeme}
-use Rattle.theory_states.specs.goal_tasks.Theories.{TheoriesTree}
+use Rattle.valid_tasks.specs.goal_tasks.Theories.{TheoriesTree}
 use Rattle.theory_states.specs.States.{StateTree}
 use Rattle.valid_tasks.specs.TypedStates.{IsTypedState}
 use Rattle.valid_tasks.specs.Sound.{IsSoundState}

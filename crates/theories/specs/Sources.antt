@@ -1,7 +1,7 @@
 -- Theories over one signature that are sound.
 use Rattle.std.specs.Prelude.{◌≡◌, ℕ}
-use Rattle.elab_parts.specs.tasks.Valid.{AreInts}
-use Rattle.theory_states.specs.goal_tasks.Theories.{TheoriesTree}
+use Rattle.tasks.specs.Valid.{AreInts}
+use Rattle.valid_tasks.specs.goal_tasks.Theories.{TheoriesTree}
 use Rattle.theory_states.specs.States.{StateTree}
 use Rattle.valid_tasks.specs.Sound.{AreSoundTheories}
 use Rattle.theories.specs.Ints.{int_entries}

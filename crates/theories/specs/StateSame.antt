@@ -1,6 +1,6 @@
 -- What is known while a source is typed, alike over two stores: all but the trees of the store and the numbers of aliases is one.
 use Rattle.std.specs.Prelude.{◌≡◌, List}
-use Rattle.elab_parts.specs.trees.Tree.{Tree}
+use Rattle.tasks.specs.trees.Tree.{Tree}
 use Rattle.theories.specs.Same.{AreEachAlike, AreSameNames, AreSameMoves}
 use Rattle.theory_states.specs.States.{KnownTree, OpenedTree, StateTree}
 

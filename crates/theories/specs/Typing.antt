@@ -1,7 +1,7 @@
 -- The typing of a theory's declarations, one after another, and their first fault (Why3 manual, "theories").
 use Rattle.std.specs.Prelude.{◌≡◌, ◌⊎◌, ℕ, ◌+◌, true, false, codes, List, [], ◌∷◌, ◌++◌}
-use Rattle.elab_parts.specs.names_space.Names.{with_scope, is_declared, entries_of, innermost}
-use Rattle.elab_parts.specs.names_space.declared.Table.TheVariants.{Scopes}
+use Rattle.valid_tasks.specs.names_space.Names.{with_scope, is_declared, entries_of, innermost}
+use Rattle.valid_tasks.specs.names_space.declared.Table.TheVariants.{Scopes}
 use Rattle.theory_states.specs.declared.moves.Move.TheVariants.{Opens, Closes}
 use Rattle.theory_states.specs.Moves.{left}
 use Rattle.syntax_why.specs.declared.names.Name.{Name}

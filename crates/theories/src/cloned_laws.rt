@@ -1,8 +1,8 @@
 // What is known while the theories of a source are typed stays sound where a theory is cloned.
 ghost use Rattle.std.specs.Prelude.{ℕ, List, [], ◌∷◌, ◌++◌, All, Option};
-ghost use Rattle.elab_parts.specs.trees.Tree.{Tree};
-ghost use Rattle.elab_parts.specs.tasks.Task.{SymbolTree, DeclarationTree};
-ghost use Rattle.elab_parts.specs.names_space.Names.{ScopeNames};
+ghost use Rattle.tasks.specs.trees.Tree.{Tree};
+ghost use Rattle.tasks.specs.Task.{SymbolTree, DeclarationTree};
+ghost use Rattle.valid_tasks.specs.names_space.Names.{ScopeNames};
 ghost use Rattle.theory_states.specs.declared.moves.Move.{Move};
 ghost use Rattle.syntax_why.specs.Declarations.{SyntaxDeclaration, Element};
 ghost use Rattle.syntax_why.specs.declared.names.Name.{Name};

@@ -1,7 +1,7 @@
 // The declarations of a theory, one after another.
 // They depend on the typing of one declaration, on use and on clone; theories are typed by them.
 ghost use Rattle.std.specs.Prelude.{◌≡◌, ◌+◌, map, IfErr, OnOk};
-ghost use Rattle.elab_parts.specs.trees.Node.{Grows};
+ghost use Rattle.tasks.specs.trees.Node.{Grows};
 ghost use Rattle.syntax_why.specs.SurfaceDeclarations.{decl_of, decls, element_of};
 ghost use Rattle.valid_tasks.specs.elab_terms.Outcomes.{IsLogical};
 ghost use Rattle.theory_states.specs.declared.fault.SourceFault.TheVariants.{Memory};
@@ -14,12 +14,12 @@ ghost use Rattle.theories.specs.Sound.{IsSoundlyDeclared, IsSoundlyTyped, AreSou
 ghost use Rattle.theories.specs.Right.{IsStateRight};
 
 use clone_theories::clone_theory;
-use elab_parts::{NameFault, Store};
 use std::alloc::Global;
 use syntax_why::{DeclNode, DeclTree, ElemTree, Link, Name, Path};
-use theory_declarations::type_declaration;
+use tasks::Store;
+use theory_declarations::{is_logical, type_declaration};
 use theory_states::{Move, Opened, SourceFault, Typed, leave, use_theory};
-use valid_tasks::is_logical;
+use valid_tasks::NameFault;
 
 // The next declaration has the next number.
 fn pass(open: &mut Opened) -> Result<(), SourceFault>

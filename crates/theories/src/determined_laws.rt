@@ -1,11 +1,11 @@
 // The theories of a source are determined: a source has at most one list of theories and at most one first fault, whatever store its types are put into.
 ghost use Rattle.std.specs.Prelude.{◌≡◌, ◌≢◌, List, Option};
-ghost use Rattle.elab_parts.specs.trees.Tree.{Tree};
+ghost use Rattle.tasks.specs.trees.Tree.{Tree};
 ghost use Rattle.syntax_why.specs.Declarations.{SyntaxDeclarations, Element, SyntaxTheory};
 ghost use Rattle.syntax_why.specs.declared.names.Name.{Name};
 ghost use Rattle.syntax_why.specs.declared.names.Path.{Path};
 ghost use Rattle.syntax_why.specs.declared.declarations.Link.{Link};
-ghost use Rattle.theory_states.specs.goal_tasks.Theories.{TheoriesTree};
+ghost use Rattle.valid_tasks.specs.goal_tasks.Theories.{TheoriesTree};
 ghost use Rattle.theory_states.specs.declared.fault.SourceFault.{SourceFault};
 ghost use Rattle.theory_states.specs.declared.fault.SourceFault.TheVariants.{Memory};
 ghost use Rattle.theories.specs.Steps.{IsOneStep};

@@ -1,11 +1,11 @@
 // The theories of a file, after those of the embedded library.
 // They depend on the typing of declarations.
 ghost use Rattle.std.specs.Prelude.{◌≡◌, ℕ, List, map, IfErr, IfOk, OnOk};
-ghost use Rattle.elab_parts.specs.trees.Tree.{Tree};
-ghost use Rattle.elab_parts.specs.trees.Node.{Grows};
-ghost use Rattle.elab_parts.specs.tasks.Meaning.{symbols_at};
+ghost use Rattle.tasks.specs.trees.Tree.{Tree};
+ghost use Rattle.tasks.specs.trees.Node.{Grows};
+ghost use Rattle.tasks.specs.Meaning.{symbols_at};
 ghost use Rattle.syntax_why.specs.SurfaceDeclarations.{theory_of as source_of, file_of};
-ghost use Rattle.theory_states.specs.goal_tasks.Meaning.{theories_at, AllTheoriesHeld, AreTuples};
+ghost use Rattle.valid_tasks.specs.goal_tasks.Meaning.{theories_at, AllTheoriesHeld, AreTuples};
 ghost use Rattle.theory_states.specs.declared.fault.SourceFault.TheVariants.{Memory};
 ghost use Rattle.theory_states.specs.declared.states.KnownTheory.{KnownTheory as KnownCode};
 ghost use Rattle.theory_states.specs.Meaning.{known_at, state_at};
@@ -16,13 +16,14 @@ ghost use Rattle.theories.specs.Right.{IsStateRight, between_at, AreTheoriesRigh
 
 use crate::declarations::type_decls;
 use crate::ints::int_entries;
-use elab_parts::{Seq, Signature, Store, Text};
 use std::alloc::{AllocError, Global};
 use std::rc::Rc;
 use std_theories::{drop_files, library_files};
 use syntax_why::{File, TheoryTree};
-use theory_states::{KnownTheory, Opened, SourceFault, Theories, Theory, Typed};
-use valid_tasks::begin;
+use tasks::{Seq, Signature, Store, Text};
+use theory_declarations::begin;
+use theory_states::{KnownTheory, Opened, SourceFault, Typed};
+use valid_tasks::{Theories, Theory};
 
 // A theory begins, whose header has this number.
 fn begin_theory(

@@ -1,15 +1,15 @@
 // The entries of int.Int, which is the first theory of the library.
 // They depend on the theories of a source, whose signature tells them.
 ghost use Rattle.std.specs.Prelude.{◌≡◌, List};
-ghost use Rattle.elab_parts.specs.trees.Tree.{Tree};
-ghost use Rattle.elab_parts.specs.tasks.Valid.{AreInts};
+ghost use Rattle.tasks.specs.trees.Tree.{Tree};
+ghost use Rattle.tasks.specs.Valid.{AreInts};
 ghost use Rattle.syntax_why.specs.Declarations.{SyntaxTheory};
-ghost use Rattle.theory_states.specs.goal_tasks.Theories.{TheoriesTree};
+ghost use Rattle.valid_tasks.specs.goal_tasks.Theories.{TheoriesTree};
 ghost use Rattle.theory_states.specs.States.{StateTree};
 ghost use Rattle.theories.specs.Ints.{int_entries};
 ghost use Rattle.theories.specs.Files.{IsLibraryTyped, TheoriesOf};
 
-use elab_parts::Ints;
+use tasks::Ints;
 
 /// The entries of int.Int.
 pub(crate) fn int_entries() -> Ints

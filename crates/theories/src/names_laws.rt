@@ -1,10 +1,10 @@
 // Names over two stores that mean the same stay so as names come into scopes, and the same is found in them.
 ghost use Rattle.std.specs.Prelude.{◌≡◌, Bool, ℕ, List, Option};
-ghost use Rattle.elab_parts.specs.trees.Tree.{Tree};
-ghost use Rattle.elab_parts.specs.trees.Node.{Grows};
-ghost use Rattle.elab_parts.specs.names_space.Names.{ScopeNames, find_name, is_declared, entries_of, innermost, empty_names, with_name, with_scope};
-ghost use Rattle.elab_parts.specs.names_space.declared.Table.{Table};
-ghost use Rattle.elab_parts.specs.names_space.declared.TypeName.{TypeName};
+ghost use Rattle.tasks.specs.trees.Tree.{Tree};
+ghost use Rattle.tasks.specs.trees.Node.{Grows};
+ghost use Rattle.valid_tasks.specs.names_space.Names.{ScopeNames, find_name, is_declared, entries_of, innermost, empty_names, with_name, with_scope};
+ghost use Rattle.valid_tasks.specs.names_space.declared.Table.{Table};
+ghost use Rattle.valid_tasks.specs.names_space.declared.TypeName.{TypeName};
 ghost use Rattle.syntax_why.specs.declared.declarations.Link.{Link};
 ghost use Rattle.theory_states.specs.declared.moves.Move.{Move};
 ghost use Rattle.theory_states.specs.Moves.{left, brought, handed};

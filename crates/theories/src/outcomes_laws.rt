@@ -1,11 +1,11 @@
 // The elaboration of a declaration is determined: where it is alike over two stores, it has at most one outcome and one first fault.
 ghost use Rattle.std.specs.Prelude.{◌≡◌, ◌≢◌, List, None};
-ghost use Rattle.elab_parts.specs.trees.Tree.{Tree};
-ghost use Rattle.elab_parts.specs.trees.Node.{Grows};
-ghost use Rattle.elab_parts.specs.declared.ElabFault.{ElabFault};
-ghost use Rattle.elab_parts.specs.declared.ElabFault.TheVariants.{Memory};
-ghost use Rattle.elab_parts.specs.Declarations.{Declaration};
-ghost use Rattle.elab_parts.specs.Outcomes.{Setting, Outcome};
+ghost use Rattle.tasks.specs.trees.Tree.{Tree};
+ghost use Rattle.tasks.specs.trees.Node.{Grows};
+ghost use Rattle.valid_tasks.specs.elab_parts.declared.ElabFault.{ElabFault};
+ghost use Rattle.valid_tasks.specs.elab_parts.declared.ElabFault.TheVariants.{Memory};
+ghost use Rattle.valid_tasks.specs.elab_parts.Declarations.{Declaration};
+ghost use Rattle.valid_tasks.specs.elab_parts.Outcomes.{Setting, Outcome};
 ghost use Rattle.valid_tasks.specs.elab_terms.Outcomes.{IsOutcome, names_fault, IsRefusal};
 ghost use Rattle.theories.specs.OutcomeSame.{IsSameSetting, IsSameOutcome};
 

@@ -1,16 +1,16 @@
 // Names of symbols in the task of a goal of a source: their bytes, and that none of their parts begins with a digit.
 ghost use Rattle.std.specs.Prelude.{ℕ, List};
-ghost use Rattle.elab_parts.specs.trees.Tree.{Tree};
+ghost use Rattle.tasks.specs.trees.Tree.{Tree};
 ghost use Rattle.syntax_why.specs.tokens_why.declared.token.Token.{Token};
 ghost use Rattle.syntax_why.specs.tokens_why.Tokens.{AreTokens};
-ghost use Rattle.elab_parts.specs.tasks.Task.{TaskTree};
+ghost use Rattle.tasks.specs.Task.{TaskTree};
 ghost use Rattle.syntax_why.specs.Lexeme.{rest};
 ghost use Rattle.syntax_why.specs.Declarations.{SyntaxTheory};
 ghost use Rattle.std_theories.specs.recognise_why.Sources.{IsOnlyFile};
-ghost use Rattle.theory_states.specs.goal_tasks.Theories.{TheoriesTree};
-ghost use Rattle.theory_states.specs.goal_tasks.Tasks.{IsTaskOf};
+ghost use Rattle.valid_tasks.specs.goal_tasks.Theories.{TheoriesTree};
+ghost use Rattle.valid_tasks.specs.goal_tasks.Tasks.{IsTaskOf};
 ghost use Rattle.theories.specs.Files.{TheoriesOf};
-ghost use Rattle.elab_parts.specs.tasks.Words.{NamesAreWords, NamesAreScoped};
+ghost use Rattle.tasks.specs.Words.{NamesAreWords, NamesAreScoped};
 
 /// A law: each name of a symbol in the task of a goal of a source is a word of a line; it is made of letters, digits, `_`, `'`,
 /// characters of operators and dots, and no part of it, between dots, begins with a digit.

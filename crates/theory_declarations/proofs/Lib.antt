@@ -1,4 +1,3 @@
-pub use Rattle.side_conditions.proofs.decl_checks as decl_checks
 mod Typed
 mod Named
 mod Refused

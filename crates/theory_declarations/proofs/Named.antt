@@ -13,7 +13,7 @@ use Rattle.tasks.proofs.Growth.{tree_later}
 use Rattle.elab_parts.specs.names_space.Names.{ScopeNames}
 use Rattle.syntax_why.specs.Declarations as source
 use Rattle.theory_states.specs.declared.moves.Move.{Move}
-use Rattle.side_conditions.specs.decl_checks.Checks.{HasNoFault}
+use Rattle.valid_tasks.specs.decl_checks.Checks.{HasNoFault}
 use Rattle.elab_parts.proofs.elab_walk.Growing.{type_grows}
 use Rattle.elab_parts.specs.declared.made.Elaborated.{Elaborated}
 use Rattle.elab_parts.specs.Declarations.{Declaration, abstract_type, alias, algebraic, member_group, inductive, proposition_declaration}

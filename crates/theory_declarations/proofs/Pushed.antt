@@ -4,9 +4,9 @@ use Rattle.std.proofs.lemmas.List.{map-append}
 use Rattle.std.proofs.lemmas.List.Elements.{All-push}
 use Rattle.tasks.specs.trees.Tree.{Tree}
 use Rattle.tasks.specs.trees.Node.{Grows}
-use Rattle.theory_states.specs.goal_tasks.declared.theories.GoalAt.{GoalAt}
-use Rattle.theory_states.specs.goal_tasks.Theories.{GoalTree}
-use Rattle.theory_states.specs.goal_tasks.Meaning.{goal_at, GoalHeld}
+use Rattle.valid_tasks.specs.goal_tasks.declared.theories.GoalAt.{GoalAt}
+use Rattle.valid_tasks.specs.goal_tasks.Theories.{GoalTree}
+use Rattle.valid_tasks.specs.goal_tasks.Meaning.{goal_at, GoalHeld}
 use Rattle.theory_states.specs.declared.states.Opened.{Opened}
 use Rattle.theory_states.specs.declared.states.Typed.{Typed}
 use Rattle.theory_states.specs.States.{StateTree}

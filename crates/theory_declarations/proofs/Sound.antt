@@ -33,7 +33,7 @@ use Rattle.valid_tasks.specs.Lists.{after, MakesBelow, IsGroupWhole, IsNoGoal, I
 use Rattle.valid_tasks.specs.Valid.{IsTypedSetting, HaveNoFault}
 use Rattle.valid_tasks.proofs.Steps.{next_declaration}
 use Rattle.valid_tasks.proofs.Goals.{next_goal}
-use Rattle.theory_states.specs.goal_tasks.Theories.{GoalTree}
+use Rattle.valid_tasks.specs.goal_tasks.Theories.{GoalTree}
 use Rattle.valid_tasks.specs.Tasks.{AreSound, IsToProve, IsGoalSaid, IsSoundAfter}
 use Rattle.valid_tasks.proofs.Grown.{own_below}
 use Rattle.valid_tasks.proofs.Next.{next_sound}

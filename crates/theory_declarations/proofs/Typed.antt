@@ -22,7 +22,7 @@ use Rattle.valid_tasks.specs.Scopes.{IsSubvocabulary, IsTypedThing, AreTypedScop
 use Rattle.valid_tasks.proofs.Extended.{further, scopes_part}
 use Rattle.valid_tasks.proofs.Scopes.{found_thing}
 use Rattle.valid_tasks.specs.Valid.{IsTypedSetting}
-use Rattle.theory_states.specs.goal_tasks.Theories.{GoalTree}
+use Rattle.valid_tasks.specs.goal_tasks.Theories.{GoalTree}
 use Rattle.valid_tasks.specs.Moves.{IsTypedMove, AreTypedMoves}
 use Rattle.valid_tasks.proofs.MovedScopes.{moves_more}
 use Rattle.theory_declarations.specs.Made.{thing_named, brought_as, moves_made, moves_of, moves_declared}

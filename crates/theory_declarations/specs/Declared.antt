@@ -9,7 +9,7 @@ use Rattle.syntax_why.specs.Lexeme.{Word}
 use Rattle.syntax_why.specs.Declarations as source
 use Rattle.syntax_why.specs.declared.declarations.PropKind.{PropKind}
 use Rattle.syntax_why.specs.declared.declarations.PropKind.TheVariants as kind
-use Rattle.side_conditions.specs.decl_checks.Checks.{HasNoFault}
+use Rattle.valid_tasks.specs.decl_checks.Checks.{HasNoFault}
 use Rattle.elab_parts.specs.elab_names.Abstract.{Expression, expression}
 use Rattle.elab_parts.specs.declared.ElabFault.{ElabFault}
 use Rattle.elab_parts.specs.Declarations.{Declaration, declaration}
@@ -17,7 +17,7 @@ use Rattle.elab_parts.specs.Outcomes.{Outcome}
 use Rattle.elab_terms.specs.Outcomes.{proposition_seen, rigid_types, IsOutcome, names_fault, IsRefusal}
 use Rattle.side_conditions.specs.declared.sides.SideFault.{SideFault}
 use Rattle.side_conditions.specs.Sides.{IsCovered, IsSideFault, bodies}
-use Rattle.theory_states.specs.goal_tasks.Theories.{GoalTree}
+use Rattle.valid_tasks.specs.goal_tasks.Theories.{GoalTree}
 use Rattle.theory_declarations.specs.Made.{moves_declared}
 use Rattle.theory_states.specs.declared.fault.SourceFault.{SourceFault}
 use Rattle.theory_states.specs.declared.states.AxiomAt.{AxiomAt}

@@ -1,7 +1,7 @@
 -- Faults of a declaration as faults of its source, with the declaration's number.
 use Rattle.std.specs.Prelude.{ℕ}
-use Rattle.side_conditions.specs.decl_checks.declared.fault.CheckFault.{CheckFault}
-use Rattle.side_conditions.specs.decl_checks.declared.fault.CheckFault.TheVariants as check
+use Rattle.valid_tasks.specs.decl_checks.declared.fault.CheckFault.{CheckFault}
+use Rattle.valid_tasks.specs.decl_checks.declared.fault.CheckFault.TheVariants as check
 use Rattle.elab_parts.specs.declared.ElabFault.{ElabFault}
 use Rattle.elab_parts.specs.declared.ElabFault.TheVariants as elab
 use Rattle.side_conditions.specs.declared.sides.SideFault.{SideFault}

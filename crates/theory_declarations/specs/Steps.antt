@@ -6,7 +6,7 @@ use Rattle.tasks.specs.Meaning.{symbols_at, declarations_at}
 use Rattle.tasks.specs.Valid.{IsQuoted}
 use Rattle.syntax_why.specs.declared.declarations.PropKind.{PropKind}
 use Rattle.syntax_why.specs.Declarations as source
-use Rattle.side_conditions.specs.decl_checks.Checks.{HasNoFault}
+use Rattle.valid_tasks.specs.decl_checks.Checks.{HasNoFault}
 use Rattle.elab_parts.specs.elab_walk.Drafts.{match_at}
 use Rattle.elab_parts.specs.declared.ElabFault.{ElabFault}
 use Rattle.elab_parts.specs.declared.made.Elaborated.{Elaborated}

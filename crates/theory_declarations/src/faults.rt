@@ -4,8 +4,9 @@ ghost use Rattle.std.specs.Prelude.{◌≡◌};
 ghost use Rattle.theory_declarations.specs.Faults as faults;
 
 use elab_parts::ElabFault;
-use side_conditions::{CheckFault, SideFault};
+use side_conditions::SideFault;
 use theory_states::SourceFault;
+use valid_tasks::CheckFault;
 
 /// A fault of the names or the types of a declaration, which has its number.
 pub fn elaboration_fault(fault: ElabFault) -> SourceFault

@@ -1,5 +1,7 @@
-//! The typing of a declaration of a theory: it is elaborated and checked, and what it makes becomes known, with its names.
-//! It depends on the elaboration of declarations, on their side conditions and on what is known of theories.
+//! One declaration of a theory that is no `use`, `clone` or `scope`: it is elaborated and checked, and its declarations,
+//! axioms, goals and names become known; the names that it made, as moves that bring them into other scopes.
+//!
+//! Contract: exactly what is known then, or the first fault of the declaration; what is known stays typed, and sound.
 #![tactic(auto)]
 
 mod faults;
@@ -8,6 +10,7 @@ mod made;
 mod proposed;
 mod typing;
 
+pub use elab_terms::{begin, is_logical};
 pub use faults::{elaboration_fault, side_fault};
 pub use made::push_declared;
 pub use typing::type_declaration;

@@ -15,7 +15,8 @@ use elab_terms::say;
 use std::alloc::{AllocError, Global};
 use syntax_why::{Expr, PropKind};
 use tasks::{Body, Decl, Seq, Store, TermId, Text};
-use theory_states::{AxiomAt, GoalAt, Opened, Typed, push_decl};
+use theory_states::{AxiomAt, Opened, Typed, push_decl};
+use valid_tasks::GoalAt;
 
 // The names of the type variables of a proposition.
 fn variables_of(alloc: Global, e: &Expr) -> Result<Seq<Text>, AllocError>

@@ -5,7 +5,7 @@ ghost use Rattle.tasks.specs.trees.Node.{Grows};
 ghost use Rattle.tasks.specs.Meaning.{symbols_at, declarations_at, SymbolHeld, DeclHeld};
 ghost use Rattle.syntax_why.specs.SurfaceDeclarations.{decl_of};
 ghost use Rattle.syntax_why.specs.Declarations.{write_decl};
-ghost use Rattle.side_conditions.specs.decl_checks.Checks.{HasNoFault};
+ghost use Rattle.valid_tasks.specs.decl_checks.Checks.{HasNoFault};
 ghost use Rattle.elab_parts.specs.elab_walk.Drafts.{match_at};
 ghost use Rattle.elab_parts.specs.Declarations.{declaration};
 ghost use Rattle.elab_parts.specs.Entries.{IsSignature, AreScopes};

@@ -1,4 +1,3 @@
-pub use Rattle.goal_tasks.proofs as goal_tasks
 pub mod Growing
 pub mod Lists
 pub mod Pushing

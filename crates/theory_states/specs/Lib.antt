@@ -1,4 +1,3 @@
-pub use Rattle.goal_tasks.specs as goal_tasks
 pub mod States
 pub mod Uses
 pub mod Meaning

@@ -1,6 +1,9 @@
-//! What is known while the theories of a source are typed: the theories before, the one that is open, and the names that
-//! a theory passes on.
-//! It depends on scopes and on the goals of theories; use, clone and the typing of declarations depend on it.
+//! What is known while theories are typed: the theories before, the open one, and one list of all declarations, of which
+//! each theory has the places of those that are visible; the names that a theory passes on, as moves in a scope; a theory
+//! is used, and each form of `use` brings its names in.
+//!
+//! Contract: exactly the state after a theory is used, a declaration is put in, a theory is opened; the theory of a path;
+//! the scopes after a `use`, and what is passed on.
 #![tactic(auto)]
 
 mod fault;
@@ -9,7 +12,6 @@ mod states;
 mod uses;
 
 pub use fault::SourceFault;
-pub use goal_tasks::{GoalAt, TaskFault, Theories, Theory, task_of};
 pub use moves::{Move, bring_theory, hand_on, leave, replay};
 pub use states::{AxiomAt, KnownTheory, Opened, Typed, push_decl};
 pub use uses::{alias_text, bring_names, find_theory, last_part, path_text, use_theory};

@@ -1,4 +1,6 @@
-//! The tokens of a Why3 source: `lex` cuts a text into them or names the least byte that fits none.
+//! The tokens of a source.
+//!
+//! Contract: exactly the tokens, or the least fault.
 #![tactic(auto)]
 
 mod bytes;

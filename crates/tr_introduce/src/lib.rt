@@ -1,5 +1,6 @@
-//! Introduces the premises and variables of a goal (Why3 manual, "introduce_premises"), and removes propositions by name.
-//! It depends on the transformations of evidence.
+//! The transformation `introduce_premises`, and the removal of propositions by theory and name.
+//!
+//! Contract: the task of its equation, and the laws of a transformation.
 #![tactic(auto)]
 
 mod gluing;

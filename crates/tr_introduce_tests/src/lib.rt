@@ -1,5 +1,4 @@
 //! Tests of the transformations that introduce and remove, and of the bounds on the tasks of a stage.
-//! They depend on these crates; nothing depends on them.
 #![tactic(auto)]
 
 #[cfg(test)]

@@ -1,4 +1,6 @@
-//! The parts of a goal (Why3 manual, "split_goal_right"), and a task for each of them.
+//! The parts of a goal, as `split_goal_right` takes it apart, and a task for each.
+//!
+//! Contract: the tasks of its equation.
 #![tactic(auto)]
 
 mod parts;

@@ -1,5 +1,6 @@
-//! Splits every goal of a task into its parts (Why3 manual, "split_goal_right"), and brings refutations of the parts back.
-//! It depends on the parts of `tr_split` and on scripts of derivations.
+//! The transformation that splits every goal, under `forall`, `let` and `if` too, and brings refutations of the parts back.
+//!
+//! Contract: `Transform`.
 #![tactic(auto)]
 
 mod ends;

@@ -1,6 +1,7 @@
-//! The lines of types, of patterns, and of terms and formulas of a step file: the trees that they make, over those of the
-//! lines before and the names of a table.
-//! It depends on the tasks, the name tables and the words of integers.
+//! The lines of types, patterns, terms and formulas of step files, and the names of a table at types.
+//!
+//! Contract: exactly the type of a line; of the other lines the tree that the words make, and none only where they make no
+//! tree or one whose parts don't fit.
 #![tactic(auto)]
 
 mod expressions;

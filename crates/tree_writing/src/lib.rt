@@ -1,6 +1,6 @@
-//! The lines of types, of patterns, and of terms and formulas of a step file, written from trees, so that they are read
-//! back as those trees.
-//! It depends on the reader's definitions of such lines.
+//! The names of a table by symbols and types, and the lines of types, patterns, terms and formulas, written from trees.
+//!
+//! Contract: the name that is found stands for the symbol, whole or at the types; the lines are read back as the trees.
 #![tactic(auto)]
 
 mod branches;

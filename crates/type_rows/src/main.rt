@@ -1,5 +1,5 @@
-//! Reads systems of type equations, one a line, and prints what the asked unknowns are, or the equation that has no solution.
-//! It depends on the store and on type equations; its input and output are by `tools/type-rows`.
+//! Reads systems of type equations, one a line, and prints what the asked unknowns are, or the equation that has no
+//! solution.
 #![tactic(auto)]
 
 mod answers;

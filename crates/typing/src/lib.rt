@@ -1,5 +1,6 @@
-//! What is well typed over a task or a signature (Why3 manual, rank-1 polymorphism), without memory.
-//! It depends on `tasks` and the term store; the kernel and the readers of steps depend on it.
+//! What is well typed over a task or a signature, and a tree by its children, without memory.
+//!
+//! Contract: exactly what the definition says.
 #![tactic(auto)]
 
 mod enclosing;

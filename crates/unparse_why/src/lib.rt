@@ -1,4 +1,6 @@
-//! The tokens of surface trees: the kinds of the tokens that a file writes.
+//! The kinds of the tokens of files.
+//!
+//! Contract: the tokens of a file are those that its tree writes.
 #![tactic(auto)]
 
 mod expressions;

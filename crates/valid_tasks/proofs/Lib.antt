@@ -1,3 +1,16 @@
+pub use Rattle.elab_parts.proofs.elab_walk as elab_walk
+pub use Rattle.elab_parts.proofs.names_space as names_space
+pub use Rattle.elab_parts.proofs.tasks as tasks
+pub use Rattle.elab_parts.proofs.trees as trees
+pub use Rattle.elab_parts.proofs.elab_variables as elab_variables
+pub use Rattle.elab_parts.proofs.syntax_why as syntax_why
+pub use Rattle.elab_parts.proofs.plain_laws as plain_laws
+pub use Rattle.elab_parts.proofs.outside as outside
+pub use Rattle.elab_parts.proofs.unify_types as unify_types
+pub use Rattle.elab_parts.proofs as elab_parts
+pub use Rattle.decl_checks.proofs as decl_checks
+pub use Rattle.theory_states.proofs as theory_states
+pub use Rattle.goal_tasks.proofs as goal_tasks
 pub mod Words
 pub mod Over
 pub mod Instances

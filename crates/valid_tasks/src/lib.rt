@@ -1,6 +1,11 @@
-//! Laws: what is elaborated is well typed and valid over any vocabulary of its signature, and so is the task of a goal
-//! after it; what is known while the theories of a source are typed, and what a clone makes of it, stays typed and sound.
-//! It depends on the definitions of elaboration, of the tasks of goals and of clones, and on no code of theirs.
+//! Laws: what is elaborated is well typed and valid over any vocabulary of its signature; the task of a goal after
+//! declarations that are valid where they are is valid; what this asks holds of what is elaborated, declaration by
+//! declaration, and of theories that are used; names stay typed as they come into scopes, and copies of valid declarations
+//! are valid; what is known while theories are typed stays typed and sound as a theory begins, uses another one, gets
+//! further declarations and ends; what a clone makes, place by place, is what its steps make, and keeps what is known typed
+//! and sound; no code.
+//!
+//! Contract: definitions and laws.
 #![tactic(auto)]
 
 mod copies_laws;
@@ -20,10 +25,13 @@ pub use copies_laws::{
     clones_next, clones_sound, new_goals_sound, others_stay, rights_typed, signatures_typed,
     trials_agree,
 };
+pub use decl_checks::CheckFault;
 pub use declaration_copies::{copies_valid, formulas_copied, types_copied};
-pub use elab_terms::{begin, is_logical};
+pub use elab_parts::NameFault;
 pub use entries_laws::{entries_typed, names_typed};
+pub use goal_tasks::{GoalAt, TaskFault, Theories, Theory, task_of};
 pub use maps_laws::{copies_typed, outcomes_placed, sides_typed, types_mapped};
+pub use match_cover::{ValueShape, cover};
 pub use places_laws::{moves_become, places_made};
 pub use scope_moves::{finds_typed, moves_typed, stays_typed};
 pub use sound_states::{begins_sound, goals_valid, joins_whole, stays_sound};

@@ -1,5 +1,4 @@
-//! The program `why3lift-explain`: the message of a fault, over the host's files and streams.
-//! It depends on `explain`; it makes the host objects and ends with the code of what came of it.
+//! `main` over the host.
 #![tactic(auto)]
 
 use explain::{ExplainFault, explain_words};

@@ -1,4 +1,6 @@
-//! Tables of words in ascending order, as a language's reserved words: a word's place, and the word at a place.
+//! Tables of words, by number and back.
+//!
+//! Contract: find and word are inverse.
 #![tactic(auto)]
 
 mod table;

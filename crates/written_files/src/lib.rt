@@ -1,5 +1,6 @@
-//! Step files written: derivations as lines of text, which are read back as they were.
-//! It depends on the lines of trees and of steps, and on what a step file means.
+//! Files of steps with all lines and rules, written.
+//!
+//! Contract: a text that is read back as the same steps, by any table that names what is in them, and by the task's own.
 #![tactic(auto)]
 
 mod named;
@@ -9,5 +10,6 @@ mod writer;
 
 pub use kernel::{closes, ends_in_start, first_wrong, right_step};
 pub use name_tables::{NameEntry, NameOf, task_names};
+pub use rule_words::{Argument, word_of, written_rule};
 pub use step_files::{ReadFault, StepReader};
 pub use writer::{write_derivation, write_steps, written_steps};

@@ -8,7 +8,7 @@ use Rattle.syntax_why.specs.Declarations.{type_decl}
 use Rattle.syntax_why.specs.Surface as code
 use Rattle.syntax_why.specs.SurfaceDeclarations.{decl_of}
 use Rattle.syntax_why.proofs.DeclLemmas.{decl_is, decl_of_node-TypeDecl, decl_of_node-Prop, decl_of_node-Algebraic, decl_of_node-Function, decl_of_node-Predicate, decl_of_node-Constant, decl_of_node-Inductive, decl_of_node-UseTheory, decl_of_node-CloneTheory, decl_of_node-ScopeDecl}
-use Rattle.elab_parts.specs.elab_names.Abstract.{type_expression_of}
+use Rattle.elab_names.specs.Abstract.{type_expression_of}
 use Rattle.elab_parts.specs.Declarations.{AlgebraicType, InductivePredicate, GroupMember, algebraic, declaration, inductive, member_group, word}
 use Rattle.elab_parts.specs.Outcomes.{setting_where}
 use Rattle.elab_members.specs.Sources.{member_at}

@@ -1,11 +1,11 @@
 use Rattle.std.proofs.Common.{◌≡◌, [], true, false, None, length, sym, ap, subst, ◌∙◌, Err}
-use Rattle.names_space.specs.declared.Table.TheVariants.{Propositions}
-use Rattle.names_space.specs.Names.{ScopeNames}
+use Rattle.elab_names.specs.names_space.declared.Table.TheVariants.{Propositions}
+use Rattle.elab_names.specs.names_space.Names.{ScopeNames}
 use Rattle.syntax_why.specs.Lexeme.{Word}
 use Rattle.syntax_why.specs.SurfaceDeclarations.{plain_name}
-use Rattle.elab_parts.specs.elab_names.Abstract.{expression_of}
-use Rattle.elab_parts.specs.elab_names.Faults.{fault}
-use Rattle.elab_parts.specs.elab_names.Naming.{Tells}
+use Rattle.elab_names.specs.Abstract.{expression_of}
+use Rattle.elab_names.specs.Faults.{fault}
+use Rattle.elab_names.specs.Naming.{Tells}
 use Rattle.elab_parts.specs.Declarations.{symbol, proposition_declaration}
 use Rattle.elab_parts.specs.Elaborated.{IsTypingFault}
 use Rattle.elab_parts.specs.Outcomes.{around, setting, declared_in, IsNameRefused, IsKept}

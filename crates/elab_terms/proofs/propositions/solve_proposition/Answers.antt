@@ -2,10 +2,10 @@ use Rattle.std.proofs.Common.{◌≡◌, ◌++◌, [], List, true, false, length
 use Rattle.std.proofs.lemmas.Result.{IfOk-weaker, IfErr-weaker}
 use Rattle.tasks.specs.Task.{SymbolTree}
 use Rattle.tasks.specs.Meaning.{symbols_at}
-use Rattle.elab_parts.specs.elab_names.Abstract.{expression_of}
-use Rattle.elab_parts.specs.elab_names.Faults.{fault}
-use Rattle.elab_parts.specs.elab_names.Naming.{where_at}
-use Rattle.elab_parts.specs.elab_names.Where.{Where}
+use Rattle.elab_names.specs.Abstract.{expression_of}
+use Rattle.elab_names.specs.Faults.{fault}
+use Rattle.elab_names.specs.Naming.{where_at}
+use Rattle.elab_names.specs.Where.{Where}
 use Rattle.elab_parts.specs.Entries.{wanting_tuples, IsExtended}
 use Rattle.elab_parts.specs.Outcomes.{over}
 use Rattle.elab_parts.proofs.Entering.{extended_grows}

@@ -3,13 +3,13 @@ use Rattle.std.proofs.Math.ListN.{length-map}
 use Rattle.tasks.specs.trees.Node.{tree_at}
 use Rattle.tasks.specs.trees.Facts.{TyVarsBelow}
 use Rattle.tasks.specs.Meaning.{symbols_at}
-use Rattle.names_space.specs.declared.Table.TheVariants.{Types}
-use Rattle.names_space.specs.declared.TypeName.TheVariants as stands
-use Rattle.names_space.specs.Names.{ScopeNames, with_name}
+use Rattle.elab_names.specs.names_space.declared.Table.TheVariants.{Types}
+use Rattle.elab_names.specs.names_space.declared.TypeName.TheVariants as stands
+use Rattle.elab_names.specs.names_space.Names.{ScopeNames, with_name}
 use Rattle.syntax_why.specs.Lexeme.{Word}
-use Rattle.elab_parts.specs.elab_names.Abstract.{type_expression_of}
-use Rattle.elab_parts.specs.elab_names.Faults.{form_fault}
-use Rattle.elab_parts.specs.elab_names.Naming.{Tells}
+use Rattle.elab_names.specs.Abstract.{type_expression_of}
+use Rattle.elab_names.specs.Faults.{form_fault}
+use Rattle.elab_names.specs.Naming.{Tells}
 use Rattle.elab_parts.specs.elab_walk.Patterns.{no_notes}
 use Rattle.elab_parts.specs.elab_walk.Pieces.{type_at}
 use Rattle.elab_parts.specs.declared.made.Elaborated.{Elaborated}

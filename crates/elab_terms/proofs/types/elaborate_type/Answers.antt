@@ -2,9 +2,9 @@ use Rattle.std.proofs.Common.{◌≡◌, ℕ, ◌++◌, ◌∷◌, [], true, Non
 use Rattle.std.proofs.Math.ListN.{length-map}
 use Rattle.tasks.specs.Task.{MakesType}
 use Rattle.tasks.specs.Meaning.{declarations_at}
-use Rattle.names_space.specs.declared.Table.TheVariants.{Types}
-use Rattle.names_space.specs.declared.TypeName.TheVariants as stands
-use Rattle.names_space.specs.Names.{ScopeNames, with_name}
+use Rattle.elab_names.specs.names_space.declared.Table.TheVariants.{Types}
+use Rattle.elab_names.specs.names_space.declared.TypeName.TheVariants as stands
+use Rattle.elab_names.specs.names_space.Names.{ScopeNames, with_name}
 use Rattle.elab_parts.specs.elab_walk.Patterns.{no_notes}
 use Rattle.elab_parts.specs.Declarations.{word, abstract_type, made_names, made_fault}
 use Rattle.elab_parts.specs.Entries.{type_entry, IsExtended}

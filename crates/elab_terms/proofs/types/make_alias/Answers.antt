@@ -3,9 +3,9 @@ use Rattle.std.proofs.lemmas.Result.{IfOk-weaker}
 use Rattle.tasks.specs.trees.Facts.{TyVarsBelow}
 use Rattle.tasks.specs.Task.{SymbolTree}
 use Rattle.tasks.specs.Meaning.{symbols_at}
-use Rattle.elab_parts.specs.elab_names.Abstract.{type_expression_of}
-use Rattle.elab_parts.specs.elab_names.Naming.{where_at}
-use Rattle.elab_parts.specs.elab_names.Where.{Where}
+use Rattle.elab_names.specs.Abstract.{type_expression_of}
+use Rattle.elab_names.specs.Naming.{where_at}
+use Rattle.elab_names.specs.Where.{Where}
 use Rattle.elab_parts.specs.elab_variables.Seen.{SeenTree}
 use Rattle.elab_parts.specs.elab_variables.Entered.{seen_at}
 use Rattle.elab_parts.specs.elab_walk.Pieces.{type_at}

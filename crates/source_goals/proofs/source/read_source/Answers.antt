@@ -1,5 +1,5 @@
 use Rattle.std.proofs.Common.{List, Ok, subst}
-use Rattle.tokens_why.specs.declared.token.Token.{Token}
+use Rattle.syntax_why.specs.tokens_why.declared.token.Token.{Token}
 use Rattle.syntax_why.specs.Lexeme.{rest}
 use Rattle.syntax_why.specs.SurfaceDeclarations.{file_of}
 use Rattle.fault_order.proofs.Stages.{gives_then}

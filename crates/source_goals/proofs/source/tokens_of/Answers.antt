@@ -1,6 +1,6 @@
 use Rattle.std.proofs.Common.{Vec}
 use Rattle.std.specs.declared.alloc.Global.{Global}
-use Rattle.tokens_why.specs.declared.token.Token.{Token}
+use Rattle.syntax_why.specs.tokens_why.declared.token.Token.{Token}
 use Rattle.source_goals.proofs.Faults.{lexical_at, big_literal_at}
 use Rattle.source_goals.proofs.source.tokens_of.Goals as goal
 

@@ -1,6 +1,6 @@
 use Rattle.std.proofs.Common.{◌≡◌, ℕ, List, map, subst, ◌∙◌, inl, inr}
 use Rattle.std.proofs.lemmas.Result.{err_from_is_err_and, on_ok_weaker}
-use Rattle.elab_parts.proofs.trees.Nodes.{Grows_refl, Grows_trans}
+use Rattle.tasks.proofs.trees.Nodes.{Grows_refl, Grows_trans}
 use Rattle.syntax_why.specs.declared.declarations.DeclTree.{DeclTree}
 use Rattle.syntax_why.specs.declared.declarations.DeclNode.TheVariants as dv
 use Rattle.syntax_why.specs.Declarations.{use_decl, clone_decl, scope_decl}

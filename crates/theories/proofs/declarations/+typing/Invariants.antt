@@ -1,5 +1,5 @@
 use Rattle.std.proofs.Common.{map, drop}
-use Rattle.elab_parts.specs.trees.Node.{Grows}
+use Rattle.tasks.specs.trees.Node.{Grows}
 use Rattle.syntax_why.specs.SurfaceDeclarations.{decl_of, decls}
 use Rattle.theory_states.specs.Meaning.{state_at}
 use Rattle.theories.specs.Right.{IsStateRight}

@@ -1,7 +1,7 @@
 use Rattle.std.proofs.Common.{◌+◌, refl, sym, subst}
 use Rattle.std.proofs.lemmas.Result.{err_from_is_err_and}
-use Rattle.elab_parts.specs.tasks.Vocabulary.{of_signature}
-use Rattle.elab_parts.specs.tasks.Meaning.{symbols_at}
+use Rattle.tasks.specs.Vocabulary.{of_signature}
+use Rattle.tasks.specs.Meaning.{symbols_at}
 use Rattle.valid_tasks.specs.Scopes.{AreTypedScopes}
 use Rattle.theory_states.specs.declared.states.Opened.{Opened}
 use Rattle.theory_states.specs.Meaning.{state_at}
@@ -10,7 +10,7 @@ use Rattle.theories.specs.Right.{IsStateRight}
 use Rattle.theories.proofs.Passing.{scoped_right, opened_scopes, opens_moves}
 use Rattle.theories.proofs.Passed.{memory_so}
 use Rattle.theories.proofs.declarations.enter_scope.Goals as goal
-use Rattle.elab_parts.proofs.outside.Passed.{no_ok}
+use Rattle.tasks.proofs.outside.Passed.{no_ok}
 
 pub returns-clause-right : goal.returns-clause-right
 returns-clause-right c =

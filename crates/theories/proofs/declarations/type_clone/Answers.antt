@@ -6,7 +6,7 @@ use Rattle.clone_theories.specs.Cloned.{IsCloneFault}
 use Rattle.theories.proofs.Passing.{passed_right, passed_is}
 use Rattle.theories.proofs.Passed.{only_memory}
 use Rattle.theories.proofs.declarations.type_clone.Goals as goal
-use Rattle.elab_parts.proofs.outside.Passed.{no_ok}
+use Rattle.tasks.proofs.outside.Passed.{no_ok}
 
 pub returns-clause-right : goal.returns-clause-right
 returns-clause-right c =

@@ -7,7 +7,7 @@ use Rattle.theories.proofs.Passing.{passed_right, passed_is}
 use Rattle.theories.proofs.Placing.{declared_placed}
 use Rattle.theories.proofs.Passed.{only_memory}
 use Rattle.theories.proofs.declarations.type_logical.Goals as goal
-use Rattle.elab_parts.proofs.outside.Passed.{no_ok}
+use Rattle.tasks.proofs.outside.Passed.{no_ok}
 
 pub returns-clause-ok : goal.returns-clause-ok
 returns-clause-ok c =

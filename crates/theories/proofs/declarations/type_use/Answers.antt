@@ -6,7 +6,7 @@ use Rattle.valid_tasks.proofs.Keeping.{used_typed}
 use Rattle.theories.proofs.Passing.{passed_right, passed_is}
 use Rattle.theories.proofs.Passed.{only_memory}
 use Rattle.theories.proofs.declarations.type_use.Goals as goal
-use Rattle.elab_parts.proofs.outside.Passed.{no_ok}
+use Rattle.tasks.proofs.outside.Passed.{no_ok}
 
 pub returns-in_err-use_theory-clause-err : goal.returns-in_err-use_theory-clause-err
 returns-in_err-use_theory-clause-err c =

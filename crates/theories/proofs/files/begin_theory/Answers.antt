@@ -1,5 +1,5 @@
 use Rattle.std.proofs.Common.{◌≡◌, ◌+◌, ℕ, List, length, ◌∙◌, arith}
-use Rattle.elab_parts.specs.trees.Tree.{Tree}
+use Rattle.tasks.specs.trees.Tree.{Tree}
 use Rattle.theory_states.specs.declared.states.Opened.{Opened}
 use Rattle.theory_states.specs.States.{opened_empty}
 use Rattle.theory_states.specs.Meaning.{opened_at, state_at, OpenedHeld}

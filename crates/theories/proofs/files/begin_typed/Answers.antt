@@ -1,7 +1,7 @@
 use Rattle.theory_states.specs.declared.states.Typed.{Typed}
 use Rattle.theories.proofs.Ending.{begin_right}
 use Rattle.theories.proofs.files.begin_typed.Goals as goal
-use Rattle.elab_parts.proofs.outside.Passed.{no_value}
+use Rattle.tasks.proofs.outside.Passed.{no_value}
 
 pub returns-clause-right : goal.returns-clause-right
 returns-clause-right c = λ s.

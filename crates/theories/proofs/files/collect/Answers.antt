@@ -1,14 +1,14 @@
 use Rattle.std.proofs.Common.{◌≡◌, Some, map, All, sym, ap, subst, ◌∙◌}
-use Rattle.elab_parts.specs.trees.declared.ints.Ints.{Ints}
-use Rattle.elab_parts.specs.tasks.declared.signature.Signature.{Signature}
-use Rattle.elab_parts.specs.tasks.Meaning.{symbols_at, SymbolHeld}
-use Rattle.theory_states.specs.goal_tasks.Meaning.{AreTuples}
+use Rattle.tasks.specs.trees.declared.ints.Ints.{Ints}
+use Rattle.tasks.specs.declared.signature.Signature.{Signature}
+use Rattle.tasks.specs.Meaning.{symbols_at, SymbolHeld}
+use Rattle.valid_tasks.specs.goal_tasks.Meaning.{AreTuples}
 use Rattle.theory_states.specs.declared.states.KnownTheory.{KnownTheory}
 use Rattle.theories.specs.Ints.{int_entries}
 use Rattle.theories.proofs.Ending.{collected_is, collected_held, symbols_held}
 use Rattle.theories.proofs.Passed.{is_memory}
 use Rattle.theories.proofs.files.collect.Goals as goal
-use Rattle.elab_parts.proofs.outside.Passed.{no_value}
+use Rattle.tasks.proofs.outside.Passed.{no_value}
 
 pub returns-clause-ok : goal.returns-clause-ok
 returns-clause-ok c = λ n.

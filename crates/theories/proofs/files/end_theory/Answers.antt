@@ -1,6 +1,6 @@
 use Rattle.std.proofs.Common.{◌≡◌, ◌<◌, ℕ, List, map, length, All, refl, sym, ap, subst, ◌∙◌}
 use Rattle.theory_states.specs.declared.moves.Move.{Move}
-use Rattle.theory_states.specs.goal_tasks.Meaning.{goal_at}
+use Rattle.valid_tasks.specs.goal_tasks.Meaning.{goal_at}
 use Rattle.theory_states.specs.declared.states.KnownTheory.{KnownTheory}
 use Rattle.theory_states.specs.declared.states.Typed.{Typed}
 use Rattle.theory_states.specs.States.{KnownTree, known_as}
@@ -8,7 +8,7 @@ use Rattle.theory_states.specs.Meaning.{known_at, opened_at, KnownTheoryHeld}
 use Rattle.theories.proofs.Ending.{ended_is, ended_right}
 use Rattle.theories.proofs.Passed.{is_memory}
 use Rattle.theories.proofs.files.end_theory.Goals as goal
-use Rattle.elab_parts.proofs.outside.Passed.{no_ok, no_value}
+use Rattle.tasks.proofs.outside.Passed.{no_ok, no_value}
 
 pub returns-clause-right : goal.returns-clause-right
 returns-clause-right c =

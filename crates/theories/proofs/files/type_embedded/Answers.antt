@@ -1,6 +1,6 @@
 use Rattle.std.proofs.Common.{ℕ, List, map, refl, subst}
 use Rattle.std.proofs.lemmas.Result.{err_from_is_err_and}
-use Rattle.elab_parts.proofs.trees.Nodes.{Grows_refl, Grows_trans}
+use Rattle.tasks.proofs.trees.Nodes.{Grows_refl, Grows_trans}
 use Rattle.syntax_why.specs.declared.declarations.TheoryTree.{TheoryTree}
 use Rattle.syntax_why.specs.Declarations.{SyntaxTheory}
 use Rattle.syntax_why.specs.SurfaceDeclarations.{theory_of}
@@ -15,7 +15,7 @@ use Rattle.theories.proofs.Walking.{fault_so}
 use Rattle.theories.proofs.Lists.{list_begins, list_next, list_fails, list_ends, steps_map, fault_map}
 use Rattle.theories.proofs.Passed.{no_memory}
 use Rattle.theories.proofs.files.type_embedded.Goals as goal
-use Rattle.elab_parts.proofs.outside.Passed.{no_ok}
+use Rattle.tasks.proofs.outside.Passed.{no_ok}
 
 pub returns-clause-ok : goal.returns-clause-ok
 returns-clause-ok c =

@@ -1,5 +1,5 @@
 use Rattle.std.proofs.Common.{drop}
-use Rattle.elab_parts.specs.trees.Node.{Grows}
+use Rattle.tasks.specs.trees.Node.{Grows}
 use Rattle.syntax_why.specs.declared.declarations.TheoryTree.{TheoryTree}
 use Rattle.syntax_why.specs.SurfaceDeclarations.{theory_of}
 use Rattle.theories.specs.Files.{IsEmbeddedBy, IsNewFault}

@@ -1,10 +1,10 @@
 use Rattle.std.proofs.Common.{◌≡◌, ℕ, map, length, inl, inr, sym, ap, ◌∙◌}
 use Rattle.std.proofs.lemmas.Result.{err_from_is_err_and, IfOk-weaker}
 use Rattle.std.proofs.lemmas.List.{length-map}
-use Rattle.elab_parts.proofs.trees.Nodes.{Grows_refl, Grows_trans}
+use Rattle.tasks.proofs.trees.Nodes.{Grows_refl, Grows_trans}
 use Rattle.syntax_why.specs.SurfaceDeclarations.{file_of}
-use Rattle.theory_states.specs.goal_tasks.declared.theories.Theories.{Theories}
-use Rattle.theory_states.specs.goal_tasks.Meaning.{theories_at}
+use Rattle.valid_tasks.specs.goal_tasks.declared.theories.Theories.{Theories}
+use Rattle.valid_tasks.specs.goal_tasks.Meaning.{theories_at}
 use Rattle.theory_states.specs.declared.fault.SourceFault.{SourceFault}
 use Rattle.theory_states.specs.Meaning.{known_at}
 use Rattle.theories.specs.Files.{AreFaultyIn, theories_of, TheoriesOf, IsLibraryFault, IsFirstSourceFault}
@@ -14,7 +14,7 @@ use Rattle.theories.proofs.Forgetting.{library_forgotten, forgotten}
 use Rattle.theories.proofs.Walking.{fault_so}
 use Rattle.theories.proofs.Passed.{only_memory, no_memory}
 use Rattle.theories.proofs.files.type_file.Goals as goal
-use Rattle.elab_parts.proofs.outside.Passed.{no_value}
+use Rattle.tasks.proofs.outside.Passed.{no_value}
 
 pub type_library-requires-clause-right : goal.type_library-requires-clause-right
 type_library-requires-clause-right c = c.in_ok-typed.ensures.right c.args.store.now

@@ -1,6 +1,6 @@
 use Rattle.std.proofs.Common.{ℕ, List}
 use Rattle.std.proofs.lemmas.Result.{err_from_is_err_and}
-use Rattle.elab_parts.proofs.trees.Nodes.{Grows_refl, Grows_trans}
+use Rattle.tasks.proofs.trees.Nodes.{Grows_refl, Grows_trans}
 use Rattle.syntax_why.specs.declared.declarations.File.{File}
 use Rattle.syntax_why.specs.SurfaceDeclarations.{file_of}
 use Rattle.theory_states.specs.declared.fault.SourceFault.{SourceFault}
@@ -12,7 +12,7 @@ use Rattle.theories.proofs.Walking.{fault_so}
 use Rattle.theories.proofs.Lists.{list_begins, list_next, list_fails, list_ends}
 use Rattle.theories.proofs.Forgetting.{file_forgotten, first_so}
 use Rattle.theories.proofs.files.type_files.Goals as goal
-use Rattle.elab_parts.proofs.outside.Passed.{no_ok}
+use Rattle.tasks.proofs.outside.Passed.{no_ok}
 
 pub returns-clause-ok : goal.returns-clause-ok
 returns-clause-ok c =

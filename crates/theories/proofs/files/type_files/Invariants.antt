@@ -1,5 +1,5 @@
 use Rattle.std.proofs.Common.{ℕ, List, drop}
-use Rattle.elab_parts.specs.trees.Node.{Grows}
+use Rattle.tasks.specs.trees.Node.{Grows}
 use Rattle.syntax_why.specs.declared.declarations.File.{File}
 use Rattle.syntax_why.specs.SurfaceDeclarations.{file_of}
 use Rattle.theories.specs.Files.{AreEmbeddedInBy, AreEmbeddedFaultyIn}

@@ -1,6 +1,6 @@
 use Rattle.std.proofs.Common.{sym, subst}
 use Rattle.std.proofs.lemmas.Result.{on_ok_weaker}
-use Rattle.elab_parts.proofs.trees.Nodes.{Grows_refl}
+use Rattle.tasks.proofs.trees.Nodes.{Grows_refl}
 use Rattle.theory_states.specs.States.{StateTree}
 use Rattle.std_theories.specs.Library.{AreFilesOf, library}
 use Rattle.theories.specs.Files.{AreEmbeddedBy, AreEmbeddedFaulty, IsLibraryFault}
@@ -9,7 +9,7 @@ use Rattle.theories.specs.Right.{between_at}
 use Rattle.theories.proofs.Walking.{answer_so}
 use Rattle.theories.proofs.Passed.{no_memory}
 use Rattle.theories.proofs.files.type_library.Goals as goal
-use Rattle.elab_parts.proofs.outside.Passed.{no_ok}
+use Rattle.tasks.proofs.outside.Passed.{no_ok}
 
 pub returns-clause-ok : goal.returns-clause-ok
 returns-clause-ok c =

@@ -1,6 +1,6 @@
 use Rattle.std.proofs.Common.{ℕ, List, map, subst}
 use Rattle.std.proofs.lemmas.Result.{err_from_is_err_and, IfOk-weaker}
-use Rattle.elab_parts.proofs.trees.Nodes.{Grows_refl}
+use Rattle.tasks.proofs.trees.Nodes.{Grows_refl}
 use Rattle.syntax_why.specs.declared.declarations.DeclTree.{DeclTree}
 use Rattle.syntax_why.specs.SurfaceDeclarations.{decl_of, decls, theory_of}
 use Rattle.theory_states.specs.declared.fault.SourceFault.{SourceFault}
@@ -12,7 +12,7 @@ use Rattle.theories.specs.Right.{between_at}
 use Rattle.theories.proofs.Walking.{fault_so}
 use Rattle.theories.proofs.Passed.{only_memory, no_memory}
 use Rattle.theories.proofs.files.type_theory.Goals as goal
-use Rattle.elab_parts.proofs.outside.Passed.{no_ok, no_value}
+use Rattle.tasks.proofs.outside.Passed.{no_ok, no_value}
 
 pub returns-in_err-open-clause-ok : goal.returns-in_err-open-clause-ok
 returns-in_err-open-clause-ok c = no_value _ _ c.from_residual.result c.from_residual.ensures.1

@@ -3,9 +3,9 @@ use Rattle.std.proofs.lemmas.Result.{IfOk-weaker}
 use Rattle.tasks.specs.trees.Tree.{Tree}
 use Rattle.tasks.specs.trees.Node.{tree_at}
 use Rattle.tasks.specs.Meaning.{declaration_at}
-use Rattle.theory_states.specs.goal_tasks.declared.theories.GoalAt.{GoalAt}
-use Rattle.theory_states.specs.goal_tasks.Theories.{GoalTree}
-use Rattle.theory_states.specs.goal_tasks.Meaning.{goal_at}
+use Rattle.valid_tasks.specs.goal_tasks.declared.theories.GoalAt.{GoalAt}
+use Rattle.valid_tasks.specs.goal_tasks.Theories.{GoalTree}
+use Rattle.valid_tasks.specs.goal_tasks.Meaning.{goal_at}
 use Rattle.theory_states.specs.Meaning.{state_at}
 use Rattle.theory_declarations.specs.Declared.{known_formula, to_prove, goals_said}
 use Rattle.tasks.proofs.trees.Nodes.{Grows_refl}
