@@ -1,0 +1,5 @@
+pub mod Images
+pub mod Open
+pub mod OpenTerms
+pub mod Templates
+pub mod Laws

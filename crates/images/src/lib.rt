@@ -1,0 +1,59 @@
+//! Images of trees under a rule for nodes, open trees at environments of closed terms, open terms put into open trees, templates
+//! and patterns at environments; no code.
+//!
+//! Contract: definitions and laws.
+#![tactic(auto)]
+
+ghost use Rattle.images.specs.Laws.{
+  ImagesKeepTyping,
+  TypesAreImages,
+  OpenTreesClose,
+  BodiesAreAt,
+  TemplatesFill,
+  NodesFill,
+  NodesStayTyped,
+  OneStaysTyped,
+  ManyStayTyped,
+  TestsAreAt,
+  BindsAreAt,
+};
+
+/// The law of images, for readers to cite: where a rule keeps, at one node, what typing sees of a
+/// tree (its sort and type, that it is typed under the same binders, and no new type variable or
+/// parameter), the image of a typed tree under it does, as far as each stage of the image is well
+/// sorted; and types are their own images. It does nothing when it runs.
+pub fn law_of_images()
+    ensures keeps { ImagesKeepTyping }
+    ensures types { TypesAreImages }
+{}
+
+/// The laws of open trees at environments: a typed open tree is closed, typed and ground there, and
+/// the body of a binder is at the environment with one term more. It does nothing when it runs.
+pub fn law_of_environments()
+    ensures closed { OpenTreesClose }
+    ensures bodies { BodiesAreAt }
+{}
+
+/// The laws of templates: an open tree at closed terms, with the variable 0 in the place of one of
+/// them, is the tree at all terms once that term is put in; the same of each node with a term in it,
+/// and such a node is typed with the variable there. It does nothing when it runs.
+pub fn law_of_templates()
+    ensures fill { TemplatesFill }
+    ensures nodes { NodesFill }
+    ensures typed { NodesStayTyped }
+{}
+
+/// The laws of open terms that are put into open trees: the tree keeps its sort and type, it is
+/// typed where it is well sorted, and with one term it has the type variables and parameters of both
+/// alone. It does nothing when it runs.
+pub fn law_of_open_terms()
+    ensures one { OneStaysTyped }
+    ensures many { ManyStayTyped }
+{}
+
+/// The laws of patterns: a pattern's test, and the terms for its variables, asked of a term at an
+/// environment are those of the open term, at the environment. It does nothing when it runs.
+pub fn law_of_patterns()
+    ensures tests { TestsAreAt }
+    ensures terms { BindsAreAt }
+{}
