@@ -1,0 +1,4 @@
+pub mod Later
+pub mod NewParameters
+pub mod HoleTemplates
+pub mod EquationHoles
