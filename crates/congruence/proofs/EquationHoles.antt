@@ -20,9 +20,13 @@ use Rattle.congruence.proofs.HoleTemplates.{closed_loose}
 equation_typed : (d : DraftTree) (left : TermId) (A C : Tree) → IsFormulaAt d left → tree_at d.trees left ≡ Two HEq A C → TypedUnder (of_task d.task) [] (Two HEq A C)
 equation_typed d left A C f q = subst (TypedUnder (of_task d.task) []) q f.ground.typed
 
+-- the type of a tree with a hole of which two terms are the instances at themselves
+pub hole_type_of : (d : DraftTree) (opened a b : TermId) → HoleAt d opened a b a b → ArePair d a b → sort_of (tree_at d.trees a) ≡ Term → type_of (tree_at d.trees opened) ≡ type_of (tree_at d.trees a)
+hole_type_of d opened a b h p s = sym (open_inst_type (of_task d.task) h.0 [] (tree_at d.trees a) s h.1.0 p.left.ground.typed (tree_at d.trees opened) h.1.1.typed) ∙ ap type_of (sym h.1.1.left)
+
 module _ (d : DraftTree) (opened left middle a b c hole : TermId) (h : HoleAt d opened a b a b) (p : ArePair d a b) (s : sort_of (tree_at d.trees a) ≡ Term) (k : IsClosedAt d c) (f : IsFormulaAt d left) (hh : Holds d.trees hole) where
   opened_type : type_of (tree_at d.trees opened) ≡ type_of (tree_at d.trees a)
-  opened_type = sym (open_inst_type (of_task d.task) h.0 [] (tree_at d.trees a) s h.1.0 p.left.ground.typed (tree_at d.trees opened) h.1.1.typed) ∙ ap type_of (sym h.1.1.left)
+  opened_type = hole_type_of d opened a b h p s
 
   further : TypedUnder (of_task d.task) (h.0 ∷ []) (tree_at d.trees c)
   further = typed_further (of_task d.task) [] (h.0 ∷ []) (tree_at d.trees c) k.ground.typed

@@ -1,7 +1,7 @@
 -- What is said of a draft stays as the draft extends.
 use Rattle.std.proofs.Common.{◌≡◌, ℕ, sym, ap, subst, ◌∙◌, arith}
 use Rattle.trees.specs.declared.TermId.{TermId}
-use Rattle.trees.specs.Tree.{Tree, Two, HEq}
+use Rattle.trees.specs.Tree.{Tree, Two, Head}
 use Rattle.trees.specs.Node.{tree_at, Holds}
 use Rattle.trees.specs.Sorts.{sort_of, type_of}
 use Rattle.tasks.specs.Task.{TaskTree}
@@ -45,8 +45,8 @@ module _ (d d1 : DraftTree) (x : Extends d d1) where
     type = ap type_of (tree_later r p.right.held) ∙ p.type ∙ ap type_of (sym (tree_later l p.left.held));
   }
 
-  pub equation_later : (id a c : TermId) → Holds d.trees id → Holds d.trees a → Holds d.trees c → tree_at d.trees id ≡ Two HEq (tree_at d.trees a) (tree_at d.trees c) → tree_at d1.trees id ≡ Two HEq (tree_at d1.trees a) (tree_at d1.trees c)
-  equation_later id a c hi ha hc q = tree_later id hi ∙ q ∙ cc (tree_later a ha, tree_later c hc)
+  pub node_later : (h : Head) (id a c : TermId) → Holds d.trees id → Holds d.trees a → Holds d.trees c → tree_at d.trees id ≡ Two h (tree_at d.trees a) (tree_at d.trees c) → tree_at d1.trees id ≡ Two h (tree_at d1.trees a) (tree_at d1.trees c)
+  node_later h id a c hi ha hc q = tree_later id hi ∙ q ∙ cc (tree_later a ha, tree_later c hc)
 
   pub shows_at : (w : AlikeBy) (a b : TermId) → Holds d.trees a → Holds d.trees b → Shows d w (tree_at d.trees a) (tree_at d.trees b) → Shows d1 w (tree_at d1.trees a) (tree_at d1.trees b)
   shows_at w a b ha hb h = subst (λ (z : Tree). Shows d1 w z (tree_at d1.trees b)) (sym (tree_later a ha)) (subst (λ (z : Tree). Shows d1 w (tree_at d.trees a) z) (sym (tree_later b hb)) (shows_later w _ _ h))

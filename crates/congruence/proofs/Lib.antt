@@ -2,3 +2,4 @@ pub mod Later
 pub mod NewParameters
 pub mod HoleTemplates
 pub mod EquationHoles
+pub mod ValueHoles

@@ -1,5 +1,6 @@
 //! Evidence that two closed expressions are alike, one level of congruence at a time: negations, connectives, quantifiers,
-//! equations, a `let` and its body at its value, one term in the place of another, and links of alike expressions.
+//! equations, a `let` and its body at its value, the value of a `let` and what a `match` asks, one term in the place of another,
+//! and links of alike expressions.
 //!
 //! Contract: steps that show the two expressions equal or equivalent, from what shows their parts so.
 #![tactic(auto)]
@@ -10,6 +11,7 @@ mod joins;
 mod lets;
 mod quantified;
 mod replacing;
+mod values;
 
 pub use alike::{AlikeBy, Halves, make_halves};
 pub use equations::alike_equal;
@@ -17,3 +19,4 @@ pub use joins::{alike_join, alike_not};
 pub use lets::alike_let;
 pub use quantified::alike_quantified;
 pub use replacing::{alike_replaced, chain, flip};
+pub use values::{alike_scrutinee, alike_value};

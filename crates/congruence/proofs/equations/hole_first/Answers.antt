@@ -1,11 +1,12 @@
 use Rattle.std.proofs.Common.{ap, ◌∙◌}
+use Rattle.trees.specs.Tree.{HEq}
 use Rattle.trees.specs.Sorts.{sort_of}
 use Rattle.evidence.specs.Laws.{Extends_trans, AddsTrees_extends}
 use Rattle.evidence.proofs.Formulas.{formula_later}
 use Rattle.congruence.proofs.Later.{held_later, tree_later, pair_later, closed_later}
 use Rattle.congruence.proofs.HoleTemplates.{hole_later}
 use Rattle.congruence.proofs.EquationHoles.{first_hole}
-use Rattle.congruence.proofs.Later.{equation_later}
+use Rattle.congruence.proofs.Later.{node_later}
 use Rattle.congruence.proofs.equations.hole_first.Goals as goal
 
 pub returns-clause-hole : goal.returns-clause-hole
@@ -26,5 +27,5 @@ returns-clause-hole c =
     let h = c.in_ok-open.ensures.hole in
     first_hole d2 opened c.args.left c.args.middle a b k c.in_ok-hole.hole (hole_later d1 d2 y opened a b a b ha hb ha hb h) (pair_later d d2 x a b p) (ap sort_of (tree_later d d2 x a p.left.held) ∙ c.requires.term) (closed_later d d2 x k c.requires.c)
     (formula_later d d2 x c.args.left c.requires.left) c.in_ok-hole.ensures.held
-    (equation_later d d2 x c.args.left a k c.requires.left.held p.left.held c.requires.c.held c.requires.left_is) (equation_later d d2 x c.args.middle b k c.requires.middle_held p.right.held c.requires.c.held c.requires.middle_is)
+    (node_later d d2 x HEq c.args.left a k c.requires.left.held p.left.held c.requires.c.held c.requires.left_is) (node_later d d2 x HEq c.args.middle b k c.requires.middle_held p.right.held c.requires.c.held c.requires.middle_is)
     (c.in_ok-hole.ensures.tree ∙ cc (tree_later d1 d2 y opened h.1.1.held, tree_later d1 d2 y k (held_later d d1 x1 k c.requires.c.held)))
