@@ -2,7 +2,7 @@
 use Rattle.std.proofs.Common.{◌≡◌, ℕ, suc, ◌+◌, ◌==◌, not, Bool, true, false, if◌then◌else◌, List, [], ◌∷◌, ◌++◌, map, length, flat_map, All, Option, Some, None, refl, sym, ap, ◌∙◌, arith}
 use Rattle.std.proofs.lemmas.Bool.Decides.{Decides-eqb}
 use Rattle.tasks.specs.trees.declared.Sort.TheVariants.{Formula}
-use Rattle.tasks.specs.trees.Tree.{Tree, Leaf, One, Two, Three, Head, HTyVar, HParam, above_ty_vars}
+use Rattle.tasks.specs.trees.Tree.{Tree, Leaf, One, Two, Three, Head, HParam, above_ty_vars}
 use Rattle.tasks.specs.trees.Sorts.{sort_of}
 use Rattle.driver_files.specs.driver_items.declared.kinds.Syntax.{Syntax}
 use Rattle.driver_files.specs.driver_items.Syntaxes.{syntax_of}
@@ -11,7 +11,7 @@ use Rattle.driver_files.specs.driver_parts.declared.driver.Driver.{Driver}
 use Rattle.tasks.specs.Task.{TaskTree, DeclarationTree, BodyTree, MakesType, Makes, Defines, Induces, Constructs, Says, PropositionTree, said_by, props_of, props}
 use Rattle.tasks.specs.Vocabulary.{of_task}
 use Rattle.tasks.specs.Typing.{TypedUnder}
-use Rattle.tasks.specs.Valid.{VariablesBelow, OneOf, ParametersOf, IsFormulaOver, IsFormula, IsTypeOver, IsValidBody, IsValidDecl, IsValid}
+use Rattle.tasks.specs.Valid.{OneOf, ParametersOf, IsFormulaOver, IsFormula, IsTypeOver, IsValidBody, IsValidDecl, IsValid}
 use Rattle.name_tables.specs.Occurrences.{Occurrence, in_type, in_proposition, occurrences, task_occurrences}
 use Rattle.name_tables.specs.Tables.{problem_things}
 use Rattle.name_tables.specs.Seen.{AreIn}
@@ -25,6 +25,7 @@ use Rattle.smt_law.proofs.Found.{in_first, in_rest}
 use Rattle.smt_law.proofs.Inputs.{Input}
 use Rattle.smt_law.proofs.Tables.{known}
 use Rattle.smt_law.proofs.Standing.{AreGood, good_join, good_types, good_occurrences, task_stands}
+use Rattle.tasks.proofs.Ground.{above_ground}
 
 -- ---- each element of a list
 abbrev pub EachOf : {X : Type 0} → (X → Type 0) → List X → Type 0
@@ -84,15 +85,6 @@ none_each [] h = tt
 none_each (f ∷ fs) h = let n = no_first f (first_print_fault fs) h in (n.0, none_each fs n.1)
 
 -- ---- grounds
-ground_leaf : (h : Head) → VariablesBelow 0 (Leaf h) → above_ty_vars (Leaf h) ≡ 0
-ground_leaf (HTyVar j) b = absurd (omega (arith, b))
-ground_leaf _ b = refl
-
-pub ground_by : (e : Tree) → VariablesBelow 0 e → above_ty_vars e ≡ 0
-ground_by (Leaf h) b = ground_leaf h b
-ground_by (One h a) b = ground_by a b
-ground_by (Two h a b) v = omega (arith, ground_by a v.0, ground_by b v.1)
-ground_by (Three h a b c) v = omega (arith, ground_by a v.0, ground_by b v.1, ground_by c v.2)
 
 none_of : (types : List Tree) (h : Head) (a : Tree) → OneOf [] h a → OneOf types h a
 none_of types (HParam n) a o = absurd (cc)
@@ -175,7 +167,7 @@ module _ (d : Driver) (words : Words) (t : TaskTree) (smt : syntax_of d.printer 
       good_join t p.valid (flat_map in_proposition (props t)) (flat_map in_type t.params ++ (flat_map occurrences t.locals ++ occurrences t.goal))
       (good_each t p.valid in_proposition (props t) (each_one (λ (q : PropositionTree). IsFormed q.formula) (λ (q : PropositionTree). AreGood t p.valid (in_proposition q)) (λ q f. formed_good q.formula f) (props t) props_formed))
       (good_join t p.valid (flat_map in_type t.params) (flat_map occurrences t.locals ++ occurrences t.goal)
-      (good_each t p.valid in_type t.params (each_one (IsTypeOver t 0) (λ e. AreGood t p.valid (in_type e)) (λ e v. good_types t p.valid [] e v.typed (ground_by e v.variables)) t.params types_valid))
+      (good_each t p.valid in_type t.params (each_one (IsTypeOver t 0) (λ e. AreGood t p.valid (in_type e)) (λ e v. good_types t p.valid [] e v.typed (above_ground e v.variables)) t.params types_valid))
       (good_join t p.valid (flat_map occurrences t.locals) (occurrences t.goal)
       (good_each t p.valid occurrences t.locals (each_one IsFormed (λ e. AreGood t p.valid (occurrences e)) formed_good t.locals locals_formed))
       (formed_good t.goal goal_formed)))

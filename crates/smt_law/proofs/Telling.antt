@@ -20,7 +20,8 @@ use Rattle.smt_law.proofs.Words.{parameter_word}
 use Rattle.smt_law.proofs.Found.{IsReader, sort_is}
 use Rattle.smt_law.proofs.Formulas.{told}
 use Rattle.smt_law.proofs.Tables.{known, reader}
-use Rattle.smt_law.proofs.Sound.{EachOf, each_one, IsSound, IsSoundType, ground_by, premises_sound, goal_sound, types_sound}
+use Rattle.tasks.proofs.Ground.{above_ground}
+use Rattle.smt_law.proofs.Sound.{EachOf, each_one, IsSound, IsSoundType, premises_sound, goal_sound, types_sound}
 use Rattle.smt_law.proofs.Commands.{formula_read, type_word, parameter_commands, assertions, ending, commands, parameter_line_is, assertion_is, goal_is}
 
 -- a formula that is read again, and a type whose sort is
@@ -100,7 +101,7 @@ module _ (d : Driver) (words : Words) (t : TaskTree) (smt : syntax_of d.printer 
   type_told : (e : Tree) → IsSoundType d words t smt p e → IsToldType knows e
   type_told e s =
       let v = s.valid in
-      let x = sort_is knows reads [] e v.typed v.sort (ground_by e v.variables) s.there in
+      let x = sort_is knows reads [] e v.typed v.sort (above_ground e v.variables) s.there in
       record { text = x.text; proper = x.free.proper; back = x.told }
 
   pub premises_told : EachOf (IsTold knows) ((problem_of d t).facts ++ (problem_of d t).locals)
