@@ -6,3 +6,5 @@ pub mod FactNames
 pub mod FactsListed
 pub mod Moved
 pub mod Lifted
+pub mod Ends
+pub mod Owned

@@ -13,23 +13,40 @@ use Rattle.kernel.specs.Right.{Closes}
 use Rattle.rule_rows.specs.Meaning.{steps_at, StepsHeld}
 use Rattle.evidence.specs.Drafts.{DraftTree, Refutes}
 use Rattle.evidence.specs.Facts.{IsFact}
+pub use Rattle.stage_limits.specs.Limits.{Refusal, Misplaced, TooLarge}
+use Rattle.stage_limits.specs.Limits.{limited}
+pub use Rattle.stage_limits.specs.Laws.{limited_gives, limited_small}
+use Rattle.evidence.specs.declared.stage.MakeFault.{MakeFault}
+use Rattle.evidence.specs.declared.stage.MakeFault.TheVariants as make_fault
 use Rattle.evidence.specs.declared.stage.StageFault.{StageFault}
 use Rattle.evidence.specs.declared.stage.StageFault.TheVariants as fault
 
--- why an equation gives no tasks
-pub data Refusal : Type 0 where
-  Misplaced : (decl : ℕ) → Refusal
-  TooLarge : Refusal
-
--- what a task becomes, or why it becomes nothing
+-- what a task becomes, however large that is, or the place of a declaration for which it becomes nothing
 abbrev pub TaskEquation : Type 0
-TaskEquation = TaskTree → Result (List TaskTree) Refusal
-
--- the equation gives these tasks
-abbrev pub Gives : TaskEquation → TaskTree → List TaskTree → Type 0
-Gives equation t ts = equation t ≡ Ok ts
+TaskEquation = TaskTree → Result (List TaskTree) ℕ
 
 -- want of memory, or what the equation says
+abbrev pub IsMakeFault : Result (List TaskTree) ℕ → MakeFault → Type 0
+IsMakeFault said make_fault.Memory = Unit {0}
+IsMakeFault said (make_fault.Misplaced decl) = said ≡ Err decl
+
+-- what a task becomes by a stage, or why it becomes nothing
+abbrev pub StageEquation : Type 0
+StageEquation = TaskTree → Result (List TaskTree) Refusal
+
+-- what an equation says, where its tasks aren't too large
+abbrev pub stage_answer : Result (List TaskTree) ℕ → Result (List TaskTree) Refusal
+stage_answer (Ok ts) = limited ts
+stage_answer (Err decl) = Err (Misplaced decl)
+
+abbrev pub stage_equation : TaskEquation → StageEquation
+stage_equation equation t = stage_answer (equation t)
+
+-- a stage by this equation gives these tasks
+abbrev pub Gives : TaskEquation → TaskTree → List TaskTree → Type 0
+Gives equation t ts = stage_equation equation t ≡ Ok ts
+
+-- want of memory, or what the stage says
 abbrev pub IsStageFault : Result (List TaskTree) Refusal → StageFault → Type 0
 IsStageFault said fault.Memory = Unit {0}
 IsStageFault said (fault.Misplaced decl) = said ≡ Err (Misplaced decl)

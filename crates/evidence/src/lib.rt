@@ -1,4 +1,5 @@
-//! Drafts of right steps; steps by each rule; what a transformation is; a stage brought back.
+//! Drafts of right steps; steps by each rule; what a transformation is; the bound of a stage; a
+//! stage brought back.
 //!
 //! Contract: a transformation's laws, and refutations of its tasks made one of the old task.
 #![tactic(auto)]
@@ -16,4 +17,4 @@ pub use by::{
 pub use draft::Draft;
 pub use lift::lift_stage;
 pub use names::facts_named;
-pub use stage::{StageFault, Transform};
+pub use stage::{MakeFault, StageFault, Transform};

@@ -1,22 +1,41 @@
 // Transformations, and the laws by which refutations of what they make are brought back.
 // They depend on drafts; each transformation's crate gives them once, and `lift_stage` is proved from them alone.
-ghost use Rattle.std.specs.Prelude.{◌≡◌, List, [], ◌∷◌, All, IfOk, IfErr};
+ghost use Rattle.std.specs.Prelude.{◌≡◌, List, [], ◌∷◌, All, Ok, IfOk, IfErr};
 ghost use Rattle.trees.specs.Node.{tree_at, Holds, Grows};
 ghost use Rattle.tasks.specs.Task.{TaskTree, neg, start};
 ghost use Rattle.tasks.specs.Valid.{IsValid};
 ghost use Rattle.tasks.specs.Meaning.{trees_at, task_at, tasks_at, TaskHeld, TasksHeld};
+ghost use Rattle.stage_limits.specs.Limits.{limited};
 ghost use Rattle.evidence.specs.Drafts.{Extends, Refutes, IsFormulaAt};
 ghost use Rattle.evidence.specs.Facts.{IsFact};
-ghost use Rattle.evidence.specs.declared.stage.StageFault.{StageFault};
-ghost use Rattle.evidence.specs.Stages.{TaskEquation, Gives, IsStageFault, Keeps, IsOwnTask, InStage, EndIn};
+ghost use Rattle.evidence.specs.declared.stage.MakeFault.{MakeFault};
+ghost use Rattle.evidence.specs.Stages.{TaskEquation, Gives, IsMakeFault, stage_equation, IsStageFault};
+ghost use Rattle.evidence.specs.Stages.{Keeps, IsOwnTask, InStage, EndIn};
 
 use crate::Draft;
+use stage_limits::limit_tasks;
 use std::alloc::{AllocError, Global};
 use tasks::{Fact, Task};
 use term_store::Store;
 use trees::TermId;
 
-/// Why a transformation gives no tasks.
+/// Why a transformation makes no tasks.
+#[derive(Clone, Copy)]
+pub enum MakeFault {
+    Memory,
+    /// A declaration that the transformation doesn't take, by its place.
+    Misplaced { decl: usize },
+}
+
+impl From<AllocError> for MakeFault {
+    ghost from_gives = { λ _ e. e ≡ MakeFault.Memory };
+
+    fn from(_: AllocError) -> Self {
+        MakeFault::Memory
+    }
+}
+
+/// Why a stage gives no tasks.
 #[derive(Clone, Copy)]
 pub enum StageFault {
     Memory,
@@ -26,29 +45,60 @@ pub enum StageFault {
     TooLarge,
 }
 
-impl From<AllocError> for StageFault {
-    ghost from_gives = { λ _ e. e ≡ StageFault.Memory };
-
-    fn from(_: AllocError) -> Self {
-        StageFault::Memory
+// The tasks where they aren't too large.
+fn limited_tasks(store: &Store, tasks: Vec<Task>) -> Result<Vec<Task>, StageFault>
+    requires { TasksHeld store.now tasks.items }
+    ensures held { IfOk result (λ ts. TasksHeld store.now ts.items) }
+    ensures tasks { IfOk result (λ ts. limited (tasks_at store.now tasks.items)
+        ≡ Ok (tasks_at store.now ts.items)) }
+    ensures fault { IfErr result (IsStageFault (limited (tasks_at store.now tasks.items))) }
+{
+    match limit_tasks(store, tasks) {
+        Ok(tasks) => Ok(tasks),
+        Err(_) => Err(StageFault::TooLarge),
     }
 }
 
 /// A transformation of tasks, with what brings refutations of its tasks back.
 pub trait Transform {
-    /// Which tasks a task becomes, or why it becomes none.
+    /// Which tasks a task becomes, however large they are, or the place of a declaration for which it becomes none.
     ghost equation: { Self → TaskEquation };
 
-    /// What the equation says: its tasks, or a fault for which it gives none. Want of memory apart, it says nothing else.
-    fn apply(&self, alloc: Global, store: &mut Store, task: &Task) -> Result<Vec<Task>, StageFault>
+    /// What the equation says: its tasks, or a declaration that the transformation doesn't take. Want of memory apart, it
+    /// says nothing else.
+    fn make(&self, alloc: Global, store: &mut Store, task: &Task) -> Result<Vec<Task>, MakeFault>
+        requires held { TaskHeld store.old task.now }
+        requires valid { IsValid (task_at store.old task.now) }
+        ensures held { IfOk result (λ ts. TasksHeld store.new ts.items) }
+        ensures tasks { IfOk result (λ ts. equation self.now (task_at store.old task.now)
+            ≡ Ok (tasks_at store.new ts.items)) }
+        ensures fault { IfErr result
+            (IsMakeFault (equation self.now (task_at store.old task.now))) }
+        ensures grows { Grows store.old store.new };
+
+    /// The tasks, or the declaration that the transformation doesn't take, or `TooLarge` where a task has more than 2^20 tree
+    /// nodes or a tree that is higher than 2,000, or they have more than 2^23 nodes together.
+    final fn apply(
+        &self,
+        alloc: Global,
+        store: &mut Store,
+        task: &Task,
+    ) -> Result<Vec<Task>, StageFault>
         requires held { TaskHeld store.old task.now }
         requires valid { IsValid (task_at store.old task.now) }
         ensures held { IfOk result (λ ts. TasksHeld store.new ts.items) }
         ensures tasks { IfOk result (λ ts. Gives (equation self.now) (task_at store.old task.now)
             (tasks_at store.new ts.items)) }
         ensures fault { IfErr result
-            (IsStageFault (equation self.now (task_at store.old task.now))) }
-        ensures grows { Grows store.old store.new };
+            (IsStageFault (stage_equation (equation self.now) (task_at store.old task.now))) }
+        ensures grows { Grows store.old store.new }
+    {
+        match self.make(alloc, store, task) {
+            Ok(tasks) => limited_tasks(store, tasks),
+            Err(MakeFault::Memory) => Err(StageFault::Memory),
+            Err(MakeFault::Misplaced { decl }) => Err(StageFault::Misplaced { decl }),
+        }
+    }
 
     /// A step whose sequent is the negation of a fact of `to` at these types, alone: a proposition, the equation of a
     /// definition, a clause or an inversion formula, by its name, of a task that the draft's task becomes. `formula` is
@@ -88,7 +138,7 @@ pub trait Transform {
         ensures refutes { IfOk result (λ k. Refutes draft.new k (start draft.old.task)) }
         ensures grows { Extends draft.old draft.new };
 
-    /// The tasks of a valid task have its symbols, declare the same, and are valid; their algebraic and inductive groups
+    /// The tasks that a stage makes of a valid task have its symbols, declare the same, and are valid; their algebraic and inductive groups
     /// are its own.
     ghost keeps: { (x : Self) (t : TaskTree) (ts : List TaskTree) → IsValid t → Gives (equation x) t ts → All (Keeps t) ts };
 }

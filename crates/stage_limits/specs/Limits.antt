@@ -4,7 +4,11 @@ use Rattle.std.specs.Prelude.{ℕ, max, Bool, ◌&&◌, nat_le, if◌then◌else
 use Rattle.std.specs.List.{list_all}
 use Rattle.trees.specs.Tree.{Tree, height}
 use Rattle.tasks.specs.Task.{TaskTree, DefinitionTree, InductiveTree, BodyTree, Defines, Induces, Says, DeclarationTree, nodes}
-use Rattle.evidence.specs.Stages.{Refusal, TooLarge}
+
+-- why a stage gives no tasks: a declaration that it doesn't take, or a task that would be too large
+pub data Refusal : Type 0 where
+  Misplaced : (decl : ℕ) → Refusal
+  TooLarge : Refusal
 
 -- the greatest of these numbers of a list's members, or 0
 abbrev pub greatest_by : {A : Type 0} → (A → ℕ) → List A → ℕ

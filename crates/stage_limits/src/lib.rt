@@ -1,10 +1,10 @@
 //! How large the tasks of a stage may be, told by the sizes and heights that the store keeps.
 //!
-//! Contract: the tasks, or `TooLarge` exactly where they are above a bound.
+//! Contract: the tasks exactly where they aren't above a bound.
 #![tactic(auto)]
 
 mod heights;
 mod limits;
 
 pub use heights::task_height;
-pub use limits::{are_small, limit_tasks};
+pub use limits::{AboveBound, are_small, limit_tasks};

@@ -1,14 +1,11 @@
-// Whether tasks are small enough, and the answer of a stage by it.
-ghost use Rattle.evidence.specs.declared.stage.StageFault.TheVariants.{TooLarge};
-ghost use Rattle.std.specs.Prelude.{◌≡◌, min, sum_by, IfOk, IfErr};
+// Whether tasks are small enough, and the tasks where they are.
+ghost use Rattle.std.specs.Prelude.{◌≡◌, min, sum_by, Ok, Err, IfOk, IfErr};
 ghost use Rattle.std.specs.List.{list_all};
 ghost use Rattle.tasks.specs.Task.{nodes};
 ghost use Rattle.tasks.specs.Meaning.{task_at, tasks_at, TaskHeld, TasksHeld};
-ghost use Rattle.evidence.specs.Stages.{IsStageFault};
-ghost use Rattle.stage_limits.specs.Limits.{is_small, are_small, limited};
+ghost use Rattle.stage_limits.specs.Limits.{TooLarge, is_small, are_small, limited};
 
 use crate::heights::task_height;
-use evidence::StageFault;
 use tasks::{Task, nodes};
 use term_store::Store;
 
@@ -60,18 +57,21 @@ pub fn are_small(store: &Store, tasks: &[Task]) -> bool
     each_is_small(store, tasks) && nodes_together(store, tasks) <= NODES_TOGETHER
 }
 
-/// The tasks where they are small enough, else `TooLarge`.
-pub fn limit_tasks(store: &Store, tasks: Vec<Task>) -> Result<Vec<Task>, StageFault>
+/// Some task is above the bound, or they are together.
+#[derive(Clone, Copy)]
+pub struct AboveBound;
+
+/// The tasks where they are small enough, else that they are above the bound.
+pub fn limit_tasks(store: &Store, tasks: Vec<Task>) -> Result<Vec<Task>, AboveBound>
     requires { TasksHeld store.now tasks.items }
     ensures held { IfOk result (λ ts. TasksHeld store.now ts.items) }
     ensures tasks { IfOk result (λ ts. limited (tasks_at store.now tasks.items)
         ≡ Ok (tasks_at store.now ts.items)) }
-    ensures fault { IfErr result (IsStageFault (limited (tasks_at store.now tasks.items))) }
-    ensures large { IfErr result (λ e. e ≡ TooLarge) }
+    ensures large { IfErr result (λ _. limited (tasks_at store.now tasks.items) ≡ Err TooLarge) }
 {
     if are_small(store, &tasks) {
         Ok(tasks)
     } else {
-        Err(StageFault::TooLarge)
+        Err(AboveBound)
     }
 }

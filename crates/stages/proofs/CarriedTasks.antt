@@ -9,7 +9,7 @@ use Rattle.tasks.specs.Task.{TaskTree}
 use Rattle.tasks.specs.Meaning.{task_at, tasks_at, TaskHeld, TasksHeld}
 use Rattle.tasks.specs.Valid.{IsValid}
 use Rattle.tasks.proofs.Growth.{task_later, task_held_later, tasks_later, tasks_held_later}
-use Rattle.evidence.specs.Stages.{Refusal, TaskEquation, Keeps, no_task}
+use Rattle.evidence.specs.Stages.{Refusal, StageEquation, Keeps, no_task}
 use Rattle.stages.specs.declared.transformation.Transformation.{Transformation}
 use Rattle.stages.specs.Transformations.{equation_of}
 use Rattle.stages.specs.Kept.{keeps_of}
@@ -28,14 +28,14 @@ tasks_kept s s' tasks g a = record {
 }
 
 -- the tasks of tasks, after those that are there
-abbrev pub after_tasks : TaskEquation → List TaskTree → List TaskTree → Result (List TaskTree) Refusal
+abbrev pub after_tasks : StageEquation → List TaskTree → List TaskTree → Result (List TaskTree) Refusal
 after_tasks equation there ts = map_ok (λ us. there ++ us) (all_tasks equation ts)
 
 map_nothing : {E : Type 0} (r : Result (List TaskTree) E) → map_ok (λ us. [] ++ us) r ≡ r
 map_nothing (Ok us) = refl
 map_nothing (Err e) = refl
 
-pub after_none : (equation : TaskEquation) (ts : List TaskTree) → after_tasks equation [] ts ≡ all_tasks equation ts
+pub after_none : (equation : StageEquation) (ts : List TaskTree) → after_tasks equation [] ts ≡ all_tasks equation ts
 after_none equation ts = map_nothing (all_tasks equation ts)
 
 map_joined : (there us : List TaskTree) (r : Result (List TaskTree) Refusal) → map_ok (λ vs. there ++ vs) (map_ok (λ vs. us ++ vs) r) ≡ map_ok (λ vs. (there ++ us) ++ vs) r
@@ -43,7 +43,7 @@ map_joined there us (Ok vs) = ap (λ (z : List TaskTree). Ok z) (sym (append_ass
 map_joined there us (Err e) = refl
 
 -- one task more
-pub after_more : (equation : TaskEquation) (there us : List TaskTree) (t : TaskTree) (ts : List TaskTree) → equation t ≡ Ok us → after_tasks equation (there ++ us) ts ≡ after_tasks equation there (t ∷ ts)
+pub after_more : (equation : StageEquation) (there us : List TaskTree) (t : TaskTree) (ts : List TaskTree) → equation t ≡ Ok us → after_tasks equation (there ++ us) ts ≡ after_tasks equation there (t ∷ ts)
 after_more equation there us t ts e = rw e (sym (map_joined there us (all_tasks equation ts)))
 
 -- the task at a place, and those from there on
@@ -57,7 +57,7 @@ rest_from s s' g tasks i t held is l =
     subst (λ (ts : List TaskTree). drop i ts ≡ task_at s' t ∷ drop (i + 1) ts) same (d ∙ ap (λ (x : TaskTree). x ∷ drop (i + 1) (tasks_at s' tasks)) here)
 
 -- a task that is refused
-pub after_refused : (equation : TaskEquation) (n : ℕ) (there : List TaskTree) (t : TaskTree) (ts : List TaskTree) (e : CarryFault) → IsCarryFault (at_stage n (equation t)) e
+pub after_refused : (equation : StageEquation) (n : ℕ) (there : List TaskTree) (t : TaskTree) (ts : List TaskTree) (e : CarryFault) → IsCarryFault (at_stage n (equation t)) e
     → IsCarryFault (at_stage n (after_tasks equation there (t ∷ ts))) e
 after_refused equation n there t ts e f = by (equation t) e f
   where
@@ -72,10 +72,10 @@ after_refused equation n there t ts e f = by (equation t) e f
     by (Ok us) (fault.TooLarge k) h = absurd (cc)
 
 -- all tasks of a stage, after none, are limited
-pub once_limited : (equation : TaskEquation) (ts us : List TaskTree) → all_tasks equation ts ≡ Ok us → carried_once equation ts ≡ limited us
+pub once_limited : (equation : StageEquation) (ts us : List TaskTree) → all_tasks equation ts ≡ Ok us → carried_once equation ts ≡ limited us
 once_limited equation ts us e = rw e refl
 
-pub once_refused : (equation : TaskEquation) (n : ℕ) (ts : List TaskTree) (e : CarryFault) → IsCarryFault (at_stage n (all_tasks equation ts)) e → IsCarryFault (at_stage n (carried_once equation ts)) e
+pub once_refused : (equation : StageEquation) (n : ℕ) (ts : List TaskTree) (e : CarryFault) → IsCarryFault (at_stage n (all_tasks equation ts)) e → IsCarryFault (at_stage n (carried_once equation ts)) e
 once_refused equation n ts e f = by (all_tasks equation ts) e f
   where
     by : (r : Result (List TaskTree) Refusal) (e : CarryFault) → IsCarryFault (at_stage n r) e → IsCarryFault (at_stage n (and_then r limited)) e
@@ -89,10 +89,10 @@ once_refused equation n ts e f = by (all_tasks equation ts) e f
     by (Ok us) (fault.TooLarge k) h = absurd (cc)
 
 -- one stage more
-pub carried_more : (equations : List TaskEquation) (equation : TaskEquation) (n : ℕ) (ts us : List TaskTree) → carried_once equation ts ≡ Ok us → carried (equation ∷ equations) n ts ≡ carried equations (n + 1) us
+pub carried_more : (equations : List StageEquation) (equation : StageEquation) (n : ℕ) (ts us : List TaskTree) → carried_once equation ts ≡ Ok us → carried (equation ∷ equations) n ts ≡ carried equations (n + 1) us
 carried_more equations equation n ts us e = rw e refl
 
-pub carried_refused : (equations : List TaskEquation) (equation : TaskEquation) (n : ℕ) (ts : List TaskTree) (e : CarryFault) → IsCarryFault (at_stage n (carried_once equation ts)) e
+pub carried_refused : (equations : List StageEquation) (equation : StageEquation) (n : ℕ) (ts : List TaskTree) (e : CarryFault) → IsCarryFault (at_stage n (carried_once equation ts)) e
     → IsCarryFault (carried (equation ∷ equations) n ts) e
 carried_refused equations equation n ts e f = by (at_stage n (carried_once equation ts)) e f
   where
@@ -136,7 +136,7 @@ pushed_of x s s' g t all made new v a h e is =
       is = ap (tasks_at s') is ∙ both ∙ ap (λ (us : List TaskTree). us ++ tasks_at s' made) (tasks_later s s' g all a.held);
     }
 
-module _ (equation : TaskEquation) (s0 : List Tree) (tasks : List Task) where
+module _ (equation : StageEquation) (s0 : List Tree) (tasks : List Task) where
   abbrev pub SoFar : List Tree → List Task → ℕ → Type 0
   SoFar s all i = after_tasks equation (tasks_at s all) (drop i (tasks_at s0 tasks)) ≡ all_tasks equation (tasks_at s0 tasks)
 
@@ -164,7 +164,7 @@ module _ (equation : TaskEquation) (s0 : List Tree) (tasks : List Task) where
       once_limited equation (tasks_at s0 tasks) (tasks_at s all) is
 
 -- before any task
-pub once_none : (equation : TaskEquation) (s : List Tree) (tasks : List Task) → SoFar equation s tasks s [] 0
+pub once_none : (equation : StageEquation) (s : List Tree) (tasks : List Task) → SoFar equation s tasks s [] 0
 once_none equation s tasks = after_none equation (tasks_at s tasks)
 
 pub none_are : (s : List Tree) → AreTasks s []
@@ -178,13 +178,13 @@ module _ (stages : List Transformation) (said : Result (List TaskTree) StageRefu
   pub left_step : (n : ℕ) (x : Transformation) (ts us : List TaskTree) → x ≡ get_or stages n x → n < length stages → carried_once (equation_of x) ts ≡ Ok us → Left n ts → Left (n + 1) us
   left_step n x ts us is l e so =
       let later = map equation_of (drop (n + 1) stages) in
-      sym (ap (λ (es : List TaskEquation). carried es n ts) (equations_from equation_of stages n x is l) ∙ carried_more later (equation_of x) n ts us e) ∙ so
+      sym (ap (λ (es : List StageEquation). carried es n ts) (equations_from equation_of stages n x is l) ∙ carried_more later (equation_of x) n ts us e) ∙ so
 
   pub left_fault : (n : ℕ) (x : Transformation) (ts : List TaskTree) (e : CarryFault) → x ≡ get_or stages n x → n < length stages → IsCarryFault (at_stage n (carried_once (equation_of x) ts)) e
       → Left n ts → IsCarryFault said e
   left_fault n x ts e is l f so =
       let later = map equation_of (drop (n + 1) stages) in
-      let whole = ap (λ (es : List TaskEquation). carried es n ts) (sym (equations_from equation_of stages n x is l)) ∙ so in
+      let whole = ap (λ (es : List StageEquation). carried es n ts) (sym (equations_from equation_of stages n x is l)) ∙ so in
       subst (λ (r : Result (List TaskTree) StageRefusal). IsCarryFault r e) whole (carried_refused later (equation_of x) n ts e f)
 
   pub left_done : (n : ℕ) (ts : List TaskTree) → length stages ≤ n → Left n ts → said ≡ Ok ts

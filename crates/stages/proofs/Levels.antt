@@ -7,7 +7,7 @@ use Rattle.std.proofs.Math.Seq.{get_or-append_seam}
 use Rattle.tasks.specs.Task.{TaskTree}
 use Rattle.kernel.specs.rule_rows.Trees.{StepTree}
 use Rattle.kernel.specs.Right.{Closes}
-use Rattle.evidence.specs.Stages.{Refusal, TaskEquation, PartsClose, task_or, part_or, no_task}
+use Rattle.evidence.specs.Stages.{Refusal, StageEquation, PartsClose, task_or, part_or, no_task}
 use Rattle.stage_limits.specs.Limits.{limited}
 use Rattle.stage_limits.specs.Laws.{limited_gives}
 use Rattle.stages.specs.declared.transformation.Transformation.{Transformation}
@@ -19,14 +19,14 @@ use Rattle.stages.proofs.Sequents.{have_more}
 
 -- ---- what tasks become
 -- the tasks of the first task, and of those after it
-record IsFirst (f : TaskEquation) (t : TaskTree) (ts us : List TaskTree) : Type 0 where
+record IsFirst (f : StageEquation) (t : TaskTree) (ts us : List TaskTree) : Type 0 where
   first : List TaskTree
   later : List TaskTree
   gives : f t ≡ Ok first
   become : all_tasks f ts ≡ Ok later
   joined : us ≡ first ++ later
 
-all_first : (f : TaskEquation) (t : TaskTree) (ts us : List TaskTree) → all_tasks f (t ∷ ts) ≡ Ok us → IsFirst f t ts us
+all_first : (f : StageEquation) (t : TaskTree) (ts us : List TaskTree) → all_tasks f (t ∷ ts) ≡ Ok us → IsFirst f t ts us
 all_first f t ts us e = by (f t) (all_tasks f ts) refl refl e
   where
     by : (r q : Result (List TaskTree) Refusal) → f t ≡ r → all_tasks f ts ≡ q → and_then r (λ vs. map_ok (λ ws. vs ++ ws) q) ≡ Ok us → IsFirst f t ts us
@@ -34,11 +34,11 @@ all_first f t ts us e = by (f t) (all_tasks f ts) refl refl e
     by (Ok vs) (Err q) a b h = absurd (cc)
     by (Err r) q a b h = absurd (cc)
 
-all_join : (f : TaskEquation) (t : TaskTree) (ts us vs : List TaskTree) → f t ≡ Ok us → all_tasks f ts ≡ Ok vs → all_tasks f (t ∷ ts) ≡ Ok (us ++ vs)
+all_join : (f : StageEquation) (t : TaskTree) (ts us vs : List TaskTree) → f t ≡ Ok us → all_tasks f ts ≡ Ok vs → all_tasks f (t ∷ ts) ≡ Ok (us ++ vs)
 all_join f t ts us vs a b = rw (a, b) refl
 
 -- one task more
-all_more : (f : TaskEquation) (ts : List TaskTree) (t : TaskTree) (us vs : List TaskTree) → all_tasks f ts ≡ Ok us → f t ≡ Ok vs → all_tasks f (ts ++ t ∷ []) ≡ Ok (us ++ vs)
+all_more : (f : StageEquation) (ts : List TaskTree) (t : TaskTree) (us vs : List TaskTree) → all_tasks f ts ≡ Ok us → f t ≡ Ok vs → all_tasks f (ts ++ t ∷ []) ≡ Ok (us ++ vs)
 all_more f [] t us vs a b =
     let e : us ≡ [] = cc in
     all_join f t [] vs [] b refl ∙ ap (λ (z : List TaskTree). Ok z) (append-nil vs ∙ ap (λ (z : List TaskTree). z ++ vs) (sym e))
@@ -48,14 +48,14 @@ all_more f (x ∷ xs) t us vs a b =
     ∙ ap (λ (z : List TaskTree). Ok z) (sym (append_assoc p.first p.later vs) ∙ ap (λ (z : List TaskTree). z ++ vs) (sym p.joined))
 
 -- the tasks of some, and those of others after them
-record IsSplit (f : TaskEquation) (ts us vs : List TaskTree) : Type 0 where
+record IsSplit (f : StageEquation) (ts us vs : List TaskTree) : Type 0 where
   first : List TaskTree
   later : List TaskTree
   first_is : all_tasks f ts ≡ Ok first
   later_is : all_tasks f us ≡ Ok later
   joined : vs ≡ first ++ later
 
-all_split : (f : TaskEquation) (ts us vs : List TaskTree) → all_tasks f (ts ++ us) ≡ Ok vs → IsSplit f ts us vs
+all_split : (f : StageEquation) (ts us vs : List TaskTree) → all_tasks f (ts ++ us) ≡ Ok vs → IsSplit f ts us vs
 all_split f [] us vs a = record { first = []; later = vs; first_is = refl; later_is = a; joined = refl }
 all_split f (t ∷ ts) us vs a =
     let p = all_first f t (ts ++ us) vs a in
@@ -70,7 +70,7 @@ all_split f (t ∷ ts) us vs a =
 
 -- ---- equations in order
 -- an equation before others
-composed : (e : TaskEquation) (es : List TaskEquation) (ts vs us : List TaskTree) → all_tasks e ts ≡ Ok vs → all_tasks (carries es) vs ≡ Ok us → all_tasks (carries (e ∷ es)) ts ≡ Ok us
+composed : (e : StageEquation) (es : List StageEquation) (ts vs us : List TaskTree) → all_tasks e ts ≡ Ok vs → all_tasks (carries es) vs ≡ Ok us → all_tasks (carries (e ∷ es)) ts ≡ Ok us
 composed e es [] vs us a b = let n : vs ≡ [] = cc in subst (λ (z : List TaskTree). all_tasks (carries es) z ≡ Ok us) n b
 composed e es (t ∷ ts) vs us a b =
     let p = all_first e t ts vs a in
@@ -83,7 +83,7 @@ through_none : (ts : List TaskTree) → all_tasks (carries []) ts ≡ Ok ts
 through_none [] = refl
 through_none (t ∷ ts) = all_join (carries []) t ts (t ∷ []) ts refl (through_none ts)
 
-once_all : (equation : TaskEquation) (ts us : List TaskTree) → carried_once equation ts ≡ Ok us → all_tasks equation ts ≡ Ok us
+once_all : (equation : StageEquation) (ts us : List TaskTree) → carried_once equation ts ≡ Ok us → all_tasks equation ts ≡ Ok us
 once_all equation ts us e = by (all_tasks equation ts) refl e
   where
     by : (r : Result (List TaskTree) Refusal) → all_tasks equation ts ≡ r → and_then r limited ≡ Ok us → all_tasks equation ts ≡ Ok us
@@ -91,7 +91,7 @@ once_all equation ts us e = by (all_tasks equation ts) refl e
     by (Err q) is h = absurd (cc)
 
 -- tasks that are small enough are those that the equations give
-carried_through : (es : List TaskEquation) (n : ℕ) (ts us : List TaskTree) → carried es n ts ≡ Ok us → all_tasks (carries es) ts ≡ Ok us
+carried_through : (es : List StageEquation) (n : ℕ) (ts us : List TaskTree) → carried es n ts ≡ Ok us → all_tasks (carries es) ts ≡ Ok us
 carried_through [] n ts us h = let e : ts ≡ us = cc in through_none ts ∙ ap (λ (z : List TaskTree). Ok z) e
 carried_through (e ∷ es) n ts us h = by (carried_once e ts) refl h (λ vs q. carried_through es (n + 1) vs us q)
   where
@@ -101,14 +101,14 @@ carried_through (e ∷ es) n ts us h = by (carried_once e ts) refl h (λ vs q. c
     by (Err r) is q rest = absurd (cc)
 
 -- the first equation gives some tasks, and the others what all give
-pub through_first : (e : TaskEquation) (es : List TaskEquation) (t : TaskTree) (vs : List TaskTree) → carries (e ∷ es) t ≡ Ok vs → GivesSome e t
+pub through_first : (e : StageEquation) (es : List StageEquation) (t : TaskTree) (vs : List TaskTree) → carries (e ∷ es) t ≡ Ok vs → GivesSome e t
 through_first e es t vs h = by (e t) refl h
   where
     by : (r : Result (List TaskTree) Refusal) → e t ≡ r → and_then r (all_tasks (carries es)) ≡ Ok vs → GivesSome e t
     by (Ok us) is q = record { tasks = us; gives = is }
     by (Err r) is q = absurd (cc)
 
-pub through_rest : (e : TaskEquation) (es : List TaskEquation) (t : TaskTree) (us vs : List TaskTree) → e t ≡ Ok us → carries (e ∷ es) t ≡ Ok vs → all_tasks (carries es) us ≡ Ok vs
+pub through_rest : (e : StageEquation) (es : List StageEquation) (t : TaskTree) (us vs : List TaskTree) → e t ≡ Ok us → carries (e ∷ es) t ≡ Ok vs → all_tasks (carries es) us ≡ Ok vs
 through_rest e es t us vs a h = rw a at h
 
 pub same_given : (r : Result (List TaskTree) Refusal) (us vs : List TaskTree) → r ≡ Ok us → r ≡ Ok vs → us ≡ vs
@@ -174,26 +174,26 @@ front_rest us later handed c =
     }
 
 -- the refutations that come next are those of the next task
-pub next_refuted : (f : TaskEquation) (t : TaskTree) (ts : List TaskTree) (handed : List (List StepTree)) → AreRefutedFirst f (t ∷ ts) handed → IsRefutedFirst f t handed
+pub next_refuted : (f : StageEquation) (t : TaskTree) (ts : List TaskTree) (handed : List (List StepTree)) → AreRefutedFirst f (t ∷ ts) handed → IsRefutedFirst f t handed
 next_refuted f t ts handed r =
     let p = all_first f t ts r.tasks r.become in
     record { tasks = p.first; gives = p.gives; front = front_first p.first p.later handed (subst (λ (z : List TaskTree). IsFrontClosed z handed) p.joined r.front) }
 
-next_left : (f : TaskEquation) (t : TaskTree) (ts us : List TaskTree) (handed : List (List StepTree)) → AreRefutedFirst f (t ∷ ts) handed → f t ≡ Ok us → AreRefutedFirst f ts (drop (length us) handed)
+next_left : (f : StageEquation) (t : TaskTree) (ts us : List TaskTree) (handed : List (List StepTree)) → AreRefutedFirst f (t ∷ ts) handed → f t ≡ Ok us → AreRefutedFirst f ts (drop (length us) handed)
 next_left f t ts us handed r e =
     let p = all_first f t ts r.tasks r.become in
     let same : p.first ≡ us = same_given (f t) p.first us p.gives e in
     let all : r.tasks ≡ us ++ p.later = p.joined ∙ ap (λ (z : List TaskTree). z ++ p.later) same in
     record { tasks = p.later; become = p.become; front = front_rest us p.later handed (subst (λ (z : List TaskTree). IsFrontClosed z handed) all r.front) }
 
-next_within : (f : TaskEquation) (t : TaskTree) (ts us : List TaskTree) (handed : List (List StepTree)) → AreRefutedFirst f (t ∷ ts) handed → f t ≡ Ok us → length us ≤ length handed
+next_within : (f : StageEquation) (t : TaskTree) (ts us : List TaskTree) (handed : List (List StepTree)) → AreRefutedFirst f (t ∷ ts) handed → f t ≡ Ok us → length us ≤ length handed
 next_within f t ts us handed r e =
     let n = next_refuted f t ts handed r in
     let same : n.tasks ≡ us = same_given (f t) n.tasks us n.gives e in
     omega (arith, n.front.within, ap length same)
 
 -- before the first task
-pub far_none : (f : TaskEquation) (ts : List TaskTree) (handed : List (List StepTree)) → AreRefutedFirst f ts handed → IsSoFar f ts handed 0 0 []
+pub far_none : (f : StageEquation) (ts : List TaskTree) (handed : List (List StepTree)) → AreRefutedFirst f ts handed → IsSoFar f ts handed 0 0 []
 far_none f ts handed r = record {
   tasks = [];
   become = refl;
@@ -226,7 +226,7 @@ drop_twice (suc m) n [] = drop_all n [] (omega arith) ∙ sym (drop_all (suc m +
 drop_twice (suc m) n (x ∷ xs) = let e : suc (m + n) ≡ suc m + n = omega arith in drop_twice m n xs ∙ ap (λ (k : ℕ). drop k (x ∷ xs)) e
 
 -- one task more
-pub far_more : (f : TaskEquation) (ts : List TaskTree) (handed : List (List StepTree)) (i used : ℕ) (lists : List (List StepTree)) (t : TaskTree) (us : List TaskTree) (steps : List StepTree)
+pub far_more : (f : StageEquation) (ts : List TaskTree) (handed : List (List StepTree)) (i used : ℕ) (lists : List (List StepTree)) (t : TaskTree) (us : List TaskTree) (steps : List StepTree)
     → IsSoFar f ts handed i used lists → i < length ts → drop i ts ≡ t ∷ drop (i + 1) ts → f t ≡ Ok us → Closes t steps → HandedHasSequents steps (take (length us) (drop used handed))
     → IsSoFar f ts handed (i + 1) (used + length us) (lists ++ steps ∷ [])
 far_more f ts handed i used lists t us steps far l at e c h =

@@ -10,7 +10,7 @@ use Rattle.tasks.specs.Meaning.{task_at, tasks_at, TasksHeld}
 use Rattle.kernel.specs.rule_rows.declared.rule.Step.{Step}
 use Rattle.kernel.specs.rule_rows.Meaning.{steps_at, StepsHeld}
 use Rattle.kernel.specs.rule_rows.Trees.{StepTree}
-use Rattle.evidence.specs.Stages.{TaskEquation, PartsClose, PartsHeld, parts_at}
+use Rattle.evidence.specs.Stages.{StageEquation, PartsClose, PartsHeld, parts_at}
 use Rattle.kernel.specs.Right.{Closes}
 use Rattle.stages.specs.declared.lifting.Derived.{Derived}
 use Rattle.stages.specs.Lifted.{HandedHasSequents, ListsHaveSequents, IsDerived}
@@ -20,7 +20,7 @@ use Rattle.stages.proofs.Levels.{next_refuted, far_more}
 use Rattle.stages.proofs.Sequents.{have_alone}
 use Rattle.stages.proofs.Copies.{parts_later, parts_held_later}
 
-module _ (equation : TaskEquation) (s0 s : List Tree) (g : Grows s0 s) (tasks : List Task) (parts : List (List Step)) (i used : ℕ) (lists : List (List Step)) where
+module _ (equation : StageEquation) (s0 s : List Tree) (g : Grows s0 s) (tasks : List Task) (parts : List (List Step)) (i used : ℕ) (lists : List (List Step)) where
   abbrev pub Far : Type 0
   Far = IsSoFar equation (tasks_at s0 tasks) (parts_at s0 parts) i used (parts_at s lists)
 

@@ -55,7 +55,7 @@ fn limited_at(store: &Store, number: usize, tasks: Vec<Task>) -> Result<Vec<Task
 {
     match limit_tasks(store, tasks) {
         Ok(tasks) => Ok(tasks),
-        Err(fault) => Err(fault_at(number, fault)),
+        Err(_) => Err(CarryFault::TooLarge { stage: number }),
     }
 }
 

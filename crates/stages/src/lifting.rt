@@ -1,16 +1,16 @@
 // Refutations of the tasks that a task becomes, brought back through the stages to a derivation of the task.
 // It depends on the laws of the transformations that are built; the program depends on it.
-ghost use Rattle.std.specs.Prelude.{◌∷◌, IfOk, map};
+ghost use Rattle.std.specs.Prelude.{◌≡◌, ◌∷◌, Ok, IfOk, map};
 ghost use Rattle.tasks.specs.trees.Node.{Grows};
 ghost use Rattle.tasks.specs.Meaning.{task_at, tasks_at, TaskHeld, TasksHeld};
 ghost use Rattle.tasks.specs.Valid.{IsValid};
 ghost use Rattle.kernel.specs.Right.{last_starts};
 ghost use Rattle.evidence.specs.Drafts.{Extends};
 ghost use Rattle.evidence.specs.Stages.{Gives, IsOwnTask, PartsClose, PartsHeld, parts_at};
-ghost use Rattle.stages.specs.Transformations.{equation_of};
+ghost use Rattle.stages.specs.Transformations.{equation_of, task_equation_of};
 ghost use Rattle.stages.specs.Carried.{carries};
 ghost use Rattle.stages.specs.Steps.{AreTasks, IsCopy};
-ghost use Rattle.stages.specs.Lifted.{AreDerived, AreRefuted, HandedHasSequents, IsDerived};
+ghost use Rattle.stages.specs.Lifted.{AreRefuted, HandedHasSequents, IsDerived};
 ghost use Rattle.stages.specs.Levels.{GivesSome, IsFrontClosed, IsRefutedFirst, AreRefutedFirst};
 ghost use Rattle.stages.specs.Levels.{IsDerivedFirst, AreDerivedFirst};
 
@@ -45,7 +45,7 @@ fn lift_draft(
 ) -> Result<(), AllocError>
     requires own { IsOwnTask draft.old task.now }
     requires to_held { TasksHeld draft.old.trees to.now.items }
-    requires gives { Gives (equation_of stage.now) draft.old.task
+    requires gives { Gives (task_equation_of stage.now) draft.old.task
         (tasks_at draft.old.trees to.now.items) }
     requires parts_held { PartsHeld draft.old.trees parts.now }
     requires close { PartsClose (tasks_at draft.old.trees to.now.items)
@@ -80,7 +80,7 @@ fn lift_one(
     requires held { TaskHeld store task.now }
     requires valid { IsValid (task_at store task.now) }
     requires to_held { TasksHeld store to.now.items }
-    requires gives { Gives (equation_of stage.now) (task_at store task.now)
+    requires gives { Gives (task_equation_of stage.now) (task_at store task.now)
         (tasks_at store to.now.items) }
     requires parts_held { PartsHeld store parts.now }
     requires close { PartsClose (tasks_at store to.now.items) (parts_at store parts.now) }
@@ -107,8 +107,8 @@ fn tasks_of(
     requires valid { IsValid (task_at store.old task.now) }
     requires gives { GivesSome (equation_of stage.now) (task_at store.old task.now) }
     ensures held { IfOk result (λ ts. TasksHeld store.new ts.items) }
-    ensures tasks { IfOk result (λ ts. Gives (equation_of stage.now) (task_at store.old task.now)
-        (tasks_at store.new ts.items)) }
+    ensures tasks { IfOk result (λ ts. equation_of stage.now (task_at store.old task.now)
+        ≡ Ok (tasks_at store.new ts.items)) }
     ensures grows { Grows store.old store.new }
 {
     match stage.apply(alloc, store, task) {
@@ -132,8 +132,8 @@ fn lift_last(
     requires held { TaskHeld store task.now }
     requires valid { IsValid (task_at store task.now) }
     requires to_held { TasksHeld store to.now.items }
-    requires gives { Gives (equation_of stage.now) (task_at store task.now)
-        (tasks_at store to.now.items) }
+    requires gives { equation_of stage.now (task_at store task.now)
+        ≡ Ok (tasks_at store to.now.items) }
     requires rest_held { PartsHeld store rest.now }
     requires front { IsFrontClosed (tasks_at store to.now.items) (parts_at store rest.now) }
     ensures { IfOk result (IsDerivedFirst (equation_of stage.now) store (task_at store task.now)

@@ -1,9 +1,9 @@
 // The transformations that are built, as one type.
 // Each is a crate of its own; the list of a driver's stages is made of them.
-ghost use Rattle.stages.specs.Transformations.{equation_of};
+ghost use Rattle.stages.specs.Transformations.{task_equation_of};
 ghost use Rattle.stages.specs.Kept.{keeps_of};
 
-use evidence::{Draft, StageFault, Transform};
+use evidence::{Draft, MakeFault, Transform};
 use std::alloc::{AllocError, Global};
 use tasks::{Fact, Store, Task, TermId};
 use tr_introduce::{Introduce, Remove};
@@ -18,18 +18,13 @@ pub enum Transformation {
 }
 
 impl Transform for Transformation {
-    ghost equation = { equation_of };
+    ghost equation = { task_equation_of };
 
-    fn apply(
-        &self,
-        alloc: Global,
-        store: &mut Store,
-        task: &Task,
-    ) -> Result<Vec<Task>, StageFault> {
+    fn make(&self, alloc: Global, store: &mut Store, task: &Task) -> Result<Vec<Task>, MakeFault> {
         match self {
-            Transformation::Remove(its) => its.apply(alloc, store, task),
-            Transformation::Split(its) => its.apply(alloc, store, task),
-            Transformation::Introduce(its) => its.apply(alloc, store, task),
+            Transformation::Remove(its) => its.make(alloc, store, task),
+            Transformation::Split(its) => its.make(alloc, store, task),
+            Transformation::Introduce(its) => its.make(alloc, store, task),
         }
     }
 

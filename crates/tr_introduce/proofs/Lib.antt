@@ -1,5 +1,4 @@
 pub mod Introduced
-pub mod Moving
 pub mod Opening
 pub mod Tasks
 pub mod Removed

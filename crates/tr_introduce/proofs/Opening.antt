@@ -1,77 +1,76 @@
 -- A quantifier opened at a new parameter, and an implication at its premise.
-use Rattle.std.proofs.Common.{◌≡◌, ℕ, ◌≤◌, ◌+◌, List, [], ◌∷◌, ◌++◌, Some, length, slice_get, All, false, sym, ap, subst, ◌∙◌, arith}
+use Rattle.std.proofs.Common.{◌≡◌, ℕ, ◌+◌, List, [], ◌∷◌, ◌++◌, Some, length, slice_get, refl, sym, ap, subst, ◌∙◌, arith}
 use Rattle.std.proofs.lemmas.List.{map-append, length-append}
-use Rattle.std.proofs.lemmas.List.Elements.{All-push, All-weaker}
+use Rattle.std.proofs.lemmas.List.Elements.{All-nil}
 use Rattle.trees.specs.declared.Op.TheVariants.{Imp}
 use Rattle.trees.specs.declared.TermId.{TermId}
-use Rattle.trees.specs.Tree.{Tree, Two, HForall, HJoin, above_params}
+use Rattle.trees.specs.Tree.{Tree, Two, HForall, HJoin}
 use Rattle.trees.specs.Node.{tree_at, Holds}
 use Rattle.trees.specs.Binding.{inst, Param}
-use Rattle.trees.specs.Facts.{has_param}
-use Rattle.trees.specs.declared.Sort.TheVariants.{Kind}
-use Rattle.trees.specs.Sorts.{sort_of}
-use Rattle.trees.proofs.Above.{no_param_above}
 use Rattle.tasks.specs.Task.{TaskTree, neg}
+use Rattle.tasks.specs.Valid.{IsTypeOver}
 use Rattle.tasks.specs.Meaning.{trees_at}
-use Rattle.tasks.specs.Vocabulary.{of_task}
-use Rattle.tasks.specs.Valid.{IsGroundFormula}
-use Rattle.rule_rows.specs.Trees.{RNotForall}
-use Rattle.rule_rows.specs.Rows.{IsNew}
-use Rattle.evidence.specs.Drafts.{DraftTree, Extends, Refutes, AreFormulas, IsFormulaAt}
-use Rattle.evidence.specs.Rules.{RefuteAdded}
-use Rattle.evidence.proofs.Rules.{notforall_row, refutes_later}
-use Rattle.evidence.proofs.Formulas.{same, behind_ids}
-use Rattle.instances.specs.Instances.{IsInstance}
-use Rattle.instances.proofs.Laws.{param_term}
+use Rattle.rule_rows.specs.Trees.{RuleTree, RNotForall, RNotImp}
+use Rattle.rule_rows.specs.Rows.{IsRuleRow}
+use Rattle.evidence.specs.Drafts.{DraftTree, Extends, Refutes, AreFormulas}
+use Rattle.evidence.specs.Rules.{NamesOwn, RefuteAdded}
+use Rattle.evidence.specs.Laws.{Extends_trans}
+use Rattle.evidence.proofs.Rules.{failing_row, notforall_row, refutes_later}
+use Rattle.evidence.proofs.Formulas.{same}
+use Rattle.evidence.proofs.Ends.{regroup}
+use Rattle.task_parts.proofs.Opened.{new_below, premise_below}
+use Rattle.tr_introduce.specs.declared.refuting.Opening.{Opening}
+use Rattle.tr_introduce.specs.declared.refuting.Opening.TheVariants as opens_at
 use Rattle.tr_introduce.specs.Introduce.{Judgement, introduced, judgement_sequent, prefix}
-use Rattle.tr_introduce.specs.Steps.{AreParamsBelow, EndsDraftAt, NegatesOpened}
+use Rattle.tr_introduce.specs.Steps.{AreParamsBelow, EndsDraftAt, Opens, negation_rule}
 use Rattle.tr_introduce.proofs.Introduced.{of_universal, of_implication, of_neither}
 
-pub not_forall_added : (d : DraftTree) (front : List TermId) (no_goal : TermId) (number premise : ℕ) → IsNew number (trees_at d.trees front ++ tree_at d.trees no_goal ∷ [])
-    → NegatesOpened d premise (trees_at d.trees front) (tree_at d.trees no_goal) number
-    → RefuteAdded d (trees_at d.trees front ++ tree_at d.trees no_goal ∷ []) (RNotForall (length front) number) (premise ∷ [])
-not_forall_added d front no_goal number premise new o =
-    let s : List Tree = trees_at d.trees front ++ tree_at d.trees no_goal ∷ [] in
-    let z : length front + 0 ≡ length front = omega arith in
-    let at : slice_get s (length front) ≡ Some (neg (Two HForall o.ty o.body)) =
-    subst (λ (n : ℕ). slice_get s n ≡ Some (tree_at d.trees no_goal)) z (behind_ids d front (tree_at d.trees no_goal ∷ []) 0) ∙ ap (λ (e : Tree). Some e) o.is in
+pub negation_names : (t : TaskTree) (o : Opening) (i : ℕ) → NamesOwn t (negation_rule o i)
+negation_names t (opens_at.Universal number) i = record { trees = tt; types = All-nil (IsTypeOver t 0) }
+negation_names t opens_at.Implication i = record { trees = tt; types = All-nil (IsTypeOver t 0) }
+
+-- over drafts that have grown, the kept step refutes what the rule adds
+pub opened_added : (d d1 d2 : DraftTree) (x1 : Extends d d1) (x2 : Extends d1 d2) (front added : List TermId) (goal no_goal : TermId) → AreFormulas d front → AreFormulas d added → Holds d1.trees no_goal
+    → tree_at d1.trees no_goal ≡ neg (tree_at d.trees goal) → (r : RuleTree) (kept : ℕ) → Opens d.task (trees_at d.trees front) (tree_at d.trees goal) r (trees_at d.trees added)
+    → Refutes d2 kept (trees_at d1.trees front ++ (trees_at d1.trees (no_goal ∷ []) ++ trees_at d1.trees added))
+    → RefuteAdded d2 (trees_at d2.trees front ++ trees_at d2.trees (no_goal ∷ [])) r (kept ∷ [])
+opened_added d d1 d2 x1 x2 front added goal no_goal f a h e r kept o k =
+    let x = Extends_trans d d1 d2 x1 x2 in
+    let s : List Tree = trees_at d.trees front ++ neg (tree_at d.trees goal) ∷ [] in
+    let f1 : trees_at d1.trees front ≡ trees_at d.trees front = same d d1 x1 front f in
+    let a1 : trees_at d1.trees added ≡ trees_at d.trees added = same d d1 x1 added a in
+    let f2 : trees_at d2.trees front ≡ trees_at d.trees front = same d d2 x front f in
+    let e2 : tree_at d2.trees no_goal ≡ neg (tree_at d.trees goal) = x2.trees.same no_goal.0 h ∙ e in
+    let q1 : (trees_at d1.trees front ++ tree_at d1.trees no_goal ∷ []) ++ trees_at d1.trees added ≡ s ++ trees_at d.trees added = cc (f1, a1, e) in
+    let q2 : trees_at d2.trees front ++ tree_at d2.trees no_goal ∷ [] ≡ s = cc (f2, e2) in
+    let row : IsRuleRow d2.task s r ((s ++ trees_at d.trees added) ∷ []) = subst (λ (t : TaskTree). IsRuleRow t s r ((s ++ trees_at d.trees added) ∷ [])) (sym x.task) o in
     record {
-      sequents = (s ++ neg (inst o.body (Param number o.ty)) ∷ []) ∷ [];
-      refuted = (o.refutes, tt);
-      row = notforall_row d.task s (length front) number o.ty o.body at new;
+      sequents = (s ++ trees_at d.trees added) ∷ [];
+      refuted = (subst (Refutes d2 kept) q1 (regroup d2 kept _ _ (trees_at d1.trees added) k), tt);
+      row = subst (λ (z : List Tree). IsRuleRow d2.task z r ((s ++ trees_at d.trees added) ∷ [])) (sym q2) row;
     }
 
--- a number above all parameters is new
-pub new_below : (number : ℕ) (front : List Tree) (goal : Tree) → AreParamsBelow number front goal → IsNew number (front ++ neg goal ∷ [])
-new_below number front goal b =
-    All-push (λ a. has_param a number ≡ false) front (neg goal) (All-weaker (λ a. above_params a ≤ number) (λ a. has_param a number ≡ false) (λ a l. no_param_above a number l) front b.front)
-    (no_param_above goal number b.goal)
+-- the last formula of a front with a negated goal
+at_last : (front : List Tree) (e : Tree) → slice_get (front ++ e ∷ []) (length front) ≡ Some e
+at_last [] e = refl
+at_last (x ∷ xs) e = at_last xs e
+
+-- what the negation of a quantifier gives at a new parameter, and that of an implication
+pub opens_universal : (t : TaskTree) (front : List Tree) (goal ty body e : Tree) (number n : ℕ) → goal ≡ Two HForall ty body → n ≡ length front → AreParamsBelow number front goal → e ≡ neg (inst body (Param number ty))
+    → Opens t front goal (RNotForall n number) (e ∷ [])
+opens_universal t front goal ty body e number n is m b q =
+    let row = notforall_row t (front ++ neg goal ∷ []) (length front) number ty body (at_last front (neg goal) ∙ ap (λ (z : Tree). Some (neg z)) is) (new_below number front goal b) in
+    rw (q, m) row
+
+pub opens_implication : (t : TaskTree) (front : List Tree) (goal a b e : Tree) (n : ℕ) → goal ≡ Two (HJoin Imp) a b → n ≡ length front → e ≡ neg b → Opens t front goal (RNotImp n) (a ∷ e ∷ [])
+opens_implication t front goal a b e n is m q =
+    let s = front ++ neg goal ∷ [] in
+    let at : slice_get s (length front) ≡ Some (neg (Two (HJoin Imp) a b)) = at_last front (neg goal) ∙ ap (λ (z : Tree). Some (neg z)) is in
+    let row : IsRuleRow t s (RNotImp (length front)) ((s ++ a ∷ neg b ∷ []) ∷ []) = failing_row t s Imp (length front) (Some (neg (Two (HJoin Imp) a b))) ((s ++ a ∷ neg b ∷ []) ∷ []) at (refl, refl) in
+    rw (q, m) row
 
 -- ---- the goal at its parameter
-module _ (d : DraftTree) (goal ty body : TermId) (f : IsFormulaAt d goal) (is : tree_at d.trees goal ≡ Two HForall (tree_at d.trees ty) (tree_at d.trees body)) where
-  whole : IsGroundFormula d.task (Two HForall (tree_at d.trees ty) (tree_at d.trees body))
-  whole = subst (IsGroundFormula d.task) is f.ground
-
-  pub kind : sort_of (tree_at d.trees ty) ≡ Kind
-  kind = whole.typed.0.0.0
-
-  pub opened_formula : (d1 : DraftTree) (id : TermId) (number : ℕ) → d1.task ≡ d.task → Holds d1.trees id → IsInstance (tree_at d.trees body) (Param number (tree_at d.trees ty)) (tree_at d1.trees id) → IsFormulaAt d1 id
-  opened_formula d1 id number t h i =
-      let g : IsGroundFormula d.task (tree_at d1.trees id) = record {
-        sort = i.sort ∙ whole.typed.0.0.1;
-        typed = i.typed (of_task d.task) (tree_at d.trees ty) (param_term (of_task d.task) number (tree_at d.trees ty) whole.typed.0.0.0 whole.typed.2) whole.typed.3;
-        ground = i.variables 0 whole.ground.0 whole.ground.1;
-      } in
-      record { held = h; ground = subst (λ (u : TaskTree). IsGroundFormula u (tree_at d1.trees id)) (sym t) g }
-
-  pub opened_below : (front : List Tree) (number : ℕ) (e : Tree) → AreParamsBelow number front (tree_at d.trees goal) → IsInstance (tree_at d.trees body) (Param number (tree_at d.trees ty)) e → AreParamsBelow (number + 1) front e
-  opened_below front number e b i =
-      let l : above_params (Two HForall (tree_at d.trees ty) (tree_at d.trees body)) ≤ number = subst (λ (z : Tree). above_params z ≤ number) is b.goal in
-      record {
-        front = All-weaker (λ a. above_params a ≤ number) (λ a. above_params a ≤ number + 1) (λ a k. omega arith) front b.front;
-        goal = i.above (number + 1) (omega arith) (omega arith);
-      }
-
+module _ (d : DraftTree) (goal ty body : TermId) (is : tree_at d.trees goal ≡ Two HForall (tree_at d.trees ty) (tree_at d.trees body)) where
   pub opened_ends : (d1 : DraftTree) (front : List TermId) (number end : ℕ) (e : Tree) → Extends d d1 → AreFormulas d front → EndsDraftAt d end (trees_at d.trees front) (tree_at d.trees goal) number
       → e ≡ inst (tree_at d.trees body) (Param number (tree_at d.trees ty)) → EndsDraftAt d1 end (trees_at d1.trees front) e (number + 1)
   opened_ends d1 front number end e x a u o =
@@ -88,26 +87,14 @@ module _ (d : DraftTree) (goal ty body : TermId) (f : IsFormulaAt d goal) (is : 
       }
 
 -- ---- the goal after its premise
-module _ (d : DraftTree) (front wider : List TermId) (goal a b : TermId) (f : IsFormulaAt d goal) (is : tree_at d.trees goal ≡ Two (HJoin Imp) (tree_at d.trees a) (tree_at d.trees b)) (e : wider ≡ front ++ a ∷ []) where
-  joins : IsGroundFormula d.task (Two (HJoin Imp) (tree_at d.trees a) (tree_at d.trees b))
-  joins = subst (IsGroundFormula d.task) is f.ground
-
-  pub premise_formula : Holds d.trees a → IsFormulaAt d a
-  premise_formula h = record { held = h; ground = record { sort = joins.typed.0.0.0; typed = joins.typed.2; ground = joins.ground.0 } }
-
-  pub conclusion_formula : Holds d.trees b → IsFormulaAt d b
-  conclusion_formula h = record { held = h; ground = record { sort = joins.typed.0.0.1; typed = joins.typed.3; ground = joins.ground.1 } }
-
+module _ (d : DraftTree) (front wider : List TermId) (goal a b : TermId) (is : tree_at d.trees goal ≡ Two (HJoin Imp) (tree_at d.trees a) (tree_at d.trees b)) (e : wider ≡ front ++ a ∷ []) where
   pub wider_trees : trees_at d.trees wider ≡ trees_at d.trees front ++ tree_at d.trees a ∷ []
   wider_trees = ap (trees_at d.trees) e ∙ map-append (tree_at d.trees) front (a ∷ [])
 
   pub wider_below : (number : ℕ) → AreParamsBelow number (trees_at d.trees front) (tree_at d.trees goal) → AreParamsBelow number (trees_at d.trees wider) (tree_at d.trees b)
   wider_below number k =
-      let l : above_params (Two (HJoin Imp) (tree_at d.trees a) (tree_at d.trees b)) ≤ number = subst (λ (z : Tree). above_params z ≤ number) is k.goal in
-      record {
-        front = subst (All (λ z. above_params z ≤ number)) (sym wider_trees) (All-push (λ z. above_params z ≤ number) (trees_at d.trees front) (tree_at d.trees a) k.front (omega arith));
-        goal = omega arith;
-      }
+      subst (λ (es : List Tree). AreParamsBelow number es (tree_at d.trees b)) (sym wider_trees)
+      (premise_below number (trees_at d.trees front) Imp (tree_at d.trees a) (tree_at d.trees b) (subst (AreParamsBelow number (trees_at d.trees front)) is k))
 
   pub wider_ends : (number end : ℕ) → EndsDraftAt d end (trees_at d.trees front) (tree_at d.trees goal) number → EndsDraftAt d end (trees_at d.trees wider) (tree_at d.trees b) number
   wider_ends number end u =

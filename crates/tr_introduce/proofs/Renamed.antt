@@ -1,24 +1,22 @@
 -- The facts of a task without some propositions, by their names in the old one.
-use Rattle.std.specs.Prelude.{IsSomeAnd}
 use Rattle.std.specs.Option.{option_map, option_and_then}
-use Rattle.std.proofs.Common.{Option, ◌≡◌, ℕ, ◌<◌, List, [], ◌∷◌, length, get_or, slice_get, sym, ap, subst, arith}
+use Rattle.std.proofs.Common.{◌≡◌, ℕ, ◌<◌, List, [], ◌∷◌, length, get_or, slice_get, sym, ap, subst}
 use Rattle.trees.specs.Tree.{Tree}
-use Rattle.trees.specs.Binding.{inst_types}
 use Rattle.tasks.specs.declared.task.Task.{Task}
 use Rattle.tasks.specs.declared.facts.Fact.{Fact}
 use Rattle.tasks.specs.declared.facts.Fact.TheVariants as fact
-use Rattle.tasks.specs.Task.{TaskTree, DeclarationTree, PropositionTree, props_of, symbol_or, start}
+use Rattle.tasks.specs.Task.{TaskTree, DeclarationTree, props_of, symbol_or, start}
 use Rattle.tasks.specs.Roles.{RoleTree}
 use Rattle.tasks.specs.Inversion.{inversion}
 use Rattle.tasks.specs.Meaning.{declarations_at}
 use Rattle.rule_rows.specs.Rows.{equation, clauses}
 use Rattle.evidence.specs.Drafts.{DraftTree, Refutes}
 use Rattle.evidence.specs.Facts.{at_symbol, fact_named, IsFact}
-use Rattle.evidence.specs.Stages.{Gives, IsAmong, IsOwnTask, EndIn, start_of}
-use Rattle.stage_limits.specs.Laws.{limited_gives}
+use Rattle.evidence.specs.Stages.{Gives, IsAmong, IsOwnTask, EndIn, limited_gives}
 use Rattle.tr_introduce.specs.Remove.{kept_decls, removed_task, remove_equation}
 use Rattle.tr_introduce.specs.KeptDecls.{same_role}
-use Rattle.tr_introduce.proofs.Tasks.{among_one}
+use Rattle.task_parts.proofs.One.{among_one, end_there, end_of_one}
+use Rattle.task_parts.proofs.Facts.{fact_renamed}
 
 module _ (names : List (List ℕ × List ℕ)) where
   pub old_proposition : (d : DraftTree) (from : Task) (place k : ℕ) → IsOwnTask d from
@@ -44,13 +42,10 @@ module _ (names : List (List ℕ × List ℕ)) where
   pub fact_left : (from t : TaskTree) (name old : Fact) (types : List Tree) (formula : Tree) → IsAmong (Gives (remove_equation names) from) t → fact_named from old ≡ fact_named (removed_task names from) name
       → IsFact from t name types formula → IsFact from from old types formula
   fact_left from t name old types formula a q =
-      among_one (λ z. IsFact from z name types formula → IsFact from from old types formula) a.tasks (removed_task names from) t a.place (one_left from a.tasks a.is) a.within a.there (λ f. record {
-        said = subst (λ (o : Option PropositionTree). IsSomeAnd o (λ p. (length types ≡ p.vars) × (formula ≡ inst_types p.formula types))) (sym q) f.said;
-        ground = f.ground;
-      })
+      among_one (λ z. IsFact from z name types formula → IsFact from from old types formula) (Gives (remove_equation names) from) (removed_task names from) t a (one_left from a.tasks a.is)
+      (λ f. fact_renamed from (removed_task names from) from name old types formula (sym q) f)
 
   pub end_left : (d : DraftTree) (ends : List ℕ) (tasks : List TaskTree) → Gives (remove_equation names) d.task tasks → EndIn d ends tasks → (0 < length ends) × Refutes d (get_or ends 0 0) (start d.task)
   end_left d ends tasks g u =
       let one = one_left d.task tasks g in
-      let n : 0 < length tasks = omega (arith, ap length one) in
-      (omega (arith, u.as_many, n), subst (Refutes d (get_or ends 0 0)) (ap (λ (ts : List TaskTree). start_of ts 0) one) (u.each 0 n))
+      (end_there d ends tasks (removed_task names d.task) one u, end_of_one d ends tasks (removed_task names d.task) one u)

@@ -1,5 +1,5 @@
 -- Parameters and premises introduced from a goal (Why3 manual, "introduce_premises").
-use Rattle.std.specs.Prelude.{ℕ, zero, suc, List, [], ◌∷◌, ◌++◌, length, Result}
+use Rattle.std.specs.Prelude.{ℕ, zero, suc, List, [], ◌∷◌, ◌++◌, length, Result, Ok}
 use Rattle.trees.specs.declared.Op.TheVariants.{Imp}
 use Rattle.trees.specs.declared.TermId.{TermId}
 use Rattle.trees.specs.Tree.{Tree, Two, HJoin, HForall}
@@ -7,8 +7,6 @@ use Rattle.trees.specs.Node.{tree_at}
 use Rattle.trees.specs.Binding.{inst, Param}
 use Rattle.tasks.specs.Task.{TaskTree, neg}
 use Rattle.tasks.specs.Meaning.{trees_at}
-use Rattle.evidence.specs.Stages.{Refusal}
-use Rattle.stage_limits.specs.Limits.{limited}
 
 -- parameters by their types, premises, and a goal that is to follow from them
 pub record Judgement : Type 0 where
@@ -50,9 +48,9 @@ with_judgement t j = record t { params = j.params; locals = j.locals; goal = j.g
 abbrev pub introduced_task : TaskTree → TaskTree
 introduced_task t = with_judgement t (introduced (judgement_of t))
 
--- one task, where it isn't too large
-abbrev pub introduce_equation : TaskTree → Result (List TaskTree) Refusal
-introduce_equation t = limited (introduced_task t ∷ [])
+-- one task
+abbrev pub introduce_equation : TaskTree → Result (List TaskTree) ℕ
+introduce_equation t = Ok (introduced_task t ∷ [])
 
 abbrev pub judgement_at : List Tree → List TermId → List TermId → TermId → Judgement
 judgement_at s params locals goal = record { params = trees_at s params; locals = trees_at s locals; goal = tree_at s goal }

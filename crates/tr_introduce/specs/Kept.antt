@@ -1,21 +1,21 @@
--- The tasks with what was introduced, and without the propositions that were removed, are valid, and declare the same.
+-- The tasks with what was introduced are valid, and declare the same.
 use Rattle.std.specs.Prelude.{◌≡◌, ℕ, zero, suc, List, [], ◌∷◌, ◌++◌, length, slice_get, All, Some, refl}
-use Rattle.std.proofs.Common.{sym, subst, ◌∙◌}
-use Rattle.std.proofs.lemmas.List.Elements.{All-cons, All-nil, All-push, All-weaker}
+use Rattle.std.proofs.Common.{◌∙◌}
+use Rattle.std.proofs.lemmas.List.Elements.{All-push, All-weaker}
 use Rattle.trees.specs.declared.Op.TheVariants.{Imp}
 use Rattle.trees.specs.Tree.{Tree, Two, HJoin, HForall}
 use Rattle.trees.specs.Binding.{inst, Param}
 use Rattle.trees.specs.Sorts.{WellSorted}
 use Rattle.tasks.specs.Task.{TaskTree}
 use Rattle.tasks.specs.Vocabulary.{of_task}
-use Rattle.tasks.specs.Valid.{IsFormula, IsTypeOver, IsValid, IsRigidEntry}
+use Rattle.tasks.specs.Valid.{IsFormula, IsTypeOver, IsValid}
 use Rattle.tasks.proofs.Closing.{typed_sorted}
-use Rattle.evidence.specs.Stages.{Gives, Keeps}
-use Rattle.stage_limits.specs.Laws.{limited_gives}
+use Rattle.evidence.specs.Stages.{Gives, Keeps, limited_gives}
+use Rattle.task_parts.specs.Kept.{judgement_keeps, one_keeps}
 use Rattle.instances.specs.Instances.{IsInstance}
 use Rattle.instances.proofs.Laws.{is_instance, param_closed, param_term}
 use Rattle.instances.proofs.Kept.{parameters_longer}
-use Rattle.tr_introduce.specs.Introduce.{Judgement, introduced_from, introduced_once, introduced_by, introduced, judgement_of, with_judgement, introduced_task, introduce_equation, prefix}
+use Rattle.tr_introduce.specs.Introduce.{Judgement, introduced_from, introduced_once, introduced_by, introduced, judgement_of, introduced_task, introduce_equation, prefix}
 
 -- a judgement over the symbols of a task
 pub record IsJudgement (t : TaskTree) (j : Judgement) : Type 0 where
@@ -62,24 +62,11 @@ module _ (t : TaskTree) where
   by_kept zero j k = k
   by_kept (suc n) j k = by_kept n (introduced_once j) (from_kept j j.goal k.params k.locals k.goal k.goal)
 
-  judgement_kept : (j : Judgement) → IsValid t → IsJudgement t j → Keeps t (with_judgement t j)
-  judgement_kept j valid k = record {
-    declared = record { symbols = refl; ints = refl; rigid = refl; made = λ i. (λ x. x, λ x. x); groups = λ i g. refl };
-    valid = record {
-      int = valid.int;
-      ints = valid.ints;
-      once = valid.once;
-      rigid = All-weaker (IsRigidEntry t) (IsRigidEntry (with_judgement t j)) (λ i r. record { entry = r.entry; kind = r.kind; vars = r.vars; theory = r.theory; name = r.name; args = r.args; result = r.result }) t.rigid valid.rigid;
-      decls = valid.decls;
-      params = k.params;
-      locals = k.locals;
-      goal = k.goal;
-    };
-  }
-
   introduced_kept : IsValid t → Keeps t (introduced_task t)
-  introduced_kept valid = judgement_kept (introduced (judgement_of t)) valid (by_kept (prefix t.goal) (judgement_of t) (record { params = valid.params; locals = valid.locals; goal = valid.goal }))
+  introduced_kept valid =
+      let j = introduced (judgement_of t) in
+      let k : IsJudgement t j = by_kept (prefix t.goal) (judgement_of t) (record { params = valid.params; locals = valid.locals; goal = valid.goal }) in
+      judgement_keeps t j.params j.locals j.goal valid k.params k.locals k.goal
 
 pub introduce_keeps : (t : TaskTree) (ts : List TaskTree) → IsValid t → Gives introduce_equation t ts → All (Keeps t) ts
-introduce_keeps t ts valid e =
-    subst (All (Keeps t)) (sym (limited_gives (introduced_task t ∷ []) ts e)) (All-cons (Keeps t) (introduced_task t) [] (introduced_kept t valid) (All-nil (Keeps t)))
+introduce_keeps t ts valid e = one_keeps t (introduced_task t) ts (limited_gives (introduced_task t ∷ []) ts e) (introduced_kept t valid)

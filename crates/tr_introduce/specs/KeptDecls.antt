@@ -8,8 +8,7 @@ use Rattle.tasks.specs.Task.{TaskTree, DeclarationTree, BodyTree, MakesType, Mak
 use Rattle.tasks.specs.Roles.{maker, role, role_by, is_made_by, is_constructor}
 use Rattle.tasks.specs.Vocabulary.{Vocabulary, of_task}
 use Rattle.tasks.specs.Valid.{IsTypeIn, IsFormulaOver, IsValid, IsValidDecl, IsRigidEntry}
-use Rattle.evidence.specs.Stages.{Gives, Keeps}
-use Rattle.stage_limits.specs.Laws.{limited_gives}
+use Rattle.evidence.specs.Stages.{Gives, Keeps, limited_gives}
 use Rattle.tr_introduce.specs.Remove.{is_proposition, is_removed, kept_decls, removed_task, remove_equation}
 
 -- a declaration that makes nothing is a proposition, or might as well be
@@ -98,4 +97,5 @@ module _ (props : List (List ℕ × List ℕ)) where
 
   pub remove_keeps : (t : TaskTree) (ts : List TaskTree) → IsValid t → Gives (remove_equation props) t ts → All (Keeps t) ts
   remove_keeps t ts valid e =
-      subst (All (Keeps t)) (sym (limited_gives (removed_task props t ∷ []) ts e)) (All-cons (Keeps t) (removed_task props t) [] (removed_kept t valid) (All-nil (Keeps t)))
+      let one : ts ≡ removed_task props t ∷ [] = limited_gives (removed_task props t ∷ []) ts e in
+      subst (All (Keeps t)) (sym one) (All-cons (Keeps t) (removed_task props t) [] (removed_kept t valid) (All-nil (Keeps t)))

@@ -1,10 +1,8 @@
 -- Propositions removed from a task: a driver names them by theory and name (Why3 manual, "remove prop").
-use Rattle.std.specs.Prelude.{ℕ, Bool, true, false, ◌&&◌, if◌then◌else◌, List, [], ◌∷◌, Result}
+use Rattle.std.specs.Prelude.{ℕ, Bool, true, false, ◌&&◌, if◌then◌else◌, List, [], ◌∷◌, Result, Ok}
 use Rattle.std.specs.List.{list_any}
 use Rattle.std.specs.Str.{bytes_eq}
 use Rattle.tasks.specs.Task.{TaskTree, DeclarationTree, BodyTree, Says}
-use Rattle.evidence.specs.Stages.{Refusal}
-use Rattle.stage_limits.specs.Limits.{limited}
 
 abbrev pub is_proposition : BodyTree → Bool
 is_proposition (Says a) = true
@@ -25,6 +23,6 @@ kept_decls props (d ∷ ds) = if is_removed props d then kept_decls props ds els
 abbrev pub removed_task : List (List ℕ × List ℕ) → TaskTree → TaskTree
 removed_task props t = record t { decls = kept_decls props t.decls }
 
--- one task, where it isn't too large
-abbrev pub remove_equation : List (List ℕ × List ℕ) → TaskTree → Result (List TaskTree) Refusal
-remove_equation props t = limited (removed_task props t ∷ [])
+-- one task
+abbrev pub remove_equation : List (List ℕ × List ℕ) → TaskTree → Result (List TaskTree) ℕ
+remove_equation props t = Ok (removed_task props t ∷ [])

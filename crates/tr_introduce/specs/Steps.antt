@@ -1,16 +1,19 @@
 -- What steps that refute what was introduced from a goal are to refute.
-use Rattle.std.specs.Prelude.{◌≡◌, ℕ, ◌≤◌, List, [], ◌∷◌, ◌++◌, length, All}
+use Rattle.std.specs.Prelude.{◌≡◌, ℕ, List, [], ◌∷◌, ◌++◌, length}
 use Rattle.trees.specs.declared.Op.TheVariants.{Imp}
 use Rattle.trees.specs.declared.TermId.{TermId}
-use Rattle.trees.specs.Tree.{Tree, Two, HJoin, HForall, above_params}
+use Rattle.trees.specs.Tree.{Tree, Two, HJoin, HForall}
 use Rattle.trees.specs.declared.Sort.TheVariants.{Kind}
 use Rattle.trees.specs.Sorts.{sort_of}
 use Rattle.trees.specs.Node.{tree_at, Holds}
-use Rattle.trees.specs.Binding.{inst, Param}
-use Rattle.tasks.specs.Task.{neg}
+use Rattle.tasks.specs.Task.{TaskTree, neg}
+use Rattle.rule_rows.specs.Trees.{RuleTree, RNotForall, RNotImp}
+use Rattle.rule_rows.specs.Rows.{IsRuleRow}
 use Rattle.evidence.specs.Drafts.{DraftTree, Refutes}
 use Rattle.tr_introduce.specs.declared.openings.Beginning.{Beginning}
 use Rattle.tr_introduce.specs.declared.openings.Beginning.TheVariants as begins
+use Rattle.tr_introduce.specs.declared.refuting.Opening.{Opening}
+use Rattle.tr_introduce.specs.declared.refuting.Opening.TheVariants as opens_at
 use Rattle.tr_introduce.specs.Introduce.{introduced, judgement_sequent, prefix}
 pub use Rattle.instances.specs.Instances.{AreParamsBelow}
 
@@ -20,25 +23,14 @@ pub record EndsDraftAt (d : DraftTree) (end : ℕ) (front : List Tree) (goal : T
   pub as_many : length params ≡ number
   pub refutes : Refutes d end (judgement_sequent (introduced (record { params = params; locals = front; goal = goal })))
 
--- a step refutes the formulas and the negation of a quantifier's body at the parameter of this number
-pub record RefutesOpened (d : DraftTree) (step : ℕ) (front : List Tree) (goal : Tree) (number : ℕ) : Type 0 where
-  pub ty : Tree
-  pub body : Tree
-  pub is : goal ≡ Two HForall ty body
-  pub refutes : Refutes d step (front ++ neg (inst body (Param number ty)) ∷ [])
+-- the rule on the negation of a quantifier, or on that of an implication
+abbrev pub negation_rule : Opening → ℕ → RuleTree
+negation_rule (opens_at.Universal number) i = RNotForall i number
+negation_rule opens_at.Implication i = RNotImp i
 
--- the same, after the negated quantifier
-pub record NegatesOpened (d : DraftTree) (step : ℕ) (front : List Tree) (no_goal : Tree) (number : ℕ) : Type 0 where
-  pub ty : Tree
-  pub body : Tree
-  pub is : no_goal ≡ neg (Two HForall ty body)
-  pub refutes : Refutes d step ((front ++ no_goal ∷ []) ++ neg (inst body (Param number ty)) ∷ [])
-
--- a step refutes the formulas with a premise, and the negation of what is to follow from it
-pub record RefutesFollowing (d : DraftTree) (step : ℕ) (front : List Tree) (goal premise : Tree) : Type 0 where
-  pub conclusion : Tree
-  pub is : goal ≡ Two (HJoin Imp) premise conclusion
-  pub refutes : Refutes d step ((front ++ premise ∷ []) ++ neg conclusion ∷ [])
+-- the rule adds these formulas to a front with the negation of a goal
+abbrev pub Opens : TaskTree → List Tree → Tree → RuleTree → List Tree → Type 0
+Opens t front goal rule added = IsRuleRow t (front ++ neg goal ∷ []) rule (((front ++ neg goal ∷ []) ++ added) ∷ [])
 
 -- what a formula begins with
 abbrev pub IsBeginning : List Tree → TermId → Beginning → Type 0

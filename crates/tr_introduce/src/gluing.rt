@@ -9,8 +9,8 @@ ghost use Rattle.tr_introduce.specs.Steps.{AreParamsBelow, EndsDraftAt};
 
 use crate::introduction::open_body;
 use crate::openings::{Beginning, beginning_of};
-use crate::refuting::{refute_implication, refute_universal};
-use evidence::{Draft, join_lists};
+use crate::refuting::{Opening, refute_negated};
+use evidence::{Draft, join_lists, last_formula};
 use std::alloc::AllocError;
 use term_store::Grow;
 use trees::{Op, TermId};
@@ -76,7 +76,15 @@ fn glue_universal(
     let goal_at = open_body(alloc, draft, number, ty, body)?;
     let wider = join_lists(alloc, params, &[ty])?;
     let step = glue_goal(draft, front, goal_at, &wider, end)?;
-    refute_universal(draft, front, goal, number, step)
+    let no_body = last_formula(draft, step);
+    refute_negated(
+        draft,
+        front,
+        goal,
+        Opening::Universal(number),
+        &[no_body],
+        step,
+    )
 }
 
 // The same of an implication.
@@ -107,5 +115,7 @@ fn glue_implication(
 {
     let wider = join_lists(draft.allocator(), front, &[premise])?;
     let step = glue_goal(draft, &wider, conclusion, params, end)?;
-    refute_implication(draft, front, goal, premise, step)
+    let no_conclusion = last_formula(draft, step);
+    let added = [premise, no_conclusion];
+    refute_negated(draft, front, goal, Opening::Implication, &added, step)
 }

@@ -7,15 +7,15 @@ ghost use Rattle.tr_introduce.specs.Kept.{introduce_keeps};
 
 use crate::gluing::glue_goal;
 use crate::introduction::introduced_task;
-use evidence::{Draft, StageFault, Transform, fact_lemma};
-use stage_limits::limit_tasks;
+use evidence::{Draft, MakeFault, Transform, fact_lemma};
 use std::alloc::{AllocError, Global};
+use task_parts::one_task;
 use tasks::{Fact, Task};
 use term_store::Store;
 use trees::TermId;
 
 /// The transformation that introduces parameters and premises as long as the goal begins with `forall` or `->`. It gives one
-/// task, or `TooLarge` where that is too large.
+/// task.
 #[derive(Clone, Copy)]
 pub struct Introduce;
 
@@ -23,16 +23,8 @@ impl Transform for Introduce {
     ghost equation = { λ _ from. introduce_equation from };
 
     /// The task with what is introduced.
-    fn apply(
-        &self,
-        alloc: Global,
-        store: &mut Store,
-        task: &Task,
-    ) -> Result<Vec<Task>, StageFault> {
-        match introduced_tasks(alloc, store, task) {
-            Ok(tasks) => limit_tasks(store, tasks),
-            Err(_) => Err(StageFault::Memory),
-        }
+    fn make(&self, alloc: Global, store: &mut Store, task: &Task) -> Result<Vec<Task>, MakeFault> {
+        Ok(introduced_tasks(alloc, store, task)?)
     }
 
     fn fact(
@@ -72,7 +64,7 @@ fn introduced_tasks(alloc: Global, store: &mut Store, task: &Task) -> Result<Vec
         ≡ introduced_task (task_at store.old task.now) ∷ []) }
     ensures grows { Grows store.old store.new }
 {
-    let mut tasks = Vec::with_capacity(alloc, 1)?;
-    tasks.push(introduced_task(alloc, store, task)?)?;
+    let made = introduced_task(alloc, store, task)?;
+    let tasks = one_task(alloc, made)?;
     Ok(tasks)
 }

@@ -6,12 +6,13 @@ ghost use Rattle.trees.specs.Binding.{inst, Param};
 ghost use Rattle.tasks.specs.Meaning.{task_at, TaskHeld};
 ghost use Rattle.instances.specs.Instances.{IsInstance};
 ghost use Rattle.tr_introduce.specs.Introduce.{introduced, introduced_task, judgement_at, prefix};
-ghost use Rattle.tr_introduce.specs.Held.{IsHeld, IsWithJudgement};
+ghost use Rattle.tr_introduce.specs.Held.{IsHeld};
 
 use crate::openings::{Beginning, beginning_of};
 use instances::{instance, parameter};
 use outside::Seq;
 use std::alloc::{AllocError, Global};
+use task_parts::with_parts;
 use tasks::Task;
 use term_store::{Grow, Store};
 use trees::{Sort, TermId};
@@ -66,26 +67,6 @@ pub(crate) fn open_body<G: Grow>(
     instance(alloc, g, body, made)
 }
 
-// The task with these parameters, locals and goal.
-fn with_judgement(
-    alloc: Global,
-    task: &Task,
-    params: Vec<TermId>,
-    locals: Vec<TermId>,
-    goal: TermId,
-) -> Result<Task, AllocError>
-    ensures { IfOk result (IsWithJudgement task.now params.items locals.items goal) }
-{
-    Ok(Task {
-        sig: task.sig.clone()?,
-        rigid: task.rigid.clone()?,
-        decls: task.decls.clone_each()?,
-        params: Seq::from_vec(params),
-        locals: Seq::from_vec(locals),
-        goal,
-    })
-}
-
 /// The task with parameters and premises introduced from its goal as long as the goal begins with `forall` or `->`: of
 /// `forall x. A` the variable becomes the parameter whose number is the number of parameters, and `A` the goal there; of
 /// `A -> B` the premise `A` becomes the last local, and `B` the goal.
@@ -102,5 +83,8 @@ pub fn introduced_task(alloc: Global, store: &mut Store, task: &Task) -> Result<
     let mut params = Vec::from_slice(alloc, task.params.as_slice())?;
     let mut locals = Vec::from_slice(alloc, task.locals.as_slice())?;
     let goal = introduce(alloc, store, task.goal, &mut params, &mut locals)?;
-    with_judgement(alloc, task, params, locals, goal)
+    let decls = task.decls.clone_each()?;
+    let params = Seq::from_vec(params);
+    let locals = Seq::from_vec(locals);
+    with_parts(task, decls, params, locals, goal)
 }

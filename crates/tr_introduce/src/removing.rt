@@ -8,16 +8,16 @@ ghost use Rattle.tr_introduce.specs.Remove.{removed_task, remove_equation};
 ghost use Rattle.tr_introduce.specs.KeptDecls.{remove_keeps};
 
 use crate::removal::{old_place, removed_task};
-use evidence::{Draft, StageFault, Transform, fact_lemma};
+use evidence::{Draft, MakeFault, Transform, fact_lemma};
 use outside::{Seq, Text};
-use stage_limits::limit_tasks;
 use std::alloc::{AllocError, Global};
+use task_parts::one_task;
 use tasks::{Fact, Task};
 use term_store::Store;
 use trees::TermId;
 
 /// The transformation that removes the propositions of these theories and names: a proposition goes where both are its own.
-/// It gives one task, or `TooLarge` where that is too large.
+/// It gives one task.
 #[derive(Drop)]
 pub struct Remove {
     pub props: Seq<(Text, Text)>,
@@ -27,16 +27,9 @@ impl Transform for Remove {
     ghost equation = { λ x from. remove_equation x.props from };
 
     /// The task without what is removed.
-    fn apply(
-        &self,
-        alloc: Global,
-        store: &mut Store,
-        task: &Task,
-    ) -> Result<Vec<Task>, StageFault> {
-        match removed_tasks(alloc, self.props.as_slice(), task) {
-            Ok(tasks) => limit_tasks(store, tasks),
-            Err(_) => Err(StageFault::Memory),
-        }
+    fn make(&self, alloc: Global, store: &mut Store, task: &Task) -> Result<Vec<Task>, MakeFault> {
+        let _ = store;
+        Ok(removed_tasks(alloc, self.props.as_slice(), task)?)
     }
 
     fn fact(
@@ -80,8 +73,8 @@ fn removed_tasks(
     ensures held { IfOk result (λ ts. (s : List Tree) → TaskHeld s task.now
         → TasksHeld s ts.items) }
 {
-    let mut tasks = Vec::with_capacity(alloc, 1)?;
-    tasks.push(removed_task(alloc, props, task)?)?;
+    let left = removed_task(alloc, props, task)?;
+    let tasks = one_task(alloc, left)?;
     Ok(tasks)
 }
 

@@ -1,36 +1,22 @@
 -- What a valid task and the ends of its parts give.
-use Rattle.std.specs.Prelude.{IsSomeAnd, Ok, refl}
-use Rattle.std.proofs.Common.{Option, ◌≡◌, ℕ, ◌<◌, List, [], ◌∷◌, ◌++◌, length, map, get_or, All, sym, ap, subst, ◌∙◌, arith}
+use Rattle.std.specs.Prelude.{Ok}
+use Rattle.std.proofs.Common.{◌≡◌, ℕ, ◌<◌, List, [], ◌∷◌, ◌++◌, length, map, get_or, All, sym, ap, subst, ◌∙◌, arith}
 use Rattle.std.proofs.lemmas.List.{get_or-map, length-map}
-use Rattle.std.proofs.lemmas.List.Elements.{All-weaker, All-map}
+use Rattle.std.proofs.lemmas.List.Elements.{All-map}
 use Rattle.trees.specs.Tree.{Tree, Leaf, HEnd}
 use Rattle.trees.specs.Node.{tree_at}
 use Rattle.tasks.specs.declared.task.Task.{Task}
 use Rattle.tasks.specs.declared.facts.Fact.{Fact}
-use Rattle.tasks.specs.declared.facts.Fact.TheVariants as fact
-use Rattle.trees.specs.Binding.{inst_types}
-use Rattle.tasks.specs.Task.{TaskTree, PropositionTree, neg, start}
-use Rattle.tasks.specs.Valid.{IsFormula, IsGroundFormula}
+use Rattle.tasks.specs.Task.{TaskTree, neg, start}
 use Rattle.tasks.specs.Meaning.{trees_at}
 use Rattle.tasks.specs.Copying.{with_goal}
-use Rattle.evidence.specs.Drafts.{DraftTree, Refutes, AreFormulas, IsFormulaAt}
-use Rattle.evidence.specs.Facts.{fact_named, IsFact}
+use Rattle.evidence.specs.Drafts.{DraftTree, Refutes}
+use Rattle.evidence.specs.Facts.{IsFact}
+use Rattle.task_parts.proofs.Facts.{fact_renamed, named_kept}
 use Rattle.tr_split.specs.Kept.{parts_are_split}
 use Rattle.evidence.specs.Stages.{Gives, IsAmong, IsOwnTask, EndIn, no_task, start_of}
 use Rattle.tr_split.specs.Split.{split, split_task}
 use Rattle.tr_split.specs.Glue.{EndsOfParts}
-
-ground_of : (t : TaskTree) (e : Tree) → IsFormula t t.params 0 e → IsGroundFormula t e
-ground_of t e f = record { sort = f.sort; typed = f.typed; ground = f.variables }
-
-pub own_locals : (d : DraftTree) (from : Task) → IsOwnTask d from → AreFormulas d from.locals
-own_locals d from o =
-    let ground : All (IsGroundFormula d.task) d.task.locals = All-weaker (IsFormula d.task d.task.params 0) (IsGroundFormula d.task) (ground_of d.task) d.task.locals o.valid.locals in
-    record { held = o.held.locals; ground = subst (All (IsGroundFormula d.task)) (sym (ap (λ (t : TaskTree). t.locals) o.is)) ground }
-
-pub own_goal : (d : DraftTree) (from : Task) → IsOwnTask d from → IsFormulaAt d from.goal
-own_goal d from o =
-    record { held = o.held.goal; ground = subst (IsGroundFormula d.task) (sym (ap (λ (t : TaskTree). t.goal) o.is)) (ground_of d.task d.task.goal o.valid.goal) }
 
 starts_at : (t : TaskTree) (es : List Tree) (i : ℕ) → i < length es → start_of (map (with_goal t) es) i ≡ t.locals ++ neg (get_or es i (Leaf HEnd)) ∷ []
 starts_at t es i h = ap start (get_or-map (with_goal t) es i (Leaf HEnd) no_task h)
@@ -50,19 +36,10 @@ own_ends d from ends tasks o e u =
     let g : d.task.goal ≡ tree_at d.trees from.goal = sym (ap (λ (t : TaskTree). t.goal) o.is) in
     subst (λ (z : Tree). EndsOfParts d ends (trees_at d.trees from.locals) (split z)) g (subst (λ (z : List Tree). EndsOfParts d ends z (split d.task.goal)) l (task_ends d ends tasks e u))
 
-named_kept : (t : TaskTree) (e : Tree) (name : Fact) → fact_named (with_goal t e) name ≡ fact_named t name
-named_kept t e (fact.Proposition k) = refl
-named_kept t e (fact.Equation k) = refl
-named_kept t e (fact.Clause k c) = refl
-named_kept t e (fact.Inversion k) = refl
-
 -- a fact of a task of the split is one of the old task
 pub fact_kept : (from t : TaskTree) (name : Fact) (types : List Tree) (formula : Tree) → IsAmong (Gives (λ z. Ok (split_task z)) from) t → IsFact from t name types formula → IsFact from from name types formula
 fact_kept from t name types formula a =
     let P : TaskTree → Type 0 = λ z. IsFact from z name types formula → IsFact from from name types formula in
-    let said : (e : Tree) → P (with_goal from e) = λ e f. record {
-      said = subst (λ (o : Option PropositionTree). IsSomeAnd o (λ p. (length types ≡ p.vars) × (formula ≡ inst_types p.formula types))) (named_kept from e name) f.said;
-      ground = f.ground;
-    } in
+    let said : (e : Tree) → P (with_goal from e) = λ e. fact_renamed from (with_goal from e) from name name types formula (named_kept from from.params from.locals e name) in
     let all : All P a.tasks = subst (All P) (sym (parts_are_split from a.tasks a.is)) (All-map P (with_goal from) (split from.goal) (λ k z h. said _)) in
     subst P a.there (all a.place no_task a.within)

@@ -1,6 +1,6 @@
 -- How refutations of the parts of a goal give one of the goal.
-use Rattle.std.specs.Prelude.{◌≡◌, ℕ, ◌+◌, List, [], ◌∷◌, ◌++◌, length, get_or}
-use Rattle.trees.specs.declared.Op.TheVariants.{And, Imp}
+use Rattle.std.specs.Prelude.{ℕ, List, [], ◌∷◌, ◌++◌, length, get_or}
+use Rattle.trees.specs.declared.Op.TheVariants.{Imp}
 use Rattle.trees.specs.Tree.{Tree, Leaf, One, Two, HEnd, HNot, HJoin}
 use Rattle.tasks.specs.Task.{neg}
 use Rattle.evidence.specs.Drafts.{DraftTree}
@@ -13,17 +13,6 @@ sequent_of_part front parts i = front ++ neg (get_or parts i (Leaf HEnd)) ∷ []
 -- steps, by number, that refute each part
 abbrev pub EndsOfParts : DraftTree → List ℕ → List Tree → List Tree → Type 0
 EndsOfParts d ends front parts = HaveSequents d ends (sequent_of_part front parts) (length parts)
-
-abbrev pub conj : Tree → Tree → Tree
-conj a b = Two (HJoin And) a b
-
--- the negations of a conjunction and of its sides
-pub record AreNegatedSides (no_whole no_left no_right : Tree) : Type 0 where
-  pub left : Tree
-  pub right : Tree
-  pub whole : no_whole ≡ neg (conj left right)
-  pub left_negated : no_left ≡ neg left
-  pub right_negated : no_right ≡ neg right
 
 abbrev pub IsNegation : Tree → Type 0
 IsNegation (One HNot a) = Unit {0}

@@ -10,9 +10,10 @@ use Rattle.trees.specs.Sorts.{yield, top_sort, sort_of, IsExpression, Fits}
 use Rattle.tasks.specs.Task.{TaskTree, neg}
 use Rattle.tasks.specs.Vocabulary.{Vocabulary, of_task}
 use Rattle.tasks.specs.Typing.{TwoTyped, TypedUnder, bound_types}
-use Rattle.tasks.specs.Valid.{ParametersOf, VariablesBelow, IsFormula, IsRigidEntry, IsValid}
+use Rattle.tasks.specs.Valid.{ParametersOf, VariablesBelow, IsFormula, IsValid}
 use Rattle.tasks.specs.Copying.{with_goal}
-use Rattle.evidence.specs.Stages.{KeepsDeclared, Keeps, Gives}
+use Rattle.evidence.specs.Stages.{Keeps, Gives, limited_gives}
+use Rattle.task_parts.specs.Kept.{judgement_keeps}
 use Rattle.tr_split.specs.Split.{imp, split, split_task}
 use Rattle.tr_split.specs.Parts.{IsSentence, Wraps}
 
@@ -130,21 +131,12 @@ goals t valid =
     All-weaker (IsPart (of_task t) t.params 0 []) (IsFormula t t.params 0) (λ e p. record { sort = p.sort; typed = p.typed; parameters = p.parameters; variables = p.variables }) (split t.goal)
     (parts (of_task t) t.params 0 [] t.goal whole)
 
-declared : (t : TaskTree) (e : Tree) → KeepsDeclared t (with_goal t e)
-declared t e = record { symbols = refl; ints = refl; rigid = refl; made = λ k. (λ x. x, λ x. x); groups = λ k g. refl }
-
-rigid_kept : (t : TaskTree) (e : Tree) (k : ℕ) → IsRigidEntry t k → IsRigidEntry (with_goal t e) k
-rigid_kept t e k r = record { entry = r.entry; kind = r.kind; vars = r.vars; theory = r.theory; name = r.name; args = r.args; result = r.result }
-
 with_part : (t : TaskTree) (e : Tree) → IsValid t → IsFormula t t.params 0 e → Keeps t (with_goal t e)
-with_part t e valid f = record {
-  declared = declared t e;
-  valid = record { int = valid.int; ints = valid.ints; once = valid.once; rigid = All-weaker (IsRigidEntry t) (IsRigidEntry (with_goal t e)) (rigid_kept t e) t.rigid valid.rigid; decls = valid.decls; params = valid.params; locals = valid.locals; goal = f };
-}
+with_part t e valid f = judgement_keeps t t.params t.locals e valid valid.params valid.locals f
 
 -- the tasks that the equation gives
 pub parts_are_split : (t : TaskTree) (ts : List TaskTree) → Gives (λ from. Ok (split_task from)) t ts → ts ≡ split_task t
-parts_are_split t ts e = cc
+parts_are_split t ts e = limited_gives (split_task t) ts e
 
 pub keeps : (t : TaskTree) (ts : List TaskTree) → IsValid t → Gives (λ from. Ok (split_task from)) t ts → All (Keeps t) ts
 keeps t ts valid e =

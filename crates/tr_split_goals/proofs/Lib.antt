@@ -5,4 +5,3 @@ pub mod Inner
 pub mod Overs
 pub mod Values
 pub mod Opened
-pub mod Owned

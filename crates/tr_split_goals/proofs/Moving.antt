@@ -5,7 +5,6 @@ use Rattle.std.proofs.lemmas.List.Elements.{All-cons, All-nil}
 use Rattle.tasks.specs.trees.declared.TermId.{TermId}
 use Rattle.tasks.specs.trees.Tree.{Tree, Head, Two}
 use Rattle.tasks.specs.trees.Node.{tree_at, Holds}
-use Rattle.tasks.specs.Task.{neg}
 use Rattle.tasks.specs.Meaning.{trees_at}
 use Rattle.kernel.specs.Right.{IsGroundExpression}
 use Rattle.evidence.specs.Drafts.{DraftTree, Extends, Refutes, AreFormulas, IsFormulaAt}
@@ -14,14 +13,7 @@ use Rattle.evidence.proofs.Formulas.{same}
 use Rattle.proof_scripts.specs.declared.line.Line.{Line}
 use Rattle.proof_scripts.specs.Scripts.{LineHeld, LinesHeld}
 
--- a sequent that ends in a negation, over a draft that has the negation's number
-pub end_back : (d d1 : DraftTree) (x : Extends d d1) (front : List TermId) (f : AreFormulas d front) (d2 : DraftTree) (k : ℕ) (n : TermId) (a : Tree) → tree_at d1.trees n ≡ neg a
-    → Refutes d2 k (trees_at d1.trees front ++ trees_at d1.trees (n ∷ [])) → Refutes d2 k (trees_at d.trees front ++ neg a ∷ [])
-end_back d d1 x front f d2 k n a e r =
-    let b : trees_at d1.trees front ≡ trees_at d.trees front = same d d1 x front f in
-    record { within = r.within; is = r.is ∙ cc (b, e) }
-
--- the same, of any formulas after the front
+-- what is refuted after a front
 pub moved : (d d1 : DraftTree) (x : Extends d d1) (front : List TermId) (f : AreFormulas d front) (k : ℕ) (t u : List Tree) → t ≡ u → Refutes d k (trees_at d.trees front ++ t) → Refutes d1 k (trees_at d1.trees front ++ u)
 moved d d1 x front f k t u e r =
     let b : trees_at d1.trees front ≡ trees_at d.trees front = same d d1 x front f in

@@ -1,12 +1,9 @@
 -- A goal opened at a parameter, or at a value: the ends of its parts there.
 use Rattle.std.proofs.Common.{◌≡◌, ℕ, ◌≤◌, ◌+◌, List, [], ◌∷◌, ◌++◌, map, sym, subst, ◌∙◌, append-nil, arith}
-use Rattle.std.proofs.lemmas.List.Elements.{All-weaker}
 use Rattle.tasks.specs.trees.declared.TermId.{TermId}
-use Rattle.tasks.specs.trees.declared.Sort.TheVariants.{Kind}
 use Rattle.tasks.specs.trees.Tree.{Tree, Two, HForall, HLet, above_params}
 use Rattle.tasks.specs.trees.Node.{tree_at, Holds}
 use Rattle.tasks.specs.trees.Binding.{inst, Param}
-use Rattle.tasks.specs.trees.Sorts.{sort_of}
 use Rattle.tasks.specs.Valid.{IsGroundFormula, VariablesBelow}
 use Rattle.tasks.specs.Vocabulary.{of_task}
 use Rattle.tasks.specs.Typing.{bound_types}
@@ -15,6 +12,7 @@ use Rattle.tasks.proofs.Closing.{typed_sorted}
 use Rattle.evidence.specs.Drafts.{DraftTree, Extends, IsFormulaAt, AreFormulas}
 use Rattle.instances.specs.Instances.{IsTermOf, IsClosedTerm, IsInstance}
 use Rattle.instances.proofs.Laws.{param_term}
+use Rattle.task_parts.proofs.Opened.{whole, kind}
 use Rattle.tr_split.specs.Split.{split}
 use Rattle.tr_split.specs.Glue.{EndsOfParts}
 use Rattle.tr_split.specs.Kept.{let_sentence}
@@ -25,30 +23,16 @@ use Rattle.tr_split_goals.proofs.Instances.{split_inst}
 
 -- ---- a quantifier
 module _ (d : DraftTree) (goal ty body : TermId) (f : IsFormulaAt d goal) (is : tree_at d.trees goal ≡ Two HForall (tree_at d.trees ty) (tree_at d.trees body)) where
-  whole : IsGroundFormula d.task (Two HForall (tree_at d.trees ty) (tree_at d.trees body))
-  whole = subst (IsGroundFormula d.task) is f.ground
-
-  pub kind : sort_of (tree_at d.trees ty) ≡ Kind
-  kind = whole.typed.0.0.0
-
   pub param_at : (number : ℕ) (param : TermId) → Holds d.trees param → tree_at d.trees param ≡ Param number (tree_at d.trees ty) → IsClosedTerm (tree_at d.trees param) → IsTermAt d (tree_at d.trees ty) param
   param_at number param h e k = record {
     held = h;
     closed = k;
-    term = subst (IsTermOf (of_task d.task) (tree_at d.trees ty)) (sym e) (param_term (of_task d.task) number (tree_at d.trees ty) kind whole.typed.2);
-    variables = subst (VariablesBelow 0) (sym e) whole.ground.0;
+    term = subst (IsTermOf (of_task d.task) (tree_at d.trees ty)) (sym e) (param_term (of_task d.task) number (tree_at d.trees ty) (kind d goal ty body f is) (whole d goal ty body f is).typed.2);
+    variables = subst (VariablesBelow 0) (sym e) (whole d goal ty body f is).ground.0;
   }
 
-  pub opened_below : (front : List Tree) (number : ℕ) (e : Tree) → AreParamsBelow number front (tree_at d.trees goal) → IsInstance (tree_at d.trees body) (Param number (tree_at d.trees ty)) e → AreParamsBelow (number + 1) front e
-  opened_below front number e b i =
-      let l : above_params (Two HForall (tree_at d.trees ty) (tree_at d.trees body)) ≤ number = subst (λ (z : Tree). above_params z ≤ number) is b.goal in
-      record {
-        front = All-weaker (λ a. above_params a ≤ number) (λ a. above_params a ≤ number + 1) (λ a k. omega arith) front b.front;
-        goal = i.above (number + 1) (omega arith) (omega arith);
-      }
-
   pub opened_split : (t : Tree) → split (inst (tree_at d.trees body) t) ≡ map (λ x. inst x t) (split (tree_at d.trees body))
-  opened_split t = split_inst (tree_at d.trees body) t (typed_sorted (of_task d.task) (tree_at d.trees ty ∷ []) (tree_at d.trees body) whole.typed.3) whole.typed.0.0.1
+  opened_split t = split_inst (tree_at d.trees body) t (typed_sorted (of_task d.task) (tree_at d.trees ty ∷ []) (tree_at d.trees body) (whole d goal ty body f is).typed.3) (whole d goal ty body f is).typed.0.0.1
 
 -- ---- a `let`
 module _ (d : DraftTree) (goal value body : TermId) (f : IsFormulaAt d goal) (is : tree_at d.trees goal ≡ Two HLet (tree_at d.trees value) (tree_at d.trees body)) where

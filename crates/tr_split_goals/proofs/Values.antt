@@ -1,6 +1,5 @@
 -- What is inside a `let`, a quantifier and an `if`.
-use Rattle.std.proofs.Common.{◌≡◌, ℕ, ◌≤◌, ◌++◌, List, [], ◌∷◌, Some, map, false, refl, sym, ap, subst, arith}
-use Rattle.std.proofs.lemmas.List.Elements.{All-push, All-weaker}
+use Rattle.std.proofs.Common.{◌≡◌, ℕ, ◌≤◌, ◌++◌, List, [], ◌∷◌, Some, map, refl, ap, subst, arith}
 use Rattle.tasks.specs.trees.declared.TermId.{TermId}
 use Rattle.tasks.specs.trees.declared.Op.{Op}
 use Rattle.tasks.specs.trees.declared.Op.TheVariants.{Imp}
@@ -11,16 +10,11 @@ use Rattle.tasks.specs.trees.Sorts.{sort_of, type_of, yield, yield_type, int_typ
 use Rattle.tasks.specs.Vocabulary.{of_task}
 use Rattle.tasks.specs.Valid.{IsGroundFormula}
 use Rattle.tasks.proofs.Closing.{typed_closed}
-use Rattle.tasks.specs.Meaning.{trees_at}
-use Rattle.evidence.specs.Drafts.{DraftTree, Extends, IsFormulaAt, AreFormulas}
-use Rattle.evidence.proofs.Formulas.{same}
-use Rattle.tr_split.specs.Kept.{let_sentence, then_sentence, else_sentence}
+use Rattle.evidence.specs.Drafts.{DraftTree, IsFormulaAt}
+use Rattle.tr_split.specs.Kept.{let_sentence}
 use Rattle.tasks.specs.Typing.{bound_types}
 use Rattle.tasks.proofs.Closing.{typed_sorted}
 use Rattle.tasks.specs.trees.Binding.{inst}
-use Rattle.tasks.specs.trees.Facts.{has_param}
-use Rattle.tasks.proofs.trees.Above.{no_param_above}
-use Rattle.rule_rows.specs.Rows.{IsNew}
 use Rattle.tasks.specs.Task.{neg}
 use Rattle.tr_split_goals.specs.Goals.{AreParamsBelow, splits}
 use Rattle.tr_split_goals.proofs.Instances.{splits_inst}
@@ -73,37 +67,12 @@ value_at d goal value body f is h =
       };
     }
 
--- the parts of an `if` are formulas
-module _ (d : DraftTree) (goal cond a b : TermId) (f : IsFormulaAt d goal) (is : tree_at d.trees goal ≡ Three HIf (tree_at d.trees cond) (tree_at d.trees a) (tree_at d.trees b)) where
-  ground : IsGroundFormula d.task (Three HIf (tree_at d.trees cond) (tree_at d.trees a) (tree_at d.trees b))
-  ground = subst (IsGroundFormula d.task) is f.ground
-
-  pub cond_formula : Holds d.trees cond → IsFormulaAt d cond
-  cond_formula h = record { held = h; ground = record { sort = ground.typed.0.0; typed = ground.typed.2; ground = ground.ground.0 } }
-
-  pub then_formula : Holds d.trees a → IsFormulaAt d a
-  then_formula h = record { held = h; ground = record { sort = then_sentence (tree_at d.trees cond) (tree_at d.trees a) (tree_at d.trees b) ground.typed.0 ground.sort; typed = ground.typed.3; ground = ground.ground.1 } }
-
-  pub else_formula : Holds d.trees b → IsFormulaAt d b
-  else_formula h = record { held = h; ground = record { sort = else_sentence (tree_at d.trees cond) (tree_at d.trees a) (tree_at d.trees b) ground.typed.0 ground.sort; typed = ground.typed.4; ground = ground.ground.2 } }
-
 -- ---- numbers above the parameters
 pub left_below : (number : ℕ) (es : List Tree) (op : Op) (a b : Tree) → AreParamsBelow number es (Two (HJoin op) a b) → AreParamsBelow number es a
 left_below number es op a b l = let m : above_params (Two (HJoin op) a b) ≤ number = l.goal in record { front = l.front; goal = omega arith }
 
-pub right_below : (number : ℕ) (es : List Tree) (op : Op) (a b : Tree) → AreParamsBelow number es (Two (HJoin op) a b) → AreParamsBelow number es b
-right_below number es op a b l = let m : above_params (Two (HJoin op) a b) ≤ number = l.goal in record { front = l.front; goal = omega arith }
-
 pub joined_below : (number : ℕ) (es : List Tree) (op op' : Op) (a b : Tree) → AreParamsBelow number es (Two (HJoin op) a b) → AreParamsBelow number es (Two (HJoin op') a b)
 joined_below number es op op' a b l = let m : above_params (Two (HJoin op) a b) ≤ number = l.goal in record { front = l.front; goal = omega arith }
-
-pub premise_below : (number : ℕ) (es : List Tree) (op : Op) (a b : Tree) → AreParamsBelow number es (Two (HJoin op) a b) → AreParamsBelow number (es ++ a ∷ []) b
-premise_below number es op a b l =
-    let m : above_params (Two (HJoin op) a b) ≤ number = l.goal in
-    record { front = All-push (λ e. above_params e ≤ number) es a l.front (omega arith); goal = omega arith }
-
-pub below_later : (d d1 : DraftTree) (x : Extends d d1) (front : List TermId) (f : AreFormulas d front) (number : ℕ) (e e1 : Tree) → e1 ≡ e → AreParamsBelow number (trees_at d.trees front) e → AreParamsBelow number (trees_at d1.trees front) e1
-below_later d d1 x front f number e e1 q l = subst (λ (z : List Tree). AreParamsBelow number z e1) (sym (same d d1 x front f)) (subst (AreParamsBelow number (trees_at d.trees front)) (sym q) l)
 
 -- under a hypothesis the parts alone are the parts
 pub same_parts : (s : List Tree) (h : TermId) (xs : List Tree) → map (inner_of s (stands.Hypothesis h)) xs ≡ xs
@@ -120,12 +89,6 @@ pub valued_splits : (d : DraftTree) (goal value body : TermId) → IsFormulaAt d
 valued_splits d goal value body f is t =
     let w : IsGroundFormula d.task (Two HLet (tree_at d.trees value) (tree_at d.trees body)) = subst (IsGroundFormula d.task) is f.ground in
     splits_inst (tree_at d.trees body) t (typed_sorted (of_task d.task) (bound_types HLet (tree_at d.trees value) ++ []) (tree_at d.trees body) w.typed.3) (let_sentence (tree_at d.trees value) (tree_at d.trees body) w.typed.0 w.sort)
-
--- a number above all parameters is new
-pub new_below : (number : ℕ) (front : List Tree) (goal : Tree) → AreParamsBelow number front goal → IsNew number (front ++ neg goal ∷ [])
-new_below number front goal b =
-    All-push (λ a. has_param a number ≡ false) front (neg goal) (All-weaker (λ a. above_params a ≤ number) (λ a. has_param a number ≡ false) (λ a l. no_param_above a number l) front b.front)
-    (no_param_above goal number b.goal)
 
 pub then_below : (number : ℕ) (es : List Tree) (c a b : Tree) → AreParamsBelow number es (Three HIf c a b) → AreParamsBelow number es (Two (HJoin Imp) c a)
 then_below number es c a b l = let m : above_params (Three HIf c a b) ≤ number = l.goal in record { front = l.front; goal = omega arith }

@@ -1,16 +1,14 @@
--- The equation of splitting goals, bounded as every stage's is, and how deep a formula is split.
-use Rattle.std.specs.Prelude.{ℕ, suc, ◌+◌, ◌≤◌, List, Result, All}
+-- The equation of splitting goals, and how deep a formula is split.
+use Rattle.std.specs.Prelude.{ℕ, suc, ◌+◌, List, Result, Ok}
 use Rattle.tasks.specs.trees.declared.Op.TheVariants.{And, AndThen, Imp}
-use Rattle.tasks.specs.trees.Tree.{Tree, Two, Three, HJoin, HForall, HLet, HIf, above_params}
+use Rattle.tasks.specs.trees.Tree.{Tree, Two, Three, HJoin, HForall, HLet, HIf}
 use Rattle.tasks.specs.Task.{TaskTree}
-use Rattle.evidence.specs.Stages.{Refusal}
-use Rattle.stage_limits.specs.Limits.{limited}
 use Rattle.tr_split.specs.Split.{split_task}
 pub use Rattle.instances.specs.Instances.{AreParamsBelow}
 
--- a task for each part of the goal, where they aren't too large
-abbrev pub split_equation : TaskTree → Result (List TaskTree) Refusal
-split_equation t = limited (split_task t)
+-- a task for each part of the goal
+abbrev pub split_equation : TaskTree → Result (List TaskTree) ℕ
+split_equation t = Ok (split_task t)
 
 -- a number that falls from a formula to each formula that is split in its place
 abbrev pub splits : Tree → ℕ

@@ -3,13 +3,12 @@ ghost use Rattle.tr_split_goals.specs.Goals.{split_equation};
 ghost use Rattle.tr_split_goals.specs.Kept.{split_keeps};
 
 use crate::gluing::glue_goal;
-use evidence::{Draft, StageFault, Transform, fact_lemma};
-use stage_limits::limit_tasks;
+use evidence::{Draft, MakeFault, Transform, fact_lemma};
 use std::alloc::{AllocError, Global};
 use tasks::{Fact, Store, Task, TermId};
 use tr_split::split_goal;
 
-/// The transformation that takes a goal apart, whatever the goal: a task for each part, or `TooLarge` where they are too large.
+/// The transformation that takes a goal apart, whatever the goal: a task for each part.
 #[derive(Clone, Copy)]
 pub struct Split;
 
@@ -17,16 +16,8 @@ impl Transform for Split {
     ghost equation = { λ _ from. split_equation from };
 
     /// A task for each part of the goal, in order.
-    fn apply(
-        &self,
-        alloc: Global,
-        store: &mut Store,
-        task: &Task,
-    ) -> Result<Vec<Task>, StageFault> {
-        match split_goal(alloc, store, task) {
-            Ok(tasks) => limit_tasks(store, tasks),
-            Err(_) => Err(StageFault::Memory),
-        }
+    fn make(&self, alloc: Global, store: &mut Store, task: &Task) -> Result<Vec<Task>, MakeFault> {
+        Ok(split_goal(alloc, store, task)?)
     }
 
     fn fact(

@@ -15,7 +15,7 @@ use Rattle.kernel.specs.Right.{Closes}
 use Rattle.evidence.specs.Stages.{Gives, Keeps, PartsClose, PartsHeld, parts_at}
 use Rattle.stages.specs.declared.transformation.Transformation.{Transformation}
 use Rattle.stages.specs.declared.lifting.Derived.{Derived}
-use Rattle.stages.specs.Transformations.{equation_of}
+use Rattle.stages.specs.Transformations.{equation_of, task_equation_of}
 use Rattle.stages.specs.Kept.{keeps_of}
 use Rattle.stages.specs.Carried.{all_tasks, carries}
 use Rattle.stages.specs.Steps.{AreTasks}
@@ -41,7 +41,7 @@ lift_task-lift_last-requires-clause-valid t c = subst IsValid (sym (task_later c
 
 pub lift_task-lift_last-requires-clause-gives : goal.lift_task-lift_last-requires-clause-gives
 lift_task-lift_last-requires-clause-gives t c =
-    subst (λ (z : TaskTree). Gives (equation_of c.args.stage.now) z (tasks_at c.tasks_of.new.store c.in_ok-to.to.items))
+    subst (λ (z : TaskTree). equation_of c.args.stage.now z ≡ Ok (tasks_at c.tasks_of.new.store c.in_ok-to.to.items))
     (sym (task_later c.args.store c.tasks_of.new.store c.in_ok-to.ensures.grows c.args.task.now c.requires.held)) c.in_ok-to.ensures.tasks
 
 pub lift_task-lift_last-requires-clause-rest_held : goal.lift_task-lift_last-requires-clause-rest_held
@@ -134,7 +134,7 @@ lift_task-lift_one-requires-clause-gives t c =
     let s1 = c.tasks_of.new.store in
     let s2 = c.in_ok-lifted-in-Some.lifted.store in
     let g = Grows_trans s s1 s2 c.in_ok-to.ensures.grows c.in_ok-lifted-in-Some.ensures.derived.grows in
-    let e = equation_of c.args.stage.now in
+    let e = task_equation_of c.args.stage.now in
     let to = c.in_ok-to.to.items in
     subst (λ (z : List TaskTree). Gives e (task_at s2 c.args.task.now) z) (sym (tasks_later s1 s2 c.in_ok-lifted-in-Some.ensures.derived.grows to c.in_ok-to.ensures.held))
     (subst (λ (z : TaskTree). Gives e z (tasks_at s1 to)) (sym (task_later s s2 g c.args.task.now c.requires.held)) c.in_ok-to.ensures.tasks)

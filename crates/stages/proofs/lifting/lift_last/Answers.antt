@@ -41,3 +41,6 @@ returns c =
       count = n ∙ sym (length-map to (task_at s));
       derived = subst (λ (z : List (List StepTree)). IsDerived s (task_at s c.args.task.now) z c.in_ok-derived.derived) front c.in_ok-derived.ensures;
     }
+
+pub lift_one-requires-clause-gives : goal.lift_one-requires-clause-gives
+lift_one-requires-clause-gives c = c.requires.gives

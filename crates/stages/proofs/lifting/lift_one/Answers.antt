@@ -4,7 +4,7 @@ use Rattle.tasks.specs.Task.{TaskTree}
 use Rattle.tasks.specs.Meaning.{task_at, tasks_at}
 use Rattle.tasks.specs.Valid.{IsValid}
 use Rattle.evidence.specs.Stages.{Gives, parts_at}
-use Rattle.stages.specs.Transformations.{equation_of}
+use Rattle.stages.specs.Transformations.{task_equation_of}
 use Rattle.stages.specs.Lifted.{HandedHasSequents}
 use Rattle.stages.proofs.Copies.{copy_moved, begun_own, begun_task, begun_trees, derived_of}
 use Rattle.stages.proofs.lifting.lift_one.Goals as goal
@@ -29,8 +29,8 @@ lift_draft-requires-clause-gives c =
     let same : c.in_ok-clone.field-0.value ≡ c.in_ok-own.own.value = search rules in
     let t = begun_task c.args.store c.args.task.now c.in_ok-own.own.value c.in_ok-clone.field-0.value c.new-draft.result same c.in_ok-own.ensures begun in
     let s = begun_trees c.args.store c.in_ok-clone.field-0.value c.new-draft.result begun in
-    subst (λ (z : List Tree). Gives (equation_of c.args.stage.now) c.new-draft.result.task (tasks_at z c.args.to.now.items)) (sym s)
-    (subst (λ (z : TaskTree). Gives (equation_of c.args.stage.now) z (tasks_at c.args.store c.args.to.now.items)) (sym t) c.requires.gives)
+    subst (λ (z : List Tree). Gives (task_equation_of c.args.stage.now) c.new-draft.result.task (tasks_at z c.args.to.now.items)) (sym s)
+    (subst (λ (z : TaskTree). Gives (task_equation_of c.args.stage.now) z (tasks_at c.args.store c.args.to.now.items)) (sym t) c.requires.gives)
 
 pub returns : goal.returns
 returns c =

@@ -39,23 +39,26 @@ returns-in_ok-push-in-Implication-clause-is t c =
     let b = c.in-Implication.ensures in
     IfOk-weaker c.introduce-in-Implication.result _ _ (λ g q. q ∙ is_implication s s c.args.params.now.items c.args.locals.now.items c.args.goal (Grows_refl s) c.requires c.in-Implication.premise c.in-Implication.conclusion c.push-in-Implication.new.self.items c.in_ok-push-in-Implication.ensures.items b.0) c.introduce-in-Implication.ensures.is
 
-pub returns-in_err-goal_at-in-Universal-clause-held : goal.returns-in_err-goal_at-in-Universal-clause-held
-returns-in_err-goal_at-in-Universal-clause-held t c = no_value _ _ c.from_residual.result c.from_residual.ensures.1
+pub returns-in_err-goal_at-in-Universal : goal.returns-in_err-goal_at-in-Universal
+returns-in_err-goal_at-in-Universal t c = record {
+  held = no_value _ _ c.from_residual.result c.from_residual.ensures.1;
+  is = no_value _ _ c.from_residual.result c.from_residual.ensures.1;
+  grows = c.open_body.ensures.grows;
+}
 
-pub returns-in_err-goal_at-in-Universal-clause-is : goal.returns-in_err-goal_at-in-Universal-clause-is
-returns-in_err-goal_at-in-Universal-clause-is t c = no_value _ _ c.from_residual.result c.from_residual.ensures.1
+pub returns-in_err-push-in-Universal : goal.returns-in_err-push-in-Universal
+returns-in_err-push-in-Universal t c = record {
+  held = no_value _ _ c.from_residual-in_err-push-in-Universal.result c.from_residual-in_err-push-in-Universal.ensures.1;
+  is = no_value _ _ c.from_residual-in_err-push-in-Universal.result c.from_residual-in_err-push-in-Universal.ensures.1;
+  grows = c.in_ok-goal_at-in-Universal.ensures.grows;
+}
 
-pub returns-in_err-push-in-Universal-clause-held : goal.returns-in_err-push-in-Universal-clause-held
-returns-in_err-push-in-Universal-clause-held t c = no_value _ _ c.from_residual-in_err-push-in-Universal.result c.from_residual-in_err-push-in-Universal.ensures.1
-
-pub returns-in_err-push-in-Universal-clause-is : goal.returns-in_err-push-in-Universal-clause-is
-returns-in_err-push-in-Universal-clause-is t c = no_value _ _ c.from_residual-in_err-push-in-Universal.result c.from_residual-in_err-push-in-Universal.ensures.1
-
-pub returns-in_err-push-in-Implication-clause-held : goal.returns-in_err-push-in-Implication-clause-held
-returns-in_err-push-in-Implication-clause-held t c = no_value _ _ c.from_residual-in_err-push-in-Implication.result c.from_residual-in_err-push-in-Implication.ensures.1
-
-pub returns-in_err-push-in-Implication-clause-is : goal.returns-in_err-push-in-Implication-clause-is
-returns-in_err-push-in-Implication-clause-is t c = no_value _ _ c.from_residual-in_err-push-in-Implication.result c.from_residual-in_err-push-in-Implication.ensures.1
+pub returns-in_err-push-in-Implication : goal.returns-in_err-push-in-Implication
+returns-in_err-push-in-Implication t c = record {
+  held = no_value _ _ c.from_residual-in_err-push-in-Implication.result c.from_residual-in_err-push-in-Implication.ensures.1;
+  is = no_value _ _ c.from_residual-in_err-push-in-Implication.result c.from_residual-in_err-push-in-Implication.ensures.1;
+  grows = Grows_refl _;
+}
 
 pub beginning_of-requires : goal.beginning_of-requires
 beginning_of-requires t c = c.requires.goal
@@ -68,15 +71,6 @@ open_body-requires-clause-kind t c = c.in-Universal.ensures.3
 
 pub open_body-requires-clause-body_held : goal.open_body-requires-clause-body_held
 open_body-requires-clause-body_held t c = c.in-Universal.ensures.2
-
-pub returns-in_err-goal_at-in-Universal-clause-grows : goal.returns-in_err-goal_at-in-Universal-clause-grows
-returns-in_err-goal_at-in-Universal-clause-grows t c = c.open_body.ensures.grows
-
-pub returns-in_err-push-in-Universal-clause-grows : goal.returns-in_err-push-in-Universal-clause-grows
-returns-in_err-push-in-Universal-clause-grows t c = c.in_ok-goal_at-in-Universal.ensures.grows
-
-pub returns-in_err-push-in-Implication-clause-grows : goal.returns-in_err-push-in-Implication-clause-grows
-returns-in_err-push-in-Implication-clause-grows t c = Grows_refl _
 
 pub introduce-requires-in-Implication : goal.introduce-requires-in-Implication
 introduce-requires-in-Implication t c =

@@ -7,17 +7,13 @@ use Rattle.instances.specs.Instances.{IsInstance}
 use Rattle.tr_introduce.proofs.introduction.open_body.Goals as goal
 use Rattle.outside.proofs.Passed.{no_value}
 
-pub returns-in_err-made-clause-held : goal.returns-in_err-made-clause-held
-returns-in_err-made-clause-held g c = no_value _ _ c.from_residual.result c.from_residual.ensures.1
-
-pub returns-in_err-made-clause-tree : goal.returns-in_err-made-clause-tree
-returns-in_err-made-clause-tree g c = no_value _ _ c.from_residual.result c.from_residual.ensures.1
-
-pub returns-in_err-made-clause-keeps : goal.returns-in_err-made-clause-keeps
-returns-in_err-made-clause-keeps g c = no_value _ _ c.from_residual.result c.from_residual.ensures.1
-
-pub returns-in_err-made-clause-grows : goal.returns-in_err-made-clause-grows
-returns-in_err-made-clause-grows g c = c.parameter.ensures.grows
+pub returns-in_err-made : goal.returns-in_err-made
+returns-in_err-made g c = record {
+  held = no_value _ _ c.from_residual.result c.from_residual.ensures.1;
+  tree = no_value _ _ c.from_residual.result c.from_residual.ensures.1;
+  keeps = no_value _ _ c.from_residual.result c.from_residual.ensures.1;
+  grows = c.parameter.ensures.grows;
+}
 
 pub parameter-requires-clause-held : goal.parameter-requires-clause-held
 parameter-requires-clause-held g c = c.requires.ty_held

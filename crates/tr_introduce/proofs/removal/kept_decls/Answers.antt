@@ -14,14 +14,11 @@ loop-decl-preserved c =
       held = λ s a. c.in_ok-keep_decl.ensures.held s (c.loop-decl.invariant.held s a) (subst (DeclHeld s) (sym c.decl-item.is) (a i decl l));
     }
 
-pub returns-in_err-keep_decl-clause-kept : goal.returns-in_err-keep_decl-clause-kept
-returns-in_err-keep_decl-clause-kept c = no_value _ _ c.from_residual.result c.from_residual.ensures.1
+pub returns-in_err-keep_decl : goal.returns-in_err-keep_decl
+returns-in_err-keep_decl c = record { kept = no_value _ _ c.from_residual.result c.from_residual.ensures.1; held = no_value _ _ c.from_residual.result c.from_residual.ensures.1 }
 
-pub returns-in_err-keep_decl-clause-held : goal.returns-in_err-keep_decl-clause-held
-returns-in_err-keep_decl-clause-held c = no_value _ _ c.from_residual.result c.from_residual.ensures.1
-
-pub returns-clause-kept : goal.returns-clause-kept
-returns-clause-kept c = λ s. kept_all s c.args.props.now c.args.decls.now c.loop-decl.decl-index (declarations_at s c.loop-decl.kept.items) c.loop-decl-test.false (c.loop-decl.invariant.kept s)
-
-pub returns-clause-held : goal.returns-clause-held
-returns-clause-held c = c.loop-decl.invariant.held
+pub returns : goal.returns
+returns c = record {
+  kept = λ s. kept_all s c.args.props.now c.args.decls.now c.loop-decl.decl-index (declarations_at s c.loop-decl.kept.items) c.loop-decl-test.false (c.loop-decl.invariant.kept s);
+  held = c.loop-decl.invariant.held;
+}

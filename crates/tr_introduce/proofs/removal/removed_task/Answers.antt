@@ -16,8 +16,5 @@ pub returns-clause-held : goal.returns-clause-held
 returns-clause-held c =
     IfOk-weaker c.with_decls.result _ _ (λ t w s h. w.held s h (c.in_ok-decls.ensures.held s (subst (λ (ds : List Decl). All (DeclHeld s) ds) (sym c.as_slice.ensures) h.decls))) c.with_decls.ensures
 
-pub returns-in_err-decls-clause-task : goal.returns-in_err-decls-clause-task
-returns-in_err-decls-clause-task c = no_value _ _ c.from_residual.result c.from_residual.ensures.1
-
-pub returns-in_err-decls-clause-held : goal.returns-in_err-decls-clause-held
-returns-in_err-decls-clause-held c = no_value _ _ c.from_residual.result c.from_residual.ensures.1
+pub returns-in_err-decls : goal.returns-in_err-decls
+returns-in_err-decls c = record { task = no_value _ _ c.from_residual.result c.from_residual.ensures.1; held = no_value _ _ c.from_residual.result c.from_residual.ensures.1 }

@@ -1,27 +1,17 @@
-use Rattle.tr_introduce.proofs.Tasks.{one_more, one_held}
+use Rattle.task_parts.proofs.One.{one_tree, one_held}
 use Rattle.tr_introduce.proofs.removing.removed_tasks.Goals as goal
 use Rattle.outside.proofs.Passed.{no_value}
 
-pub returns-in_err-tasks-clause-tasks : goal.returns-in_err-tasks-clause-tasks
-returns-in_err-tasks-clause-tasks c = no_value _ _ c.from_residual.result c.from_residual.ensures.1
+pub returns-in_err-left : goal.returns-in_err-left
+returns-in_err-left c = record { tasks = no_value _ _ c.from_residual.result c.from_residual.ensures.1; held = no_value _ _ c.from_residual.result c.from_residual.ensures.1 }
 
-pub returns-in_err-tasks-clause-held : goal.returns-in_err-tasks-clause-held
-returns-in_err-tasks-clause-held c = no_value _ _ c.from_residual.result c.from_residual.ensures.1
+pub returns-in_err-tasks : goal.returns-in_err-tasks
+returns-in_err-tasks c =
+    let none = c.from_residual-in_err-tasks in
+    record { tasks = no_value _ _ none.result none.ensures.1; held = no_value _ _ none.result none.ensures.1 }
 
-pub returns-in_err-removed_task-clause-tasks : goal.returns-in_err-removed_task-clause-tasks
-returns-in_err-removed_task-clause-tasks c = no_value _ _ c.from_residual-in_err-removed_task.result c.from_residual-in_err-removed_task.ensures.1
-
-pub returns-in_err-removed_task-clause-held : goal.returns-in_err-removed_task-clause-held
-returns-in_err-removed_task-clause-held c = no_value _ _ c.from_residual-in_err-removed_task.result c.from_residual-in_err-removed_task.ensures.1
-
-pub returns-in_err-push-clause-tasks : goal.returns-in_err-push-clause-tasks
-returns-in_err-push-clause-tasks c = no_value _ _ c.from_residual-in_err-push.result c.from_residual-in_err-push.ensures.1
-
-pub returns-in_err-push-clause-held : goal.returns-in_err-push-clause-held
-returns-in_err-push-clause-held c = no_value _ _ c.from_residual-in_err-push.result c.from_residual-in_err-push.ensures.1
-
-pub returns-clause-tasks : goal.returns-clause-tasks
-returns-clause-tasks c = λ s. one_more s _ _ _ _ c.in_ok-tasks.ensures.items c.in_ok-push.ensures.items (c.in_ok-removed_task.ensures.task s)
-
-pub returns-clause-held : goal.returns-clause-held
-returns-clause-held c = λ s h. one_held s _ _ _ c.in_ok-tasks.ensures.items c.in_ok-push.ensures.items (c.in_ok-removed_task.ensures.held s h)
+pub returns : goal.returns
+returns c = record {
+  tasks = λ s. one_tree s _ _ _ c.in_ok-tasks.ensures (c.in_ok-left.ensures.task s);
+  held = λ s h. one_held s _ _ c.in_ok-tasks.ensures (c.in_ok-left.ensures.held s h);
+}

@@ -12,11 +12,13 @@ use Rattle.evidence.proofs.Formulas.{same, formulas_later, formula_later}
 use Rattle.tr_split.specs.Split.{imp, split}
 use Rattle.tr_split.specs.Glue.{EndsOfParts}
 use Rattle.tr_split.proofs.Gained.{split_later}
-use Rattle.tr_split.proofs.Pieces.{sides_of, ends_later, ends_right, count_is, neg_moved, neg_back, wider_formulas, wider_is}
+use Rattle.evidence.proofs.Ends.{neg_moved, neg_back, wider_formulas, wider_is}
+use Rattle.tr_split.proofs.Pieces.{sides_of, ends_later, ends_right, count_is}
 use Rattle.tr_split_goals.specs.Goals.{AreParamsBelow, splits}
 use Rattle.evidence.specs.Drafts.{Extends}
 use Rattle.evidence.proofs.Rules.{refutes_later}
-use Rattle.tr_split_goals.proofs.Values.{left_below, joined_below, premise_below, below_later, same_parts, opened_splits, valued_splits, new_below, then_below, else_below}
+use Rattle.task_parts.proofs.Opened.{new_below, below_later, premise_below}
+use Rattle.tr_split_goals.proofs.Values.{left_below, joined_below, same_parts, opened_splits, valued_splits, then_below, else_below}
 use Rattle.tr_split_goals.proofs.Moving.{two_later}
 use Rattle.tr_split_goals.proofs.gluing.+glue.Goals as goal
 use Rattle.tasks.proofs.outside.Passed.{no_value}
@@ -79,8 +81,12 @@ glue_two-glue_goal-requires-2 t c =
       ),
     )
 
-pub glue_two-returns-in_err-right-clause-grows : goal.glue_two-returns-in_err-right-clause-grows
-glue_two-returns-in_err-right-clause-grows t c = Extends_trans _ _ _ c.in_ok-left.ensures.grows c.glue_goal-2.ensures.grows
+pub glue_two-returns-in_err-right : goal.glue_two-returns-in_err-right
+glue_two-returns-in_err-right t c = record {
+  grows = Extends_trans _ _ _ c.in_ok-left.ensures.grows c.glue_goal-2.ensures.grows;
+  left = no_value _ _ c.from_residual-in_err-right.result c.from_residual-in_err-right.ensures.1;
+  right = no_value _ _ c.from_residual-in_err-right.result c.from_residual-in_err-right.ensures.1;
+}
 
 pub glue_two-returns-clause-right : goal.glue_two-returns-clause-right
 glue_two-returns-clause-right t c =
@@ -135,8 +141,6 @@ glue_and_then-refute_and_then-requires-clause-front t c =
     let F = c.args.front.now in
     let d1 = c.connect.new.draft in
     let x = AddsTrees_extends d d1 c.in_ok-implied.ensures.grows in
-    let j = c.requires.joins in
-    let s = sides_of d c.args.goal AndThen c.args.a c.args.b j c.requires.goal in
     let d2 = c.glue_two.new.draft in
     let x2 = c.in_ok-left.ensures.grows in
     formulas_later d d2 (Extends_trans d d1 d2 x x2) F c.requires.front
@@ -159,8 +163,6 @@ glue_and_then-refute_and_then-requires-clause-right t c =
     let F = c.args.front.now in
     let d1 = c.connect.new.draft in
     let x = AddsTrees_extends d d1 c.in_ok-implied.ensures.grows in
-    let j = c.requires.joins in
-    let s = sides_of d c.args.goal AndThen c.args.a c.args.b j c.requires.goal in
     let d2 = c.glue_two.new.draft in
     let x2 = c.in_ok-left.ensures.grows in
     neg_moved d1 d2 x2 F (formulas_later d d1 x F c.requires.front) c.in_ok-implied.implied c.in_ok-implied.ensures.formula d2 c.in_ok-left.right c.in_ok-left.ensures.right
@@ -171,8 +173,6 @@ glue_and_then-returns-clause-refutes t c =
     let F = c.args.front.now in
     let d1 = c.connect.new.draft in
     let x = AddsTrees_extends d d1 c.in_ok-implied.ensures.grows in
-    let j = c.requires.joins in
-    let s = sides_of d c.args.goal AndThen c.args.a c.args.b j c.requires.goal in
     let d2 = c.glue_two.new.draft in
     let x2 = c.in_ok-left.ensures.grows in
     IfOk-weaker c.refute_and_then.result _ _ (λ k r. neg_back d d2 (Extends_trans d d1 d2 x x2) F c.requires.front c.args.goal c.requires.goal c.refute_and_then.new.draft k r) c.refute_and_then.ensures.refutes
@@ -180,11 +180,8 @@ glue_and_then-returns-clause-refutes t c =
 pub glue_and_then-returns-clause-grows : goal.glue_and_then-returns-clause-grows
 glue_and_then-returns-clause-grows t c =
     let d = c.args.draft.now in
-    let F = c.args.front.now in
     let d1 = c.connect.new.draft in
     let x = AddsTrees_extends d d1 c.in_ok-implied.ensures.grows in
-    let j = c.requires.joins in
-    let s = sides_of d c.args.goal AndThen c.args.a c.args.b j c.requires.goal in
     let d2 = c.glue_two.new.draft in
     let x2 = c.in_ok-left.ensures.grows in
     Extends_trans _ _ _ (Extends_trans d d1 d2 x x2) c.refute_and_then.ensures.grows
@@ -232,15 +229,6 @@ glue_imp-refute_imp-requires-clause-front t c =
     let F = c.args.front.now in
     let d1 = c.ends_over.new.draft in
     let x = c.in_ok-made.ensures.grows in
-    let j = c.requires.joins in
-    let a = c.args.a in
-    let b = c.args.b in
-    let A = tree_at d.trees a in
-    let B = tree_at d.trees b in
-    let s = sides_of d c.args.goal Imp a b j c.requires.goal in
-    let w : c.deref.result.now ≡ F ++ a ∷ [] = c.deref.ensures.value ∙ c.in_ok-wider.ensures in
-    let b1 : tree_at d1.trees b ≡ B = x.trees.same b.0 s.right.held in
-    let e1 : trees_at d1.trees c.deref.result.now ≡ trees_at d.trees F ++ A ∷ [] = wider_is d d1 x F c.deref.result.now a w c.requires.front s.left in
     let d2 = c.glue_goal.new.draft in
     let x2 = c.in_ok-step.ensures.grows in
     let y : Extends d d2 = Extends_trans d d1 d2 x x2 in
@@ -280,15 +268,6 @@ glue_imp-returns-clause-refutes t c =
     let F = c.args.front.now in
     let d1 = c.ends_over.new.draft in
     let x = c.in_ok-made.ensures.grows in
-    let j = c.requires.joins in
-    let a = c.args.a in
-    let b = c.args.b in
-    let A = tree_at d.trees a in
-    let B = tree_at d.trees b in
-    let s = sides_of d c.args.goal Imp a b j c.requires.goal in
-    let w : c.deref.result.now ≡ F ++ a ∷ [] = c.deref.ensures.value ∙ c.in_ok-wider.ensures in
-    let b1 : tree_at d1.trees b ≡ B = x.trees.same b.0 s.right.held in
-    let e1 : trees_at d1.trees c.deref.result.now ≡ trees_at d.trees F ++ A ∷ [] = wider_is d d1 x F c.deref.result.now a w c.requires.front s.left in
     let d2 = c.glue_goal.new.draft in
     let x2 = c.in_ok-step.ensures.grows in
     let y : Extends d d2 = Extends_trans d d1 d2 x x2 in
@@ -297,18 +276,8 @@ glue_imp-returns-clause-refutes t c =
 pub glue_imp-returns-clause-grows : goal.glue_imp-returns-clause-grows
 glue_imp-returns-clause-grows t c =
     let d = c.args.draft.now in
-    let F = c.args.front.now in
     let d1 = c.ends_over.new.draft in
     let x = c.in_ok-made.ensures.grows in
-    let j = c.requires.joins in
-    let a = c.args.a in
-    let b = c.args.b in
-    let A = tree_at d.trees a in
-    let B = tree_at d.trees b in
-    let s = sides_of d c.args.goal Imp a b j c.requires.goal in
-    let w : c.deref.result.now ≡ F ++ a ∷ [] = c.deref.ensures.value ∙ c.in_ok-wider.ensures in
-    let b1 : tree_at d1.trees b ≡ B = x.trees.same b.0 s.right.held in
-    let e1 : trees_at d1.trees c.deref.result.now ≡ trees_at d.trees F ++ A ∷ [] = wider_is d d1 x F c.deref.result.now a w c.requires.front s.left in
     let d2 = c.glue_goal.new.draft in
     let x2 = c.in_ok-step.ensures.grows in
     let y : Extends d d2 = Extends_trans d d1 d2 x x2 in
@@ -344,17 +313,12 @@ glue_forall-refute_forall-requires-clause-front t c =
     let F = c.args.front.now in
     let d1 = c.open_universal.new.draft in
     let x = c.in_ok-inner.ensures.grows in
-    let id = c.in_ok-inner.inner in
-    let X = tree_at d.trees c.args.ty in
-    let B = tree_at d.trees c.args.body in
     let d2 = c.glue_goal.new.draft in
     let x2 = c.in_ok-step.ensures.grows in
     let d3 = c.negation.new.draft in
     let last = c.in_ok-no_inner.ensures in
     let x3 = AddsTrees_extends d2 d3 last.grows in
     let y : Extends d d3 = Extends_trans d d2 d3 (Extends_trans d d1 d2 x x2) x3 in
-    let y1 : Extends d1 d3 = Extends_trans d1 d2 d3 x2 x3 in
-    let f1 = formulas_later d d1 x F c.requires.front in
     formulas_later d d3 y F c.requires.front
 
 pub glue_forall-refute_forall-requires-clause-step : goal.glue_forall-refute_forall-requires-clause-step
@@ -364,14 +328,11 @@ glue_forall-refute_forall-requires-clause-step t c =
     let d1 = c.open_universal.new.draft in
     let x = c.in_ok-inner.ensures.grows in
     let id = c.in_ok-inner.inner in
-    let X = tree_at d.trees c.args.ty in
-    let B = tree_at d.trees c.args.body in
     let d2 = c.glue_goal.new.draft in
     let x2 = c.in_ok-step.ensures.grows in
     let d3 = c.negation.new.draft in
     let last = c.in_ok-no_inner.ensures in
     let x3 = AddsTrees_extends d2 d3 last.grows in
-    let y : Extends d d3 = Extends_trans d d2 d3 (Extends_trans d d1 d2 x x2) x3 in
     let y1 : Extends d1 d3 = Extends_trans d1 d2 d3 x2 x3 in
     let f1 = formulas_later d d1 x F c.requires.front in
     neg_moved d1 d3 y1 F f1 id c.in_ok-inner.ensures.formula d3 c.in_ok-step.step (refutes_later d2 d3 x3 c.in_ok-step.step _ c.in_ok-step.ensures.refutes)
@@ -382,17 +343,12 @@ glue_forall-refute_forall-requires-clause-new t c =
     let F = c.args.front.now in
     let d1 = c.open_universal.new.draft in
     let x = c.in_ok-inner.ensures.grows in
-    let id = c.in_ok-inner.inner in
-    let X = tree_at d.trees c.args.ty in
-    let B = tree_at d.trees c.args.body in
     let d2 = c.glue_goal.new.draft in
     let x2 = c.in_ok-step.ensures.grows in
     let d3 = c.negation.new.draft in
     let last = c.in_ok-no_inner.ensures in
     let x3 = AddsTrees_extends d2 d3 last.grows in
     let y : Extends d d3 = Extends_trans d d2 d3 (Extends_trans d d1 d2 x x2) x3 in
-    let y1 : Extends d1 d3 = Extends_trans d1 d2 d3 x2 x3 in
-    let f1 = formulas_later d d1 x F c.requires.front in
     let g : tree_at d3.trees c.args.goal ≡ tree_at d.trees c.args.goal = y.trees.same c.args.goal.0 c.requires.goal.held in
     new_below (length c.args.params.now) (trees_at d3.trees F) (tree_at d3.trees c.args.goal) (below_later d d3 y F c.requires.front (length c.args.params.now) (tree_at d.trees c.args.goal) (tree_at d3.trees c.args.goal) g c.requires.below)
 
@@ -402,36 +358,25 @@ glue_forall-returns-clause-refutes t c =
     let F = c.args.front.now in
     let d1 = c.open_universal.new.draft in
     let x = c.in_ok-inner.ensures.grows in
-    let id = c.in_ok-inner.inner in
-    let X = tree_at d.trees c.args.ty in
-    let B = tree_at d.trees c.args.body in
     let d2 = c.glue_goal.new.draft in
     let x2 = c.in_ok-step.ensures.grows in
     let d3 = c.negation.new.draft in
     let last = c.in_ok-no_inner.ensures in
     let x3 = AddsTrees_extends d2 d3 last.grows in
     let y : Extends d d3 = Extends_trans d d2 d3 (Extends_trans d d1 d2 x x2) x3 in
-    let y1 : Extends d1 d3 = Extends_trans d1 d2 d3 x2 x3 in
-    let f1 = formulas_later d d1 x F c.requires.front in
     IfOk-weaker c.refute_forall.result _ _ (λ k r. neg_back d d3 y F c.requires.front c.args.goal c.requires.goal c.refute_forall.new.draft k r) c.refute_forall.ensures.refutes
 
 pub glue_forall-returns-clause-grows : goal.glue_forall-returns-clause-grows
 glue_forall-returns-clause-grows t c =
     let d = c.args.draft.now in
-    let F = c.args.front.now in
     let d1 = c.open_universal.new.draft in
     let x = c.in_ok-inner.ensures.grows in
-    let id = c.in_ok-inner.inner in
-    let X = tree_at d.trees c.args.ty in
-    let B = tree_at d.trees c.args.body in
     let d2 = c.glue_goal.new.draft in
     let x2 = c.in_ok-step.ensures.grows in
     let d3 = c.negation.new.draft in
     let last = c.in_ok-no_inner.ensures in
     let x3 = AddsTrees_extends d2 d3 last.grows in
     let y : Extends d d3 = Extends_trans d d2 d3 (Extends_trans d d1 d2 x x2) x3 in
-    let y1 : Extends d1 d3 = Extends_trans d1 d2 d3 x2 x3 in
-    let f1 = formulas_later d d1 x F c.requires.front in
     Extends_trans _ _ _ y c.refute_forall.ensures.grows
 
 -- ---- a `let`
@@ -462,17 +407,12 @@ glue_let-refute_let-requires-clause-front t c =
     let F = c.args.front.now in
     let d1 = c.open_valued.new.draft in
     let x = c.in_ok-inner.ensures.grows in
-    let id = c.in_ok-inner.inner in
-    let X = tree_at d.trees c.args.value in
-    let B = tree_at d.trees c.args.body in
     let d2 = c.glue_goal.new.draft in
     let x2 = c.in_ok-step.ensures.grows in
     let d3 = c.connect.new.draft in
     let last = c.in_ok-defined.ensures in
     let x3 = AddsTrees_extends d2 d3 last.grows in
     let y : Extends d d3 = Extends_trans d d2 d3 (Extends_trans d d1 d2 x x2) x3 in
-    let y1 : Extends d1 d3 = Extends_trans d1 d2 d3 x2 x3 in
-    let f1 = formulas_later d d1 x F c.requires.front in
     formulas_later d d3 y F c.requires.front
 
 pub glue_let-refute_let-requires-clause-step : goal.glue_let-refute_let-requires-clause-step
@@ -482,14 +422,11 @@ glue_let-refute_let-requires-clause-step t c =
     let d1 = c.open_valued.new.draft in
     let x = c.in_ok-inner.ensures.grows in
     let id = c.in_ok-inner.inner in
-    let X = tree_at d.trees c.args.value in
-    let B = tree_at d.trees c.args.body in
     let d2 = c.glue_goal.new.draft in
     let x2 = c.in_ok-step.ensures.grows in
     let d3 = c.connect.new.draft in
     let last = c.in_ok-defined.ensures in
     let x3 = AddsTrees_extends d2 d3 last.grows in
-    let y : Extends d d3 = Extends_trans d d2 d3 (Extends_trans d d1 d2 x x2) x3 in
     let y1 : Extends d1 d3 = Extends_trans d1 d2 d3 x2 x3 in
     let f1 = formulas_later d d1 x F c.requires.front in
     neg_moved d1 d3 y1 F f1 id c.in_ok-inner.ensures.formula d3 c.in_ok-step.step (refutes_later d2 d3 x3 c.in_ok-step.step _ c.in_ok-step.ensures.refutes)
@@ -500,43 +437,38 @@ glue_let-returns-clause-refutes t c =
     let F = c.args.front.now in
     let d1 = c.open_valued.new.draft in
     let x = c.in_ok-inner.ensures.grows in
-    let id = c.in_ok-inner.inner in
-    let X = tree_at d.trees c.args.value in
-    let B = tree_at d.trees c.args.body in
     let d2 = c.glue_goal.new.draft in
     let x2 = c.in_ok-step.ensures.grows in
     let d3 = c.connect.new.draft in
     let last = c.in_ok-defined.ensures in
     let x3 = AddsTrees_extends d2 d3 last.grows in
     let y : Extends d d3 = Extends_trans d d2 d3 (Extends_trans d d1 d2 x x2) x3 in
-    let y1 : Extends d1 d3 = Extends_trans d1 d2 d3 x2 x3 in
-    let f1 = formulas_later d d1 x F c.requires.front in
     IfOk-weaker c.refute_let.result _ _ (λ k r. neg_back d d3 y F c.requires.front c.args.goal c.requires.goal c.refute_let.new.draft k r) c.refute_let.ensures.refutes
 
 pub glue_let-returns-clause-grows : goal.glue_let-returns-clause-grows
 glue_let-returns-clause-grows t c =
     let d = c.args.draft.now in
-    let F = c.args.front.now in
     let d1 = c.open_valued.new.draft in
     let x = c.in_ok-inner.ensures.grows in
-    let id = c.in_ok-inner.inner in
-    let X = tree_at d.trees c.args.value in
-    let B = tree_at d.trees c.args.body in
     let d2 = c.glue_goal.new.draft in
     let x2 = c.in_ok-step.ensures.grows in
     let d3 = c.connect.new.draft in
     let last = c.in_ok-defined.ensures in
     let x3 = AddsTrees_extends d2 d3 last.grows in
     let y : Extends d d3 = Extends_trans d d2 d3 (Extends_trans d d1 d2 x x2) x3 in
-    let y1 : Extends d1 d3 = Extends_trans d1 d2 d3 x2 x3 in
-    let f1 = formulas_later d d1 x F c.requires.front in
     Extends_trans _ _ _ y c.refute_let.ensures.grows
 
-pub glue_forall-returns-in_err-no_inner-clause-grows : goal.glue_forall-returns-in_err-no_inner-clause-grows
-glue_forall-returns-in_err-no_inner-clause-grows t c = Extends_trans _ _ _ (Extends_trans _ _ _ c.in_ok-inner.ensures.grows c.in_ok-step.ensures.grows) (AddsTrees_extends _ _ c.negation.ensures.grows)
+pub glue_forall-returns-in_err-no_inner : goal.glue_forall-returns-in_err-no_inner
+glue_forall-returns-in_err-no_inner t c = record {
+  grows = Extends_trans _ _ _ (Extends_trans _ _ _ c.in_ok-inner.ensures.grows c.in_ok-step.ensures.grows) (AddsTrees_extends _ _ c.negation.ensures.grows);
+  refutes = no_value _ _ c.from_residual-in_err-no_inner.result c.from_residual-in_err-no_inner.ensures.1;
+}
 
-pub glue_let-returns-in_err-defined-clause-grows : goal.glue_let-returns-in_err-defined-clause-grows
-glue_let-returns-in_err-defined-clause-grows t c = Extends_trans _ _ _ (Extends_trans _ _ _ c.in_ok-inner.ensures.grows c.in_ok-step.ensures.grows) (AddsTrees_extends _ _ c.connect.ensures.grows)
+pub glue_let-returns-in_err-defined : goal.glue_let-returns-in_err-defined
+glue_let-returns-in_err-defined t c = record {
+  grows = Extends_trans _ _ _ (Extends_trans _ _ _ c.in_ok-inner.ensures.grows c.in_ok-step.ensures.grows) (AddsTrees_extends _ _ c.connect.ensures.grows);
+  refutes = no_value _ _ c.from_residual-in_err-defined.result c.from_residual-in_err-defined.ensures.1;
+}
 
 -- ---- an `if`
 pub glue_if-glue_two-requires : goal.glue_if-glue_two-requires
@@ -611,13 +543,8 @@ glue_if-refute_if-requires-clause-front t c =
     let y34 : Extends n2 n4 = Extends_trans n2 n3 n4 x3 x4 in
     let y12 : Extends d n2 = Extends_trans d n1 n2 x1 x2 in
     let y : Extends d n4 = Extends_trans d n2 n4 y12 y34 in
-    let there = c.in_ok-there.there in
-    let away = c.in_ok-away.away in
-    let tf = formula_later n2 n4 y34 there c.in_ok-there.ensures.formula in
-    let wf = formula_later n3 n4 x4 away c.in_ok-away.ensures.formula in
     let n5 = c.glue_two.new.draft in
     let x5 = c.in_ok-left.ensures.grows in
-    let f4 = formulas_later d n4 y F c.requires.front in
     let z : Extends d n5 = Extends_trans d n4 n5 y x5 in
     formulas_later d n5 z F c.requires.front
 
@@ -637,13 +564,10 @@ glue_if-refute_if-requires-clause-left t c =
     let y12 : Extends d n2 = Extends_trans d n1 n2 x1 x2 in
     let y : Extends d n4 = Extends_trans d n2 n4 y12 y34 in
     let there = c.in_ok-there.there in
-    let away = c.in_ok-away.away in
     let tf = formula_later n2 n4 y34 there c.in_ok-there.ensures.formula in
-    let wf = formula_later n3 n4 x4 away c.in_ok-away.ensures.formula in
     let n5 = c.glue_two.new.draft in
     let x5 = c.in_ok-left.ensures.grows in
     let f4 = formulas_later d n4 y F c.requires.front in
-    let z : Extends d n5 = Extends_trans d n4 n5 y x5 in
     neg_moved n4 n5 x5 F f4 there tf n5 c.in_ok-left.left c.in_ok-left.ensures.left
 
 pub glue_if-refute_if-requires-clause-right : goal.glue_if-refute_if-requires-clause-right
@@ -661,14 +585,11 @@ glue_if-refute_if-requires-clause-right t c =
     let y34 : Extends n2 n4 = Extends_trans n2 n3 n4 x3 x4 in
     let y12 : Extends d n2 = Extends_trans d n1 n2 x1 x2 in
     let y : Extends d n4 = Extends_trans d n2 n4 y12 y34 in
-    let there = c.in_ok-there.there in
     let away = c.in_ok-away.away in
-    let tf = formula_later n2 n4 y34 there c.in_ok-there.ensures.formula in
     let wf = formula_later n3 n4 x4 away c.in_ok-away.ensures.formula in
     let n5 = c.glue_two.new.draft in
     let x5 = c.in_ok-left.ensures.grows in
     let f4 = formulas_later d n4 y F c.requires.front in
-    let z : Extends d n5 = Extends_trans d n4 n5 y x5 in
     neg_moved n4 n5 x5 F f4 away wf n5 c.in_ok-left.right c.in_ok-left.ensures.right
 
 pub glue_if-returns-clause-refutes : goal.glue_if-returns-clause-refutes
@@ -686,20 +607,14 @@ glue_if-returns-clause-refutes t c =
     let y34 : Extends n2 n4 = Extends_trans n2 n3 n4 x3 x4 in
     let y12 : Extends d n2 = Extends_trans d n1 n2 x1 x2 in
     let y : Extends d n4 = Extends_trans d n2 n4 y12 y34 in
-    let there = c.in_ok-there.there in
-    let away = c.in_ok-away.away in
-    let tf = formula_later n2 n4 y34 there c.in_ok-there.ensures.formula in
-    let wf = formula_later n3 n4 x4 away c.in_ok-away.ensures.formula in
     let n5 = c.glue_two.new.draft in
     let x5 = c.in_ok-left.ensures.grows in
-    let f4 = formulas_later d n4 y F c.requires.front in
     let z : Extends d n5 = Extends_trans d n4 n5 y x5 in
     IfOk-weaker c.refute_if.result _ _ (λ k r. neg_back d n5 z F c.requires.front c.args.goal c.requires.goal c.refute_if.new.draft k r) c.refute_if.ensures.refutes
 
 pub glue_if-returns-clause-grows : goal.glue_if-returns-clause-grows
 glue_if-returns-clause-grows t c =
     let d = c.args.draft.now in
-    let F = c.args.front.now in
     let n1 = c.negation.new.draft in
     let n2 = c.connect.new.draft in
     let n3 = c.connect-2.new.draft in
@@ -711,45 +626,25 @@ glue_if-returns-clause-grows t c =
     let y34 : Extends n2 n4 = Extends_trans n2 n3 n4 x3 x4 in
     let y12 : Extends d n2 = Extends_trans d n1 n2 x1 x2 in
     let y : Extends d n4 = Extends_trans d n2 n4 y12 y34 in
-    let there = c.in_ok-there.there in
-    let away = c.in_ok-away.away in
-    let tf = formula_later n2 n4 y34 there c.in_ok-there.ensures.formula in
-    let wf = formula_later n3 n4 x4 away c.in_ok-away.ensures.formula in
     let n5 = c.glue_two.new.draft in
     let x5 = c.in_ok-left.ensures.grows in
-    let f4 = formulas_later d n4 y F c.requires.front in
     let z : Extends d n5 = Extends_trans d n4 n5 y x5 in
     Extends_trans _ _ _ z c.refute_if.ensures.grows
 
-pub glue_goal-returns-in-True-clause-refutes : goal.glue_goal-returns-in-True-clause-refutes
-glue_goal-returns-in-True-clause-refutes t c = c.refute_true.ensures.refutes
+pub glue_goal-returns-in-True : goal.glue_goal-returns-in-True
+glue_goal-returns-in-True t c = record { refutes = c.refute_true.ensures.refutes; grows = c.refute_true.ensures.grows }
 
-pub glue_goal-returns-in-True-clause-grows : goal.glue_goal-returns-in-True-clause-grows
-glue_goal-returns-in-True-clause-grows t c = c.refute_true.ensures.grows
+pub glue_goal-returns-in-Join : goal.glue_goal-returns-in-Join
+glue_goal-returns-in-Join t c = record { refutes = c.glue_joined.ensures.refutes; grows = c.glue_joined.ensures.grows }
 
-pub glue_goal-returns-in-Join-clause-refutes : goal.glue_goal-returns-in-Join-clause-refutes
-glue_goal-returns-in-Join-clause-refutes t c = c.glue_joined.ensures.refutes
+pub glue_goal-returns-in-Forall : goal.glue_goal-returns-in-Forall
+glue_goal-returns-in-Forall t c = record { refutes = c.glue_forall.ensures.refutes; grows = c.glue_forall.ensures.grows }
 
-pub glue_goal-returns-in-Join-clause-grows : goal.glue_goal-returns-in-Join-clause-grows
-glue_goal-returns-in-Join-clause-grows t c = c.glue_joined.ensures.grows
+pub glue_goal-returns-in-Let : goal.glue_goal-returns-in-Let
+glue_goal-returns-in-Let t c = record { refutes = c.glue_let.ensures.refutes; grows = c.glue_let.ensures.grows }
 
-pub glue_goal-returns-in-Forall-clause-refutes : goal.glue_goal-returns-in-Forall-clause-refutes
-glue_goal-returns-in-Forall-clause-refutes t c = c.glue_forall.ensures.refutes
-
-pub glue_goal-returns-in-Forall-clause-grows : goal.glue_goal-returns-in-Forall-clause-grows
-glue_goal-returns-in-Forall-clause-grows t c = c.glue_forall.ensures.grows
-
-pub glue_goal-returns-in-Let-clause-refutes : goal.glue_goal-returns-in-Let-clause-refutes
-glue_goal-returns-in-Let-clause-refutes t c = c.glue_let.ensures.refutes
-
-pub glue_goal-returns-in-Let-clause-grows : goal.glue_goal-returns-in-Let-clause-grows
-glue_goal-returns-in-Let-clause-grows t c = c.glue_let.ensures.grows
-
-pub glue_goal-returns-in-If-clause-refutes : goal.glue_goal-returns-in-If-clause-refutes
-glue_goal-returns-in-If-clause-refutes t c = c.glue_if.ensures.refutes
-
-pub glue_goal-returns-in-If-clause-grows : goal.glue_goal-returns-in-If-clause-grows
-glue_goal-returns-in-If-clause-grows t c = c.glue_if.ensures.grows
+pub glue_goal-returns-in-If : goal.glue_goal-returns-in-If
+glue_goal-returns-in-If t c = record { refutes = c.glue_if.ensures.refutes; grows = c.glue_if.ensures.grows }
 
 pub glue_goal-returns-in_default-clause-grows : goal.glue_goal-returns-in_default-clause-grows
 glue_goal-returns-in_default-clause-grows t c = AddsTrees_extends _ _ (AddsTrees_refl _)
@@ -766,29 +661,17 @@ glue_goal-refute_true-requires-clause-goal t c = c.requires.goal
 pub glue_goal-refute_true-requires-clause-tree : goal.glue_goal-refute_true-requires-clause-tree
 glue_goal-refute_true-requires-clause-tree t c = rw c.store.ensures at c.in-True.ensures.tree
 
-pub glue_joined-returns-in-And-clause-refutes : goal.glue_joined-returns-in-And-clause-refutes
-glue_joined-returns-in-And-clause-refutes t c = c.glue_and.ensures.refutes
+pub glue_joined-returns-in-And : goal.glue_joined-returns-in-And
+glue_joined-returns-in-And t c = record { refutes = c.glue_and.ensures.refutes; grows = c.glue_and.ensures.grows }
 
-pub glue_joined-returns-in-And-clause-grows : goal.glue_joined-returns-in-And-clause-grows
-glue_joined-returns-in-And-clause-grows t c = c.glue_and.ensures.grows
+pub glue_joined-returns-in-AndThen : goal.glue_joined-returns-in-AndThen
+glue_joined-returns-in-AndThen t c = record { refutes = c.glue_and_then.ensures.refutes; grows = c.glue_and_then.ensures.grows }
 
-pub glue_joined-returns-in-AndThen-clause-refutes : goal.glue_joined-returns-in-AndThen-clause-refutes
-glue_joined-returns-in-AndThen-clause-refutes t c = c.glue_and_then.ensures.refutes
+pub glue_joined-returns-in-Imp : goal.glue_joined-returns-in-Imp
+glue_joined-returns-in-Imp t c = record { refutes = c.glue_imp.ensures.refutes; grows = c.glue_imp.ensures.grows }
 
-pub glue_joined-returns-in-AndThen-clause-grows : goal.glue_joined-returns-in-AndThen-clause-grows
-glue_joined-returns-in-AndThen-clause-grows t c = c.glue_and_then.ensures.grows
-
-pub glue_joined-returns-in-Imp-clause-refutes : goal.glue_joined-returns-in-Imp-clause-refutes
-glue_joined-returns-in-Imp-clause-refutes t c = c.glue_imp.ensures.refutes
-
-pub glue_joined-returns-in-Imp-clause-grows : goal.glue_joined-returns-in-Imp-clause-grows
-glue_joined-returns-in-Imp-clause-grows t c = c.glue_imp.ensures.grows
-
-pub glue_joined-returns-in-Iff-clause-refutes : goal.glue_joined-returns-in-Iff-clause-refutes
-glue_joined-returns-in-Iff-clause-refutes t c = c.glue_iff.ensures.refutes
-
-pub glue_joined-returns-in-Iff-clause-grows : goal.glue_joined-returns-in-Iff-clause-grows
-glue_joined-returns-in-Iff-clause-grows t c = c.glue_iff.ensures.grows
+pub glue_joined-returns-in-Iff : goal.glue_joined-returns-in-Iff
+glue_joined-returns-in-Iff t c = record { refutes = c.glue_iff.ensures.refutes; grows = c.glue_iff.ensures.grows }
 
 pub glue_joined-returns-in-Or-clause-grows : goal.glue_joined-returns-in-Or-clause-grows
 glue_joined-returns-in-Or-clause-grows t c = AddsTrees_extends _ _ (AddsTrees_refl _)
@@ -802,17 +685,20 @@ glue_joined-glue_iff-requires-clause-goal t c = c.requires.goal
 pub glue_joined-glue_iff-requires-clause-ends : goal.glue_joined-glue_iff-requires-clause-ends
 glue_joined-glue_iff-requires-clause-ends t c = c.requires.ends
 
-pub glue_and-returns-in_err-left-clause-grows : goal.glue_and-returns-in_err-left-clause-grows
-glue_and-returns-in_err-left-clause-grows t c = c.glue_two.ensures.grows
+pub glue_and-returns-in_err-left : goal.glue_and-returns-in_err-left
+glue_and-returns-in_err-left t c = record { grows = c.glue_two.ensures.grows; refutes = no_value _ _ c.from_residual.result c.from_residual.ensures.1 }
 
-pub glue_two-returns-in_err-left-clause-grows : goal.glue_two-returns-in_err-left-clause-grows
-glue_two-returns-in_err-left-clause-grows t c = c.glue_goal.ensures.grows
+pub glue_two-returns-in_err-left : goal.glue_two-returns-in_err-left
+glue_two-returns-in_err-left t c = record { grows = c.glue_goal.ensures.grows; left = no_value _ _ c.from_residual.result c.from_residual.ensures.1; right = no_value _ _ c.from_residual.result c.from_residual.ensures.1 }
 
-pub glue_and_then-returns-in_err-implied-clause-grows : goal.glue_and_then-returns-in_err-implied-clause-grows
-glue_and_then-returns-in_err-implied-clause-grows t c = AddsTrees_extends _ _ c.connect.ensures.grows
+pub glue_and_then-returns-in_err-implied : goal.glue_and_then-returns-in_err-implied
+glue_and_then-returns-in_err-implied t c = record { grows = AddsTrees_extends _ _ c.connect.ensures.grows; refutes = no_value _ _ c.from_residual.result c.from_residual.ensures.1 }
 
-pub glue_and_then-returns-in_err-left-clause-grows : goal.glue_and_then-returns-in_err-left-clause-grows
-glue_and_then-returns-in_err-left-clause-grows t c = Extends_trans _ _ _ (AddsTrees_extends _ _ c.in_ok-implied.ensures.grows) c.glue_two.ensures.grows
+pub glue_and_then-returns-in_err-left : goal.glue_and_then-returns-in_err-left
+glue_and_then-returns-in_err-left t c = record {
+  grows = Extends_trans _ _ _ (AddsTrees_extends _ _ c.in_ok-implied.ensures.grows) c.glue_two.ensures.grows;
+  refutes = no_value _ _ c.from_residual-in_err-left.result c.from_residual-in_err-left.ensures.1;
+}
 
 pub glue_and-refute_and-requires-clause-goal : goal.glue_and-refute_and-requires-clause-goal
 glue_and-refute_and-requires-clause-goal t c = formula_later c.args.draft.now c.glue_two.new.draft c.in_ok-left.ensures.grows c.args.goal c.requires.goal
@@ -820,11 +706,11 @@ glue_and-refute_and-requires-clause-goal t c = formula_later c.args.draft.now c.
 pub glue_imp-ends_over-requires-clause-front : goal.glue_imp-ends_over-requires-clause-front
 glue_imp-ends_over-requires-clause-front t c = c.requires.front
 
-pub glue_imp-returns-in_err-made-clause-grows : goal.glue_imp-returns-in_err-made-clause-grows
-glue_imp-returns-in_err-made-clause-grows t c = c.ends_over.ensures.grows
+pub glue_imp-returns-in_err-made : goal.glue_imp-returns-in_err-made
+glue_imp-returns-in_err-made t c = record { grows = c.ends_over.ensures.grows; refutes = no_value _ _ c.from_residual.result c.from_residual.ensures.1 }
 
-pub glue_imp-returns-in_err-wider-clause-grows : goal.glue_imp-returns-in_err-wider-clause-grows
-glue_imp-returns-in_err-wider-clause-grows t c = c.in_ok-made.ensures.grows
+pub glue_imp-returns-in_err-wider : goal.glue_imp-returns-in_err-wider
+glue_imp-returns-in_err-wider t c = record { grows = c.in_ok-made.ensures.grows; refutes = no_value _ _ c.from_residual-in_err-wider.result c.from_residual-in_err-wider.ensures.1 }
 
 pub glue_forall-open_universal-requires-clause-front : goal.glue_forall-open_universal-requires-clause-front
 glue_forall-open_universal-requires-clause-front t c = c.requires.front
@@ -847,8 +733,8 @@ glue_forall-open_universal-requires-clause-ends t c = c.requires.ends
 pub glue_forall-open_universal-requires-clause-ty_held : goal.glue_forall-open_universal-requires-clause-ty_held
 glue_forall-open_universal-requires-clause-ty_held t c = c.requires.ty_held
 
-pub glue_forall-returns-in_err-inner-clause-grows : goal.glue_forall-returns-in_err-inner-clause-grows
-glue_forall-returns-in_err-inner-clause-grows t c = c.open_universal.ensures.grows
+pub glue_forall-returns-in_err-inner : goal.glue_forall-returns-in_err-inner
+glue_forall-returns-in_err-inner t c = record { grows = c.open_universal.ensures.grows; refutes = no_value _ _ c.from_residual.result c.from_residual.ensures.1 }
 
 pub glue_let-open_valued-requires-clause-front : goal.glue_let-open_valued-requires-clause-front
 glue_let-open_valued-requires-clause-front t c = c.requires.front
@@ -871,23 +757,32 @@ glue_let-open_valued-requires-clause-ends t c = c.requires.ends
 pub glue_let-open_valued-requires-clause-value_held : goal.glue_let-open_valued-requires-clause-value_held
 glue_let-open_valued-requires-clause-value_held t c = c.requires.value_held
 
-pub glue_let-returns-in_err-inner-clause-grows : goal.glue_let-returns-in_err-inner-clause-grows
-glue_let-returns-in_err-inner-clause-grows t c = c.open_valued.ensures.grows
+pub glue_let-returns-in_err-inner : goal.glue_let-returns-in_err-inner
+glue_let-returns-in_err-inner t c = record { grows = c.open_valued.ensures.grows; refutes = no_value _ _ c.from_residual.result c.from_residual.ensures.1 }
 
 pub glue_if-negation-requires : goal.glue_if-negation-requires
 glue_if-negation-requires t c = c.requires.cond
 
-pub glue_if-returns-in_err-no_cond-clause-grows : goal.glue_if-returns-in_err-no_cond-clause-grows
-glue_if-returns-in_err-no_cond-clause-grows t c = AddsTrees_extends _ _ c.negation.ensures.grows
+pub glue_if-returns-in_err-no_cond : goal.glue_if-returns-in_err-no_cond
+glue_if-returns-in_err-no_cond t c = record { grows = AddsTrees_extends _ _ c.negation.ensures.grows; refutes = no_value _ _ c.from_residual.result c.from_residual.ensures.1 }
 
-pub glue_if-returns-in_err-there-clause-grows : goal.glue_if-returns-in_err-there-clause-grows
-glue_if-returns-in_err-there-clause-grows t c = AddsTrees_extends _ _ (AddsTrees_trans _ _ _ c.in_ok-no_cond.ensures.grows c.connect.ensures.grows)
+pub glue_if-returns-in_err-there : goal.glue_if-returns-in_err-there
+glue_if-returns-in_err-there t c = record {
+  grows = AddsTrees_extends _ _ (AddsTrees_trans _ _ _ c.in_ok-no_cond.ensures.grows c.connect.ensures.grows);
+  refutes = no_value _ _ c.from_residual-in_err-there.result c.from_residual-in_err-there.ensures.1;
+}
 
-pub glue_if-returns-in_err-away-clause-grows : goal.glue_if-returns-in_err-away-clause-grows
-glue_if-returns-in_err-away-clause-grows t c = AddsTrees_extends _ _ (AddsTrees_trans _ _ _ (AddsTrees_trans _ _ _ c.in_ok-no_cond.ensures.grows c.in_ok-there.ensures.grows) c.connect-2.ensures.grows)
+pub glue_if-returns-in_err-away : goal.glue_if-returns-in_err-away
+glue_if-returns-in_err-away t c = record {
+  grows = AddsTrees_extends _ _ (AddsTrees_trans _ _ _ (AddsTrees_trans _ _ _ c.in_ok-no_cond.ensures.grows c.in_ok-there.ensures.grows) c.connect-2.ensures.grows);
+  refutes = no_value _ _ c.from_residual-in_err-away.result c.from_residual-in_err-away.ensures.1;
+}
 
-pub glue_if-returns-in_err-defined-clause-grows : goal.glue_if-returns-in_err-defined-clause-grows
-glue_if-returns-in_err-defined-clause-grows t c = AddsTrees_extends _ _ (AddsTrees_trans _ _ _ (AddsTrees_trans _ _ _ (AddsTrees_trans _ _ _ c.in_ok-no_cond.ensures.grows c.in_ok-there.ensures.grows) c.in_ok-away.ensures.grows) c.if_equation.ensures.grows)
+pub glue_if-returns-in_err-defined : goal.glue_if-returns-in_err-defined
+glue_if-returns-in_err-defined t c = record {
+  grows = AddsTrees_extends _ _ (AddsTrees_trans _ _ _ (AddsTrees_trans _ _ _ (AddsTrees_trans _ _ _ c.in_ok-no_cond.ensures.grows c.in_ok-there.ensures.grows) c.in_ok-away.ensures.grows) c.if_equation.ensures.grows);
+  refutes = no_value _ _ c.from_residual-in_err-defined.result c.from_residual-in_err-defined.ensures.1;
+}
 
 pub glue_and-refute_and-requires-clause-tree : goal.glue_and-refute_and-requires-clause-tree
 glue_and-refute_and-requires-clause-tree t c =
@@ -994,65 +889,14 @@ glue_imp-refute_imp-requires-clause-tree t c =
     let r : Holds d.trees c.args.b = omega (arith, j.below.1, c.requires.goal.held) in
     two_later d d2 x (HJoin Imp) c.args.goal c.args.a c.args.b c.requires.goal.held q r j.tree
 
-pub glue_and-returns-in_err-left-clause-refutes : goal.glue_and-returns-in_err-left-clause-refutes
-glue_and-returns-in_err-left-clause-refutes t c = no_value _ _ c.from_residual.result c.from_residual.ensures.1
-
-pub glue_and_then-returns-in_err-implied-clause-refutes : goal.glue_and_then-returns-in_err-implied-clause-refutes
-glue_and_then-returns-in_err-implied-clause-refutes t c = no_value _ _ c.from_residual.result c.from_residual.ensures.1
-
-pub glue_and_then-returns-in_err-left-clause-refutes : goal.glue_and_then-returns-in_err-left-clause-refutes
-glue_and_then-returns-in_err-left-clause-refutes t c = no_value _ _ c.from_residual-in_err-left.result c.from_residual-in_err-left.ensures.1
-
-pub glue_forall-returns-in_err-inner-clause-refutes : goal.glue_forall-returns-in_err-inner-clause-refutes
-glue_forall-returns-in_err-inner-clause-refutes t c = no_value _ _ c.from_residual.result c.from_residual.ensures.1
-
 pub glue_forall-returns-in_err-step-clause-refutes : goal.glue_forall-returns-in_err-step-clause-refutes
 glue_forall-returns-in_err-step-clause-refutes t c = no_value _ _ c.from_residual-in_err-step.result c.from_residual-in_err-step.ensures.1
-
-pub glue_forall-returns-in_err-no_inner-clause-refutes : goal.glue_forall-returns-in_err-no_inner-clause-refutes
-glue_forall-returns-in_err-no_inner-clause-refutes t c = no_value _ _ c.from_residual-in_err-no_inner.result c.from_residual-in_err-no_inner.ensures.1
-
-pub glue_if-returns-in_err-no_cond-clause-refutes : goal.glue_if-returns-in_err-no_cond-clause-refutes
-glue_if-returns-in_err-no_cond-clause-refutes t c = no_value _ _ c.from_residual.result c.from_residual.ensures.1
-
-pub glue_if-returns-in_err-there-clause-refutes : goal.glue_if-returns-in_err-there-clause-refutes
-glue_if-returns-in_err-there-clause-refutes t c = no_value _ _ c.from_residual-in_err-there.result c.from_residual-in_err-there.ensures.1
-
-pub glue_if-returns-in_err-away-clause-refutes : goal.glue_if-returns-in_err-away-clause-refutes
-glue_if-returns-in_err-away-clause-refutes t c = no_value _ _ c.from_residual-in_err-away.result c.from_residual-in_err-away.ensures.1
-
-pub glue_if-returns-in_err-defined-clause-refutes : goal.glue_if-returns-in_err-defined-clause-refutes
-glue_if-returns-in_err-defined-clause-refutes t c = no_value _ _ c.from_residual-in_err-defined.result c.from_residual-in_err-defined.ensures.1
 
 pub glue_if-returns-in_err-left-clause-refutes : goal.glue_if-returns-in_err-left-clause-refutes
 glue_if-returns-in_err-left-clause-refutes t c = no_value _ _ c.from_residual-in_err-left.result c.from_residual-in_err-left.ensures.1
 
-pub glue_imp-returns-in_err-made-clause-refutes : goal.glue_imp-returns-in_err-made-clause-refutes
-glue_imp-returns-in_err-made-clause-refutes t c = no_value _ _ c.from_residual.result c.from_residual.ensures.1
-
-pub glue_imp-returns-in_err-wider-clause-refutes : goal.glue_imp-returns-in_err-wider-clause-refutes
-glue_imp-returns-in_err-wider-clause-refutes t c = no_value _ _ c.from_residual-in_err-wider.result c.from_residual-in_err-wider.ensures.1
-
 pub glue_imp-returns-in_err-step-clause-refutes : goal.glue_imp-returns-in_err-step-clause-refutes
 glue_imp-returns-in_err-step-clause-refutes t c = no_value _ _ c.from_residual-in_err-step.result c.from_residual-in_err-step.ensures.1
 
-pub glue_let-returns-in_err-inner-clause-refutes : goal.glue_let-returns-in_err-inner-clause-refutes
-glue_let-returns-in_err-inner-clause-refutes t c = no_value _ _ c.from_residual.result c.from_residual.ensures.1
-
 pub glue_let-returns-in_err-step-clause-refutes : goal.glue_let-returns-in_err-step-clause-refutes
 glue_let-returns-in_err-step-clause-refutes t c = no_value _ _ c.from_residual-in_err-step.result c.from_residual-in_err-step.ensures.1
-
-pub glue_let-returns-in_err-defined-clause-refutes : goal.glue_let-returns-in_err-defined-clause-refutes
-glue_let-returns-in_err-defined-clause-refutes t c = no_value _ _ c.from_residual-in_err-defined.result c.from_residual-in_err-defined.ensures.1
-
-pub glue_two-returns-in_err-left-clause-left : goal.glue_two-returns-in_err-left-clause-left
-glue_two-returns-in_err-left-clause-left t c = no_value _ _ c.from_residual.result c.from_residual.ensures.1
-
-pub glue_two-returns-in_err-left-clause-right : goal.glue_two-returns-in_err-left-clause-right
-glue_two-returns-in_err-left-clause-right t c = no_value _ _ c.from_residual.result c.from_residual.ensures.1
-
-pub glue_two-returns-in_err-right-clause-left : goal.glue_two-returns-in_err-right-clause-left
-glue_two-returns-in_err-right-clause-left t c = no_value _ _ c.from_residual-in_err-right.result c.from_residual-in_err-right.ensures.1
-
-pub glue_two-returns-in_err-right-clause-right : goal.glue_two-returns-in_err-right-clause-right
-glue_two-returns-in_err-right-clause-right t c = no_value _ _ c.from_residual-in_err-right.result c.from_residual-in_err-right.ensures.1

@@ -10,7 +10,8 @@ use Rattle.evidence.specs.Laws.{Extends_trans, AddsTrees_extends, AddsTrees_tran
 use Rattle.evidence.proofs.Formulas.{formulas_later, formula_later}
 use Rattle.tr_split.specs.Split.{imp, split}
 use Rattle.tr_split.specs.Glue.{EndsOfParts}
-use Rattle.tr_split.proofs.Pieces.{sides_of, neg_back}
+use Rattle.evidence.proofs.Ends.{neg_back}
+use Rattle.tr_split.proofs.Pieces.{sides_of}
 use Rattle.tr_split_goals.proofs.Moving.{moved, two_later}
 use Rattle.tr_split_goals.proofs.gluing.glue_iff.Goals as goal
 use Rattle.tasks.proofs.outside.Passed.{no_value}
@@ -24,11 +25,6 @@ refute_iff-requires-clause-front c =
     let x1 = AddsTrees_extends d d1 c.in_ok-there.ensures.grows in
     let x2 = AddsTrees_extends d1 d2 c.in_ok-back.ensures.grows in
     let x : Extends d d2 = Extends_trans d d1 d2 x1 x2 in
-    let j = c.requires.joins in
-    let A = tree_at d.trees c.args.a in
-    let B = tree_at d.trees c.args.b in
-    let s = sides_of d c.args.goal Iff c.args.a c.args.b j c.requires.goal in
-    let e : EndsOfParts d c.args.ends.now (trees_at d.trees F) (imp A B ∷ imp B A ∷ []) = subst (EndsOfParts d c.args.ends.now (trees_at d.trees F)) (ap split j.tree) c.requires.ends in
     formulas_later d d2 x F c.requires.front
 
 pub refute_iff-requires-clause-left : goal.refute_iff-requires-clause-left
@@ -76,18 +72,16 @@ returns-clause-refutes c =
     let x1 = AddsTrees_extends d d1 c.in_ok-there.ensures.grows in
     let x2 = AddsTrees_extends d1 d2 c.in_ok-back.ensures.grows in
     let x : Extends d d2 = Extends_trans d d1 d2 x1 x2 in
-    let j = c.requires.joins in
-    let A = tree_at d.trees c.args.a in
-    let B = tree_at d.trees c.args.b in
-    let s = sides_of d c.args.goal Iff c.args.a c.args.b j c.requires.goal in
-    let e : EndsOfParts d c.args.ends.now (trees_at d.trees F) (imp A B ∷ imp B A ∷ []) = subst (EndsOfParts d c.args.ends.now (trees_at d.trees F)) (ap split j.tree) c.requires.ends in
     IfOk-weaker c.refute_iff.result _ _ (λ k r. neg_back d d2 x F c.requires.front c.args.goal c.requires.goal c.refute_iff.new.draft k r) c.refute_iff.ensures.refutes
 
-pub returns-in_err-there-clause-refutes : goal.returns-in_err-there-clause-refutes
-returns-in_err-there-clause-refutes c = no_value _ _ c.from_residual.result c.from_residual.ensures.1
+pub returns-in_err-there : goal.returns-in_err-there
+returns-in_err-there c = record { refutes = no_value _ _ c.from_residual.result c.from_residual.ensures.1; grows = AddsTrees_extends _ _ c.connect.ensures.grows }
 
-pub returns-in_err-back-clause-refutes : goal.returns-in_err-back-clause-refutes
-returns-in_err-back-clause-refutes c = no_value _ _ c.from_residual-in_err-back.result c.from_residual-in_err-back.ensures.1
+pub returns-in_err-back : goal.returns-in_err-back
+returns-in_err-back c = record {
+  refutes = no_value _ _ c.from_residual-in_err-back.result c.from_residual-in_err-back.ensures.1;
+  grows = AddsTrees_extends _ _ (AddsTrees_trans _ _ _ c.in_ok-there.ensures.grows c.connect-2.ensures.grows);
+}
 
 pub connect-requires-clause-a : goal.connect-requires-clause-a
 connect-requires-clause-a c =
@@ -116,12 +110,6 @@ connect-requires-2-clause-b c =
     let x1 = AddsTrees_extends d d1 c.in_ok-there.ensures.grows in
     let s = sides_of d c.args.goal Iff c.args.a c.args.b c.requires.joins c.requires.goal in
     formula_later d d1 x1 c.args.a s.left
-
-pub returns-in_err-there-clause-grows : goal.returns-in_err-there-clause-grows
-returns-in_err-there-clause-grows c = AddsTrees_extends _ _ c.connect.ensures.grows
-
-pub returns-in_err-back-clause-grows : goal.returns-in_err-back-clause-grows
-returns-in_err-back-clause-grows c = AddsTrees_extends _ _ (AddsTrees_trans _ _ _ c.in_ok-there.ensures.grows c.connect-2.ensures.grows)
 
 pub bounds-ends-0 : goal.bounds-ends-0
 bounds-ends-0 c =
@@ -164,7 +152,6 @@ refute_iff-requires-clause-tree c =
 
 pub refute_iff-requires-clause-there : goal.refute_iff-requires-clause-there
 refute_iff-requires-clause-there c =
-    let d = c.args.draft.now in
     let d1 = c.connect.new.draft in
     let d2 = c.connect-2.new.draft in
     let x2 = AddsTrees_extends d1 d2 c.in_ok-back.ensures.grows in

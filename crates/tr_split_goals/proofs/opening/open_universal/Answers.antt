@@ -10,7 +10,8 @@ use Rattle.tr_split.specs.Split.{split}
 use Rattle.tr_split_goals.specs.declared.over.Over.TheVariants as stands
 use Rattle.tr_split_goals.specs.Over.{wholes, inners}
 use Rattle.tr_split_goals.proofs.Inner.{opened_formula}
-use Rattle.tr_split_goals.proofs.Opened.{param_at, opened_split, wholes_ends, inner_ends, kind}
+use Rattle.task_parts.proofs.Opened.{kind}
+use Rattle.tr_split_goals.proofs.Opened.{param_at, opened_split, wholes_ends, inner_ends}
 use Rattle.tr_split_goals.proofs.opening.open_universal.Goals as goal
 use Rattle.tasks.proofs.outside.Passed.{no_value}
 
@@ -23,9 +24,6 @@ ends_over-requires-clause-front c =
     let x1 = AddsTrees_extends d d1 c.in_ok-param.ensures.grows in
     let x2 = AddsTrees_extends d1 d2 c.in_ok-inner.ensures.grows in
     let y : Extends d d2 = Extends_trans d d1 d2 x1 x2 in
-    let TY = tree_at d.trees c.args.ty in
-    let B = tree_at d.trees c.args.body in
-    let param = c.in_ok-param.param in
     formulas_later d d2 y F c.requires.front
 
 pub ends_over-requires-clause-ends : goal.ends_over-requires-clause-ends
@@ -97,41 +95,32 @@ returns-clause-ends c =
     ap (λ (z : Tree). map (λ (v : Tree). inst v z) (split (tree_at d2.trees c.args.body))) p2 ∙ ap (λ (z : Tree). map (λ (v : Tree). inst v P) (split z)) b2 ∙ sym (opened_split d c.args.goal c.args.ty c.args.body c.requires.goal c.requires.tree P) ∙ ap split (sym i3) in
     inner_ends d d3 c.in_ok-made.made.items (trees_at d.trees F) (trees_at d2.trees F) (split (tree_at d3.trees id)) (inners d2.trees (stands.Universal c.args.ty param) (tree_at d2.trees c.args.body)) (same d d2 y F c.requires.front) q c.in_ok-made.ensures.ends
 
-pub returns-in_err-param-clause-formula : goal.returns-in_err-param-clause-formula
-returns-in_err-param-clause-formula c = no_value _ _ c.from_residual.result c.from_residual.ensures.1
+pub returns-in_err-param : goal.returns-in_err-param
+returns-in_err-param c = record {
+  formula = no_value _ _ c.from_residual.result c.from_residual.ensures.1;
+  is = no_value _ _ c.from_residual.result c.from_residual.ensures.1;
+  below = no_value _ _ c.from_residual.result c.from_residual.ensures.1;
+  ends = no_value _ _ c.from_residual.result c.from_residual.ensures.1;
+  grows = AddsTrees_extends _ _ c.parameter.ensures.grows;
+}
 
-pub returns-in_err-param-clause-is : goal.returns-in_err-param-clause-is
-returns-in_err-param-clause-is c = no_value _ _ c.from_residual.result c.from_residual.ensures.1
+pub returns-in_err-inner : goal.returns-in_err-inner
+returns-in_err-inner c = record {
+  formula = no_value _ _ c.from_residual-in_err-inner.result c.from_residual-in_err-inner.ensures.1;
+  is = no_value _ _ c.from_residual-in_err-inner.result c.from_residual-in_err-inner.ensures.1;
+  below = no_value _ _ c.from_residual-in_err-inner.result c.from_residual-in_err-inner.ensures.1;
+  ends = no_value _ _ c.from_residual-in_err-inner.result c.from_residual-in_err-inner.ensures.1;
+  grows = AddsTrees_extends _ _ (AddsTrees_trans _ _ _ c.in_ok-param.ensures.grows c.instance.ensures.grows);
+}
 
-pub returns-in_err-param-clause-below : goal.returns-in_err-param-clause-below
-returns-in_err-param-clause-below c = no_value _ _ c.from_residual.result c.from_residual.ensures.1
-
-pub returns-in_err-param-clause-ends : goal.returns-in_err-param-clause-ends
-returns-in_err-param-clause-ends c = no_value _ _ c.from_residual.result c.from_residual.ensures.1
-
-pub returns-in_err-inner-clause-formula : goal.returns-in_err-inner-clause-formula
-returns-in_err-inner-clause-formula c = no_value _ _ c.from_residual-in_err-inner.result c.from_residual-in_err-inner.ensures.1
-
-pub returns-in_err-inner-clause-is : goal.returns-in_err-inner-clause-is
-returns-in_err-inner-clause-is c = no_value _ _ c.from_residual-in_err-inner.result c.from_residual-in_err-inner.ensures.1
-
-pub returns-in_err-inner-clause-below : goal.returns-in_err-inner-clause-below
-returns-in_err-inner-clause-below c = no_value _ _ c.from_residual-in_err-inner.result c.from_residual-in_err-inner.ensures.1
-
-pub returns-in_err-inner-clause-ends : goal.returns-in_err-inner-clause-ends
-returns-in_err-inner-clause-ends c = no_value _ _ c.from_residual-in_err-inner.result c.from_residual-in_err-inner.ensures.1
-
-pub returns-in_err-made-clause-formula : goal.returns-in_err-made-clause-formula
-returns-in_err-made-clause-formula c = no_value _ _ c.from_residual-in_err-made.result c.from_residual-in_err-made.ensures.1
-
-pub returns-in_err-made-clause-is : goal.returns-in_err-made-clause-is
-returns-in_err-made-clause-is c = no_value _ _ c.from_residual-in_err-made.result c.from_residual-in_err-made.ensures.1
-
-pub returns-in_err-made-clause-below : goal.returns-in_err-made-clause-below
-returns-in_err-made-clause-below c = no_value _ _ c.from_residual-in_err-made.result c.from_residual-in_err-made.ensures.1
-
-pub returns-in_err-made-clause-ends : goal.returns-in_err-made-clause-ends
-returns-in_err-made-clause-ends c = no_value _ _ c.from_residual-in_err-made.result c.from_residual-in_err-made.ensures.1
+pub returns-in_err-made : goal.returns-in_err-made
+returns-in_err-made c = record {
+  formula = no_value _ _ c.from_residual-in_err-made.result c.from_residual-in_err-made.ensures.1;
+  is = no_value _ _ c.from_residual-in_err-made.result c.from_residual-in_err-made.ensures.1;
+  below = no_value _ _ c.from_residual-in_err-made.result c.from_residual-in_err-made.ensures.1;
+  ends = no_value _ _ c.from_residual-in_err-made.result c.from_residual-in_err-made.ensures.1;
+  grows = Extends_trans _ _ _ (AddsTrees_extends _ _ (AddsTrees_trans _ _ _ c.in_ok-param.ensures.grows c.in_ok-inner.ensures.grows)) c.ends_over.ensures.grows;
+}
 
 pub parameter-requires-clause-held : goal.parameter-requires-clause-held
 parameter-requires-clause-held c = c.requires.ty_held
@@ -141,15 +130,6 @@ instance-requires-clause-by_held c = c.in_ok-param.ensures.held
 
 pub instance-requires-clause-closed : goal.instance-requires-clause-closed
 instance-requires-clause-closed c = c.in_ok-param.ensures.closed
-
-pub returns-in_err-param-clause-grows : goal.returns-in_err-param-clause-grows
-returns-in_err-param-clause-grows c = AddsTrees_extends _ _ c.parameter.ensures.grows
-
-pub returns-in_err-inner-clause-grows : goal.returns-in_err-inner-clause-grows
-returns-in_err-inner-clause-grows c = AddsTrees_extends _ _ (AddsTrees_trans _ _ _ c.in_ok-param.ensures.grows c.instance.ensures.grows)
-
-pub returns-in_err-made-clause-grows : goal.returns-in_err-made-clause-grows
-returns-in_err-made-clause-grows c = Extends_trans _ _ _ (AddsTrees_extends _ _ (AddsTrees_trans _ _ _ c.in_ok-param.ensures.grows c.in_ok-inner.ensures.grows)) c.ends_over.ensures.grows
 
 pub returns-clause-grows : goal.returns-clause-grows
 returns-clause-grows c = Extends_trans _ _ _ (AddsTrees_extends _ _ (AddsTrees_trans _ _ _ c.in_ok-param.ensures.grows c.in_ok-inner.ensures.grows)) c.in_ok-made.ensures.grows

@@ -25,19 +25,13 @@ ends_over-requires-clause-front c =
     let F = c.args.front.now in
     let d1 = c.instance.new.g in
     let x1 = AddsTrees_extends d d1 c.in_ok-inner.ensures.grows in
-    let V = tree_at d.trees c.args.value in
-    let B = tree_at d.trees c.args.body in
-    let o = value_at d c.args.goal c.args.value c.args.body c.requires.goal c.requires.tree c.requires.value_held in
     formulas_later d d1 x1 F c.requires.front
 
 pub ends_over-requires-clause-over : goal.ends_over-requires-clause-over
 ends_over-requires-clause-over c =
     let d = c.args.draft.now in
-    let F = c.args.front.now in
     let d1 = c.instance.new.g in
     let x1 = AddsTrees_extends d d1 c.in_ok-inner.ensures.grows in
-    let V = tree_at d.trees c.args.value in
-    let B = tree_at d.trees c.args.body in
     let o = value_at d c.args.goal c.args.value c.args.body c.requires.goal c.requires.tree c.requires.value_held in
     over_later d d1 x1 (stands.Value c.args.value) o
 
@@ -49,7 +43,6 @@ ends_over-requires-clause-ends c =
     let x1 = AddsTrees_extends d d1 c.in_ok-inner.ensures.grows in
     let V = tree_at d.trees c.args.value in
     let B = tree_at d.trees c.args.body in
-    let o = value_at d c.args.goal c.args.value c.args.body c.requires.goal c.requires.tree c.requires.value_held in
     let v1 : tree_at d1.trees c.args.value ≡ V = x1.trees.same c.args.value.0 c.requires.value_held in
     let b1 : tree_at d1.trees c.args.body ≡ B = x1.trees.same c.args.body.0 c.requires.body_held in
     let q : split (tree_at d.trees c.args.goal) ≡ wholes d1.trees (stands.Value c.args.value) (tree_at d1.trees c.args.body) =
@@ -59,11 +52,7 @@ ends_over-requires-clause-ends c =
 pub returns-clause-formula : goal.returns-clause-formula
 returns-clause-formula c =
     let d = c.args.draft.now in
-    let F = c.args.front.now in
     let d1 = c.instance.new.g in
-    let x1 = AddsTrees_extends d d1 c.in_ok-inner.ensures.grows in
-    let V = tree_at d.trees c.args.value in
-    let B = tree_at d.trees c.args.body in
     let o = value_at d c.args.goal c.args.value c.args.body c.requires.goal c.requires.tree c.requires.value_held in
     let i = c.in_ok-inner.ensures in
     formula_later d1 c.ends_over.new.draft c.in_ok-made.ensures.grows c.in_ok-inner.inner (valued_formula d c.args.goal c.args.body c.args.value c.requires.goal c.requires.tree o d1 c.in_ok-inner.inner i.grows.task i.held i.keeps)
@@ -73,10 +62,8 @@ returns-clause-below c =
     let d = c.args.draft.now in
     let F = c.args.front.now in
     let d1 = c.instance.new.g in
-    let x1 = AddsTrees_extends d d1 c.in_ok-inner.ensures.grows in
     let V = tree_at d.trees c.args.value in
     let B = tree_at d.trees c.args.body in
-    let o = value_at d c.args.goal c.args.value c.args.body c.requires.goal c.requires.tree c.requires.value_held in
     let d2 = c.ends_over.new.draft in
     let id = c.in_ok-inner.inner in
     let e : tree_at d2.trees id ≡ tree_at d1.trees id = c.in_ok-made.ensures.grows.trees.same id.0 c.in_ok-inner.ensures.held in
@@ -91,7 +78,6 @@ returns-clause-ends c =
     let x1 = AddsTrees_extends d d1 c.in_ok-inner.ensures.grows in
     let V = tree_at d.trees c.args.value in
     let B = tree_at d.trees c.args.body in
-    let o = value_at d c.args.goal c.args.value c.args.body c.requires.goal c.requires.tree c.requires.value_held in
     let d2 = c.ends_over.new.draft in
     let x2 = c.in_ok-made.ensures.grows in
     let id = c.in_ok-inner.inner in
@@ -102,41 +88,29 @@ returns-clause-ends c =
     ap (λ (z : Tree). map (λ (v : Tree). inst v z) (split (tree_at d1.trees c.args.body))) v1 ∙ ap (λ (z : Tree). map (λ (v : Tree). inst v V) (split z)) b1 ∙ sym (valued_split d c.args.goal c.args.value c.args.body c.requires.goal c.requires.tree V) ∙ ap split (sym i2) in
     inner_ends d d2 c.in_ok-made.made.items (trees_at d.trees F) (trees_at d1.trees F) (split (tree_at d2.trees id)) (inners d1.trees (stands.Value c.args.value) (tree_at d1.trees c.args.body)) (same d d1 x1 F c.requires.front) q c.in_ok-made.ensures.ends
 
-pub returns-in_err-inner-clause-formula : goal.returns-in_err-inner-clause-formula
-returns-in_err-inner-clause-formula c = no_value _ _ c.from_residual.result c.from_residual.ensures.1
+pub returns-in_err-inner : goal.returns-in_err-inner
+returns-in_err-inner c = record {
+  formula = no_value _ _ c.from_residual.result c.from_residual.ensures.1;
+  is = no_value _ _ c.from_residual.result c.from_residual.ensures.1;
+  below = no_value _ _ c.from_residual.result c.from_residual.ensures.1;
+  ends = no_value _ _ c.from_residual.result c.from_residual.ensures.1;
+  grows = AddsTrees_extends _ _ c.instance.ensures.grows;
+}
 
-pub returns-in_err-inner-clause-is : goal.returns-in_err-inner-clause-is
-returns-in_err-inner-clause-is c = no_value _ _ c.from_residual.result c.from_residual.ensures.1
-
-pub returns-in_err-inner-clause-below : goal.returns-in_err-inner-clause-below
-returns-in_err-inner-clause-below c = no_value _ _ c.from_residual.result c.from_residual.ensures.1
-
-pub returns-in_err-inner-clause-ends : goal.returns-in_err-inner-clause-ends
-returns-in_err-inner-clause-ends c = no_value _ _ c.from_residual.result c.from_residual.ensures.1
-
-pub returns-in_err-made-clause-formula : goal.returns-in_err-made-clause-formula
-returns-in_err-made-clause-formula c = no_value _ _ c.from_residual-in_err-made.result c.from_residual-in_err-made.ensures.1
-
-pub returns-in_err-made-clause-is : goal.returns-in_err-made-clause-is
-returns-in_err-made-clause-is c = no_value _ _ c.from_residual-in_err-made.result c.from_residual-in_err-made.ensures.1
-
-pub returns-in_err-made-clause-below : goal.returns-in_err-made-clause-below
-returns-in_err-made-clause-below c = no_value _ _ c.from_residual-in_err-made.result c.from_residual-in_err-made.ensures.1
-
-pub returns-in_err-made-clause-ends : goal.returns-in_err-made-clause-ends
-returns-in_err-made-clause-ends c = no_value _ _ c.from_residual-in_err-made.result c.from_residual-in_err-made.ensures.1
+pub returns-in_err-made : goal.returns-in_err-made
+returns-in_err-made c = record {
+  formula = no_value _ _ c.from_residual-in_err-made.result c.from_residual-in_err-made.ensures.1;
+  is = no_value _ _ c.from_residual-in_err-made.result c.from_residual-in_err-made.ensures.1;
+  below = no_value _ _ c.from_residual-in_err-made.result c.from_residual-in_err-made.ensures.1;
+  ends = no_value _ _ c.from_residual-in_err-made.result c.from_residual-in_err-made.ensures.1;
+  grows = Extends_trans _ _ _ (AddsTrees_extends _ _ c.in_ok-inner.ensures.grows) c.ends_over.ensures.grows;
+}
 
 pub instance-requires-clause-body_held : goal.instance-requires-clause-body_held
 instance-requires-clause-body_held c = c.requires.body_held
 
 pub instance-requires-clause-by_held : goal.instance-requires-clause-by_held
 instance-requires-clause-by_held c = c.requires.value_held
-
-pub returns-in_err-inner-clause-grows : goal.returns-in_err-inner-clause-grows
-returns-in_err-inner-clause-grows c = AddsTrees_extends _ _ c.instance.ensures.grows
-
-pub returns-in_err-made-clause-grows : goal.returns-in_err-made-clause-grows
-returns-in_err-made-clause-grows c = Extends_trans _ _ _ (AddsTrees_extends _ _ c.in_ok-inner.ensures.grows) c.ends_over.ensures.grows
 
 pub returns-clause-grows : goal.returns-clause-grows
 returns-clause-grows c = Extends_trans _ _ _ (AddsTrees_extends _ _ c.in_ok-inner.ensures.grows) c.in_ok-made.ensures.grows

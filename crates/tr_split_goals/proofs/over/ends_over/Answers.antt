@@ -55,14 +55,8 @@ returns-clause-ends c =
     all_ends c.loop-end.draft c.loop-end.made.items c.args.ends.now (trees_at d.trees c.args.front.now ++ extra_of d.trees c.args.over) (split (tree_at d.trees c.args.formula)) (whole_of d.trees c.args.over) (inner_of d.trees c.args.over)
     c.loop-end.end-index c.loop-end.invariant.made c.requires.ends.as_many c.loop-end-test.false c.loop-end.auto.end-index-end
 
-pub returns-in_err-step-clause-grows : goal.returns-in_err-step-clause-grows
-returns-in_err-step-clause-grows c = Extends_trans _ _ _ c.loop-end.invariant.grows c.part_end.ensures.grows
+pub returns-in_err-step : goal.returns-in_err-step
+returns-in_err-step c = record { grows = Extends_trans _ _ _ c.loop-end.invariant.grows c.part_end.ensures.grows; ends = no_value _ _ c.from_residual.result c.from_residual.ensures.1 }
 
-pub returns-in_err-push-clause-grows : goal.returns-in_err-push-clause-grows
-returns-in_err-push-clause-grows c = Extends_trans _ _ _ c.loop-end.invariant.grows c.part_end.ensures.grows
-
-pub returns-in_err-step-clause-ends : goal.returns-in_err-step-clause-ends
-returns-in_err-step-clause-ends c = no_value _ _ c.from_residual.result c.from_residual.ensures.1
-
-pub returns-in_err-push-clause-ends : goal.returns-in_err-push-clause-ends
-returns-in_err-push-clause-ends c = no_value _ _ c.from_residual-in_err-push.result c.from_residual-in_err-push.ensures.1
+pub returns-in_err-push : goal.returns-in_err-push
+returns-in_err-push c = record { grows = Extends_trans _ _ _ c.loop-end.invariant.grows c.part_end.ensures.grows; ends = no_value _ _ c.from_residual-in_err-push.result c.from_residual-in_err-push.ensures.1 }

@@ -32,7 +32,6 @@ negation-requires c =
 pub end_opened-requires-clause-front : goal.end_opened-requires-clause-front
 end_opened-requires-clause-front c =
     let d = c.args.draft.now in
-    let s = d.trees in
     let F = c.args.front.now in
     let d1 = c.negation.new.draft in
     let x : Extends d d1 = Extends_trans d c.instance.new.g c.negation.new.draft (AddsTrees_extends d c.instance.new.g c.in_ok-inner.ensures.grows) (AddsTrees_extends c.instance.new.g c.negation.new.draft c.in_ok-no_inner.ensures.grows) in
@@ -69,11 +68,14 @@ returns-clause-refutes c =
     record { within = r.within; is = r.is ∙ cc (b, q) }
     ) c.end_opened.ensures.refutes
 
-pub returns-in_err-inner-clause-refutes : goal.returns-in_err-inner-clause-refutes
-returns-in_err-inner-clause-refutes c = no_value _ _ c.from_residual.result c.from_residual.ensures.1
+pub returns-in_err-inner : goal.returns-in_err-inner
+returns-in_err-inner c = record { refutes = no_value _ _ c.from_residual.result c.from_residual.ensures.1; grows = AddsTrees_extends _ _ c.instance.ensures.grows }
 
-pub returns-in_err-no_inner-clause-refutes : goal.returns-in_err-no_inner-clause-refutes
-returns-in_err-no_inner-clause-refutes c = no_value _ _ c.from_residual-in_err-no_inner.result c.from_residual-in_err-no_inner.ensures.1
+pub returns-in_err-no_inner : goal.returns-in_err-no_inner
+returns-in_err-no_inner c = record {
+  refutes = no_value _ _ c.from_residual-in_err-no_inner.result c.from_residual-in_err-no_inner.ensures.1;
+  grows = AddsTrees_extends _ _ (AddsTrees_trans _ _ _ c.in_ok-inner.ensures.grows c.negation.ensures.grows);
+}
 
 pub formula_under_not-whole-requires-clause-formula : goal.formula_under_not-whole-requires-clause-formula
 formula_under_not-whole-requires-clause-formula c = c.last_formula-no_whole.ensures.formula
@@ -111,12 +113,6 @@ instance-requires-clause-by_held c = c.requires.term.held
 pub instance-requires-clause-closed : goal.instance-requires-clause-closed
 instance-requires-clause-closed c = c.requires.term.closed
 
-pub returns-in_err-inner-clause-grows : goal.returns-in_err-inner-clause-grows
-returns-in_err-inner-clause-grows c = AddsTrees_extends _ _ c.instance.ensures.grows
-
-pub returns-in_err-no_inner-clause-grows : goal.returns-in_err-no_inner-clause-grows
-returns-in_err-no_inner-clause-grows c = AddsTrees_extends _ _ (AddsTrees_trans _ _ _ c.in_ok-inner.ensures.grows c.negation.ensures.grows)
-
 pub returns-clause-grows : goal.returns-clause-grows
 returns-clause-grows c = Extends_trans _ _ _ (AddsTrees_extends _ _ (AddsTrees_trans _ _ _ c.in_ok-inner.ensures.grows c.in_ok-no_inner.ensures.grows)) c.end_opened.ensures.grows
 
@@ -134,21 +130,13 @@ end_opened-requires-clause-inner c =
     let p : tree_at s c.under_binder-part.result ≡ part = c.under_binder-part.ensures.universal (tree_at s c.args.ty) part w in
     let d2 = c.negation.new.draft in
     let y = c.in_ok-no_inner.ensures.grows in
-    let x = AddsTrees_extends d d2 (AddsTrees_trans d d1 d2 c.in_ok-inner.ensures.grows y) in
     formula_later d1 d2 (AddsTrees_extends d1 d2 y) c.in_ok-inner.inner (opened_formula d c.formula_under_not-whole.result c.under_binder-part.result c.args.term (tree_at s c.args.ty) c.formula_under_not-whole.ensures.formula (w ∙ ap (Two HForall (tree_at s c.args.ty)) (sym p)) c.requires.term d1 c.in_ok-inner.inner o.grows.task o.held o.keeps)
 
 pub end_opened-requires-clause-inner_is : goal.end_opened-requires-clause-inner_is
 end_opened-requires-clause-inner_is c =
     let d = c.args.draft.now in
     let s = d.trees in
-    let F = c.args.front.now in
     let d1 = c.instance.new.g in
-    let part = c.requires.end.part in
-    let ref = c.requires.end.refutes in
-    let o = c.in_ok-inner.ensures in
-    let n : tree_at s c.last_formula-no_whole.result ≡ neg (Two HForall (tree_at s c.args.ty) part) = c.last_formula-no_whole.ensures.is (trees_at s F) (neg (Two HForall (tree_at s c.args.ty) part)) ref in
-    let w : tree_at s c.formula_under_not-whole.result ≡ Two HForall (tree_at s c.args.ty) part = neg_same (tree_at s c.formula_under_not-whole.result) (Two HForall (tree_at s c.args.ty) part) (sym c.formula_under_not-whole.ensures.tree ∙ n) in
-    let p : tree_at s c.under_binder-part.result ≡ part = c.under_binder-part.ensures.universal (tree_at s c.args.ty) part w in
     let d2 = c.negation.new.draft in
     let y = c.in_ok-no_inner.ensures.grows in
     let x = AddsTrees_extends d d2 (AddsTrees_trans d d1 d2 c.in_ok-inner.ensures.grows y) in
@@ -161,19 +149,7 @@ end_opened-requires-clause-no_inner c = c.in_ok-no_inner.ensures.formula
 
 pub end_opened-requires-clause-no_inner_is : goal.end_opened-requires-clause-no_inner_is
 end_opened-requires-clause-no_inner_is c =
-    let d = c.args.draft.now in
-    let s = d.trees in
-    let F = c.args.front.now in
-    let d1 = c.instance.new.g in
-    let part = c.requires.end.part in
-    let ref = c.requires.end.refutes in
-    let o = c.in_ok-inner.ensures in
-    let n : tree_at s c.last_formula-no_whole.result ≡ neg (Two HForall (tree_at s c.args.ty) part) = c.last_formula-no_whole.ensures.is (trees_at s F) (neg (Two HForall (tree_at s c.args.ty) part)) ref in
-    let w : tree_at s c.formula_under_not-whole.result ≡ Two HForall (tree_at s c.args.ty) part = neg_same (tree_at s c.formula_under_not-whole.result) (Two HForall (tree_at s c.args.ty) part) (sym c.formula_under_not-whole.ensures.tree ∙ n) in
-    let p : tree_at s c.under_binder-part.result ≡ part = c.under_binder-part.ensures.universal (tree_at s c.args.ty) part w in
-    let d2 = c.negation.new.draft in
     let y = c.in_ok-no_inner.ensures.grows in
-    let x = AddsTrees_extends d d2 (AddsTrees_trans d d1 d2 c.in_ok-inner.ensures.grows y) in
     c.in_ok-no_inner.ensures.tree ∙ ap neg (sym (y.trees.same c.in_ok-inner.inner.0 c.in_ok-inner.ensures.held))
 
 pub end_opened-requires-clause-term_held : goal.end_opened-requires-clause-term_held
@@ -201,7 +177,6 @@ end_opened-requires-clause-whole_is c =
     let d1 = c.instance.new.g in
     let part = c.requires.end.part in
     let ref = c.requires.end.refutes in
-    let o = c.in_ok-inner.ensures in
     let n : tree_at s c.last_formula-no_whole.result ≡ neg (Two HForall (tree_at s c.args.ty) part) = c.last_formula-no_whole.ensures.is (trees_at s F) (neg (Two HForall (tree_at s c.args.ty) part)) ref in
     let w : tree_at s c.formula_under_not-whole.result ≡ Two HForall (tree_at s c.args.ty) part = neg_same (tree_at s c.formula_under_not-whole.result) (Two HForall (tree_at s c.args.ty) part) (sym c.formula_under_not-whole.ensures.tree ∙ n) in
     let p : tree_at s c.under_binder-part.result ≡ part = c.under_binder-part.ensures.universal (tree_at s c.args.ty) part w in
@@ -209,22 +184,13 @@ end_opened-requires-clause-whole_is c =
     let y = c.in_ok-no_inner.ensures.grows in
     let x = AddsTrees_extends d d2 (AddsTrees_trans d d1 d2 c.in_ok-inner.ensures.grows y) in
     let a : tree_at d2.trees c.under_binder-part.result ≡ tree_at s c.under_binder-part.result = x.trees.same c.under_binder-part.result.0 c.under_binder-part.ensures.held in
-    let b : tree_at d2.trees c.args.term ≡ tree_at s c.args.term = x.trees.same c.args.term.0 c.requires.term.held in
     let v : tree_at d2.trees c.args.ty ≡ tree_at s c.args.ty = x.trees.same c.args.ty.0 c.requires.ty in
     x.trees.same c.formula_under_not-whole.result.0 c.formula_under_not-whole.ensures.formula.held ∙ w ∙ sym (ap (λ (z : Tree). Two HForall z (tree_at d2.trees c.under_binder-part.result)) v ∙ ap (Two HForall (tree_at s c.args.ty)) (a ∙ p))
 
 pub end_opened-requires-clause-whole : goal.end_opened-requires-clause-whole
 end_opened-requires-clause-whole c =
     let d = c.args.draft.now in
-    let s = d.trees in
-    let F = c.args.front.now in
     let d1 = c.instance.new.g in
-    let part = c.requires.end.part in
-    let ref = c.requires.end.refutes in
-    let o = c.in_ok-inner.ensures in
-    let n : tree_at s c.last_formula-no_whole.result ≡ neg (Two HForall (tree_at s c.args.ty) part) = c.last_formula-no_whole.ensures.is (trees_at s F) (neg (Two HForall (tree_at s c.args.ty) part)) ref in
-    let w : tree_at s c.formula_under_not-whole.result ≡ Two HForall (tree_at s c.args.ty) part = neg_same (tree_at s c.formula_under_not-whole.result) (Two HForall (tree_at s c.args.ty) part) (sym c.formula_under_not-whole.ensures.tree ∙ n) in
-    let p : tree_at s c.under_binder-part.result ≡ part = c.under_binder-part.ensures.universal (tree_at s c.args.ty) part w in
     let d2 = c.negation.new.draft in
     let y = c.in_ok-no_inner.ensures.grows in
     let x = AddsTrees_extends d d2 (AddsTrees_trans d d1 d2 c.in_ok-inner.ensures.grows y) in

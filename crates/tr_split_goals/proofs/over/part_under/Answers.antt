@@ -17,7 +17,6 @@ use Rattle.tasks.proofs.outside.Passed.{no_value}
 pub end_under-requires-clause-front : goal.end_under-requires-clause-front
 end_under-requires-clause-front c =
     let d = c.args.draft.now in
-    let s = d.trees in
     let F = c.args.front.now in
     let d1 = c.negation.new.draft in
     let x : Extends d d1 = AddsTrees_extends d d1 c.in_ok-no_part.ensures.grows in
@@ -54,8 +53,8 @@ returns-clause-refutes c =
     record { within = r.within; is = r.is ∙ cc (b, h, q) }
     ) c.end_under.ensures.refutes
 
-pub returns-in_err-no_part-clause-refutes : goal.returns-in_err-no_part-clause-refutes
-returns-in_err-no_part-clause-refutes c = no_value _ _ c.from_residual.result c.from_residual.ensures.1
+pub returns-in_err-no_part : goal.returns-in_err-no_part
+returns-in_err-no_part c = record { refutes = no_value _ _ c.from_residual.result c.from_residual.ensures.1; grows = AddsTrees_extends _ _ c.negation.ensures.grows }
 
 pub formula_under_not-whole-requires-clause-formula : goal.formula_under_not-whole-requires-clause-formula
 formula_under_not-whole-requires-clause-formula c = c.last_formula-no_whole.ensures.formula
@@ -85,17 +84,12 @@ right_side-part-requires-clause-implication c =
 pub negation-requires : goal.negation-requires
 negation-requires c = c.right_side-part.ensures.formula
 
-pub returns-in_err-no_part-clause-grows : goal.returns-in_err-no_part-clause-grows
-returns-in_err-no_part-clause-grows c = AddsTrees_extends _ _ c.negation.ensures.grows
-
 pub returns-clause-grows : goal.returns-clause-grows
 returns-clause-grows c = Extends_trans _ _ _ (AddsTrees_extends _ _ c.in_ok-no_part.ensures.grows) c.end_under.ensures.grows
 
 pub end_under-requires-clause-hypothesis : goal.end_under-requires-clause-hypothesis
 end_under-requires-clause-hypothesis c =
     let d = c.args.draft.now in
-    let s = d.trees in
-    let F = c.args.front.now in
     let d1 = c.negation.new.draft in
     let x = AddsTrees_extends d d1 c.in_ok-no_part.ensures.grows in
     formula_later d d1 x c.args.hypothesis c.requires.hypothesis
@@ -106,8 +100,6 @@ end_under-requires-clause-no_part c = c.in_ok-no_part.ensures.formula
 pub end_under-requires-clause-no_part_is : goal.end_under-requires-clause-no_part_is
 end_under-requires-clause-no_part_is c =
     let d = c.args.draft.now in
-    let s = d.trees in
-    let F = c.args.front.now in
     let d1 = c.negation.new.draft in
     let x = AddsTrees_extends d d1 c.in_ok-no_part.ensures.grows in
     c.in_ok-no_part.ensures.tree ∙ ap neg (sym (x.trees.same c.right_side-part.result.0 c.right_side-part.ensures.formula.held))
@@ -115,8 +107,6 @@ end_under-requires-clause-no_part_is c =
 pub end_under-requires-clause-whole : goal.end_under-requires-clause-whole
 end_under-requires-clause-whole c =
     let d = c.args.draft.now in
-    let s = d.trees in
-    let F = c.args.front.now in
     let d1 = c.negation.new.draft in
     let x = AddsTrees_extends d d1 c.in_ok-no_part.ensures.grows in
     formula_later d d1 x c.formula_under_not-whole.result c.formula_under_not-whole.ensures.formula

@@ -33,7 +33,6 @@ negation-requires c =
 pub end_valued-requires-clause-front : goal.end_valued-requires-clause-front
 end_valued-requires-clause-front c =
     let d = c.args.draft.now in
-    let s = d.trees in
     let F = c.args.front.now in
     let d1 = c.connect.new.draft in
     let x : Extends d d1 = Extends_trans d c.negation.new.draft d1 (Extends_trans d c.instance.new.g c.negation.new.draft (AddsTrees_extends d c.instance.new.g c.in_ok-inner.ensures.grows) (AddsTrees_extends c.instance.new.g c.negation.new.draft c.in_ok-no_inner.ensures.grows)) (AddsTrees_extends c.negation.new.draft d1 c.in_ok-defined.ensures.grows) in
@@ -71,14 +70,20 @@ returns-clause-refutes c =
     record { within = r.within; is = r.is ∙ cc (b, q, l) }
     ) c.end_valued.ensures.refutes
 
-pub returns-in_err-inner-clause-refutes : goal.returns-in_err-inner-clause-refutes
-returns-in_err-inner-clause-refutes c = no_value _ _ c.from_residual.result c.from_residual.ensures.1
+pub returns-in_err-inner : goal.returns-in_err-inner
+returns-in_err-inner c = record { refutes = no_value _ _ c.from_residual.result c.from_residual.ensures.1; grows = AddsTrees_extends _ _ c.instance.ensures.grows }
 
-pub returns-in_err-no_inner-clause-refutes : goal.returns-in_err-no_inner-clause-refutes
-returns-in_err-no_inner-clause-refutes c = no_value _ _ c.from_residual-in_err-no_inner.result c.from_residual-in_err-no_inner.ensures.1
+pub returns-in_err-no_inner : goal.returns-in_err-no_inner
+returns-in_err-no_inner c = record {
+  refutes = no_value _ _ c.from_residual-in_err-no_inner.result c.from_residual-in_err-no_inner.ensures.1;
+  grows = AddsTrees_extends _ _ (AddsTrees_trans _ _ _ c.in_ok-inner.ensures.grows c.negation.ensures.grows);
+}
 
-pub returns-in_err-defined-clause-refutes : goal.returns-in_err-defined-clause-refutes
-returns-in_err-defined-clause-refutes c = no_value _ _ c.from_residual-in_err-defined.result c.from_residual-in_err-defined.ensures.1
+pub returns-in_err-defined : goal.returns-in_err-defined
+returns-in_err-defined c = record {
+  refutes = no_value _ _ c.from_residual-in_err-defined.result c.from_residual-in_err-defined.ensures.1;
+  grows = AddsTrees_extends _ _ (AddsTrees_trans _ _ _ (AddsTrees_trans _ _ _ c.in_ok-inner.ensures.grows c.in_ok-no_inner.ensures.grows) c.connect.ensures.grows);
+}
 
 pub formula_under_not-whole-requires-clause-formula : goal.formula_under_not-whole-requires-clause-formula
 formula_under_not-whole-requires-clause-formula c = c.last_formula-no_whole.ensures.formula
@@ -116,27 +121,10 @@ instance-requires-clause-by_held c = c.requires.value.term.held
 pub instance-requires-clause-closed : goal.instance-requires-clause-closed
 instance-requires-clause-closed c = c.requires.value.term.closed
 
-pub returns-in_err-inner-clause-grows : goal.returns-in_err-inner-clause-grows
-returns-in_err-inner-clause-grows c = AddsTrees_extends _ _ c.instance.ensures.grows
-
-pub returns-in_err-no_inner-clause-grows : goal.returns-in_err-no_inner-clause-grows
-returns-in_err-no_inner-clause-grows c = AddsTrees_extends _ _ (AddsTrees_trans _ _ _ c.in_ok-inner.ensures.grows c.negation.ensures.grows)
-
-pub returns-in_err-defined-clause-grows : goal.returns-in_err-defined-clause-grows
-returns-in_err-defined-clause-grows c = AddsTrees_extends _ _ (AddsTrees_trans _ _ _ (AddsTrees_trans _ _ _ c.in_ok-inner.ensures.grows c.in_ok-no_inner.ensures.grows) c.connect.ensures.grows)
-
 pub connect-requires-clause-a : goal.connect-requires-clause-a
 connect-requires-clause-a c =
     let d = c.args.draft.now in
-    let s = d.trees in
-    let F = c.args.front.now in
     let d1 = c.instance.new.g in
-    let part = c.requires.end.part in
-    let ref = c.requires.end.refutes in
-    let o = c.in_ok-inner.ensures in
-    let n : tree_at s c.last_formula-no_whole.result ≡ neg (Two HLet (tree_at s c.args.value) part) = c.last_formula-no_whole.ensures.is (trees_at s F) (neg (Two HLet (tree_at s c.args.value) part)) ref in
-    let w : tree_at s c.formula_under_not-whole.result ≡ Two HLet (tree_at s c.args.value) part = neg_same (tree_at s c.formula_under_not-whole.result) (Two HLet (tree_at s c.args.value) part) (sym c.formula_under_not-whole.ensures.tree ∙ n) in
-    let p : tree_at s c.under_binder-part.result ≡ part = c.under_binder-part.ensures.valued (tree_at s c.args.value) part w in
     let dn = c.negation.new.draft in
     formula_later d dn (AddsTrees_extends d dn (AddsTrees_trans d d1 dn c.in_ok-inner.ensures.grows c.in_ok-no_inner.ensures.grows)) c.formula_under_not-whole.result c.formula_under_not-whole.ensures.formula
 
@@ -172,21 +160,13 @@ end_valued-requires-clause-inner c =
     let p : tree_at s c.under_binder-part.result ≡ part = c.under_binder-part.ensures.valued (tree_at s c.args.value) part w in
     let d2 = c.connect.new.draft in
     let y = (AddsTrees_trans d1 c.negation.new.draft d2 c.in_ok-no_inner.ensures.grows c.in_ok-defined.ensures.grows) in
-    let x = AddsTrees_extends d d2 (AddsTrees_trans d d1 d2 c.in_ok-inner.ensures.grows y) in
     formula_later d1 d2 (AddsTrees_extends d1 d2 y) c.in_ok-inner.inner (valued_formula d c.formula_under_not-whole.result c.under_binder-part.result c.args.value c.formula_under_not-whole.ensures.formula (w ∙ ap (Two HLet (tree_at s c.args.value)) (sym p)) c.requires.value d1 c.in_ok-inner.inner o.grows.task o.held o.keeps)
 
 pub end_valued-requires-clause-inner_is : goal.end_valued-requires-clause-inner_is
 end_valued-requires-clause-inner_is c =
     let d = c.args.draft.now in
     let s = d.trees in
-    let F = c.args.front.now in
     let d1 = c.instance.new.g in
-    let part = c.requires.end.part in
-    let ref = c.requires.end.refutes in
-    let o = c.in_ok-inner.ensures in
-    let n : tree_at s c.last_formula-no_whole.result ≡ neg (Two HLet (tree_at s c.args.value) part) = c.last_formula-no_whole.ensures.is (trees_at s F) (neg (Two HLet (tree_at s c.args.value) part)) ref in
-    let w : tree_at s c.formula_under_not-whole.result ≡ Two HLet (tree_at s c.args.value) part = neg_same (tree_at s c.formula_under_not-whole.result) (Two HLet (tree_at s c.args.value) part) (sym c.formula_under_not-whole.ensures.tree ∙ n) in
-    let p : tree_at s c.under_binder-part.result ≡ part = c.under_binder-part.ensures.valued (tree_at s c.args.value) part w in
     let d2 = c.connect.new.draft in
     let y = (AddsTrees_trans d1 c.negation.new.draft d2 c.in_ok-no_inner.ensures.grows c.in_ok-defined.ensures.grows) in
     let x = AddsTrees_extends d d2 (AddsTrees_trans d d1 d2 c.in_ok-inner.ensures.grows y) in
@@ -199,19 +179,9 @@ end_valued-requires-clause-no_inner c = formula_later c.negation.new.draft c.con
 
 pub end_valued-requires-clause-no_inner_is : goal.end_valued-requires-clause-no_inner_is
 end_valued-requires-clause-no_inner_is c =
-    let d = c.args.draft.now in
-    let s = d.trees in
-    let F = c.args.front.now in
     let d1 = c.instance.new.g in
-    let part = c.requires.end.part in
-    let ref = c.requires.end.refutes in
-    let o = c.in_ok-inner.ensures in
-    let n : tree_at s c.last_formula-no_whole.result ≡ neg (Two HLet (tree_at s c.args.value) part) = c.last_formula-no_whole.ensures.is (trees_at s F) (neg (Two HLet (tree_at s c.args.value) part)) ref in
-    let w : tree_at s c.formula_under_not-whole.result ≡ Two HLet (tree_at s c.args.value) part = neg_same (tree_at s c.formula_under_not-whole.result) (Two HLet (tree_at s c.args.value) part) (sym c.formula_under_not-whole.ensures.tree ∙ n) in
-    let p : tree_at s c.under_binder-part.result ≡ part = c.under_binder-part.ensures.valued (tree_at s c.args.value) part w in
     let d2 = c.connect.new.draft in
     let y = (AddsTrees_trans d1 c.negation.new.draft d2 c.in_ok-no_inner.ensures.grows c.in_ok-defined.ensures.grows) in
-    let x = AddsTrees_extends d d2 (AddsTrees_trans d d1 d2 c.in_ok-inner.ensures.grows y) in
     c.in_ok-defined.ensures.grows.trees.same c.in_ok-no_inner.no_inner.0 c.in_ok-no_inner.ensures.formula.held ∙ c.in_ok-no_inner.ensures.tree ∙ ap neg (sym (y.trees.same c.in_ok-inner.inner.0 c.in_ok-inner.ensures.held))
 
 pub end_valued-requires-clause-whole_is : goal.end_valued-requires-clause-whole_is
@@ -222,7 +192,6 @@ end_valued-requires-clause-whole_is c =
     let d1 = c.instance.new.g in
     let part = c.requires.end.part in
     let ref = c.requires.end.refutes in
-    let o = c.in_ok-inner.ensures in
     let n : tree_at s c.last_formula-no_whole.result ≡ neg (Two HLet (tree_at s c.args.value) part) = c.last_formula-no_whole.ensures.is (trees_at s F) (neg (Two HLet (tree_at s c.args.value) part)) ref in
     let w : tree_at s c.formula_under_not-whole.result ≡ Two HLet (tree_at s c.args.value) part = neg_same (tree_at s c.formula_under_not-whole.result) (Two HLet (tree_at s c.args.value) part) (sym c.formula_under_not-whole.ensures.tree ∙ n) in
     let p : tree_at s c.under_binder-part.result ≡ part = c.under_binder-part.ensures.valued (tree_at s c.args.value) part w in
@@ -240,14 +209,7 @@ pub end_valued-requires-clause-defined_is : goal.end_valued-requires-clause-defi
 end_valued-requires-clause-defined_is c =
     let d = c.args.draft.now in
     let s = d.trees in
-    let F = c.args.front.now in
     let d1 = c.instance.new.g in
-    let part = c.requires.end.part in
-    let ref = c.requires.end.refutes in
-    let o = c.in_ok-inner.ensures in
-    let n : tree_at s c.last_formula-no_whole.result ≡ neg (Two HLet (tree_at s c.args.value) part) = c.last_formula-no_whole.ensures.is (trees_at s F) (neg (Two HLet (tree_at s c.args.value) part)) ref in
-    let w : tree_at s c.formula_under_not-whole.result ≡ Two HLet (tree_at s c.args.value) part = neg_same (tree_at s c.formula_under_not-whole.result) (Two HLet (tree_at s c.args.value) part) (sym c.formula_under_not-whole.ensures.tree ∙ n) in
-    let p : tree_at s c.under_binder-part.result ≡ part = c.under_binder-part.ensures.valued (tree_at s c.args.value) part w in
     let d2 = c.connect.new.draft in
     let y = (AddsTrees_trans d1 c.negation.new.draft d2 c.in_ok-no_inner.ensures.grows c.in_ok-defined.ensures.grows) in
     let x = AddsTrees_extends d d2 (AddsTrees_trans d d1 d2 c.in_ok-inner.ensures.grows y) in
@@ -261,15 +223,7 @@ end_valued-requires-clause-defined_is c =
 pub end_valued-requires-clause-whole : goal.end_valued-requires-clause-whole
 end_valued-requires-clause-whole c =
     let d = c.args.draft.now in
-    let s = d.trees in
-    let F = c.args.front.now in
     let d1 = c.instance.new.g in
-    let part = c.requires.end.part in
-    let ref = c.requires.end.refutes in
-    let o = c.in_ok-inner.ensures in
-    let n : tree_at s c.last_formula-no_whole.result ≡ neg (Two HLet (tree_at s c.args.value) part) = c.last_formula-no_whole.ensures.is (trees_at s F) (neg (Two HLet (tree_at s c.args.value) part)) ref in
-    let w : tree_at s c.formula_under_not-whole.result ≡ Two HLet (tree_at s c.args.value) part = neg_same (tree_at s c.formula_under_not-whole.result) (Two HLet (tree_at s c.args.value) part) (sym c.formula_under_not-whole.ensures.tree ∙ n) in
-    let p : tree_at s c.under_binder-part.result ≡ part = c.under_binder-part.ensures.valued (tree_at s c.args.value) part w in
     let d2 = c.connect.new.draft in
     let y = (AddsTrees_trans d1 c.negation.new.draft d2 c.in_ok-no_inner.ensures.grows c.in_ok-defined.ensures.grows) in
     let x = AddsTrees_extends d d2 (AddsTrees_trans d d1 d2 c.in_ok-inner.ensures.grows y) in

@@ -13,7 +13,8 @@ use Rattle.evidence.proofs.Formulas.{same, formulas_later, formula_later, one_fo
 use Rattle.proof_scripts.specs.declared.line.Word.TheVariants as word
 use Rattle.proof_scripts.specs.declared.line.Formulas.TheVariants as formulas
 use Rattle.proof_scripts.specs.declared.line.Line.TheVariants as line
-use Rattle.tr_split_goals.proofs.Moving.{end_back, moved, front_length, lines_held}
+use Rattle.evidence.proofs.Ends.{end_back}
+use Rattle.tr_split_goals.proofs.Moving.{moved, front_length, lines_held}
 use Rattle.tr_split_goals.proofs.Scripts.{forall_at}
 use Rattle.tr_split_goals.proofs.refuting.refute_forall.Goals as goal
 use Rattle.tasks.proofs.outside.Passed.{no_value}

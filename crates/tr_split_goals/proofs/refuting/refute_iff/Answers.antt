@@ -12,7 +12,8 @@ use Rattle.evidence.specs.Laws.{Extends_trans, AddsTrees_extends}
 use Rattle.evidence.proofs.Formulas.{formulas_later, formula_later, one_formula}
 use Rattle.proof_scripts.specs.declared.line.Word.TheVariants as word
 use Rattle.proof_scripts.specs.declared.line.Line.TheVariants as line
-use Rattle.tr_split_goals.proofs.Moving.{end_back, moved, front_length, lines_held}
+use Rattle.evidence.proofs.Ends.{end_back}
+use Rattle.tr_split_goals.proofs.Moving.{moved, front_length, lines_held}
 use Rattle.tr_split_goals.proofs.Scripts.{iff_follows}
 use Rattle.tr_split_goals.proofs.refuting.refute_iff.Goals as goal
 use Rattle.tasks.proofs.outside.Passed.{no_value}

@@ -10,7 +10,8 @@ use Rattle.evidence.specs.Drafts.{AreFormulas}
 use Rattle.evidence.specs.Laws.{Extends_trans, AddsTrees_extends}
 use Rattle.evidence.proofs.Formulas.{formulas_later, one_formula}
 use Rattle.proof_scripts.specs.declared.line.Line.TheVariants as line
-use Rattle.tr_split_goals.proofs.Moving.{end_back, moved, front_length, lines_held}
+use Rattle.evidence.proofs.Ends.{end_back}
+use Rattle.tr_split_goals.proofs.Moving.{moved, front_length, lines_held}
 use Rattle.tr_split_goals.proofs.Scripts.{imp_follows}
 use Rattle.tr_split_goals.proofs.refuting.refute_imp.Goals as goal
 use Rattle.tasks.proofs.outside.Passed.{no_value}

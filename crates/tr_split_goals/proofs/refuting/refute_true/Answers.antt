@@ -10,7 +10,8 @@ use Rattle.evidence.specs.Laws.{Extends_trans, AddsTrees_extends}
 use Rattle.evidence.proofs.Formulas.{formulas_later, one_formula}
 use Rattle.proof_scripts.specs.declared.line.Word.TheVariants as word
 use Rattle.proof_scripts.specs.declared.line.Line.TheVariants as line
-use Rattle.tr_split_goals.proofs.Moving.{end_back, front_length, lines_held}
+use Rattle.evidence.proofs.Ends.{end_back}
+use Rattle.tr_split_goals.proofs.Moving.{front_length, lines_held}
 use Rattle.tr_split_goals.proofs.Scripts.{true_at}
 use Rattle.tr_split_goals.proofs.refuting.refute_true.Goals as goal
 use Rattle.tasks.proofs.outside.Passed.{no_value}

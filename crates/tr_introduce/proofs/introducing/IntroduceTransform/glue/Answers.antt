@@ -7,7 +7,11 @@ use Rattle.tasks.specs.Task.{neg, start}
 use Rattle.tasks.specs.Meaning.{trees_at, tasks_at}
 use Rattle.evidence.specs.Drafts.{Refutes, AreFormulas}
 use Rattle.tr_introduce.specs.Steps.{AreParamsBelow, EndsDraftAt}
-use Rattle.tr_introduce.proofs.Tasks.{own_locals, own_goal, own_below, own_end, end_there}
+use Rattle.evidence.proofs.Owned.{own_locals, own_goal}
+use Rattle.task_parts.proofs.Own.{own_below}
+use Rattle.task_parts.proofs.One.{end_there}
+use Rattle.tr_introduce.specs.Introduce.{introduced_task}
+use Rattle.tr_introduce.proofs.Tasks.{one_introduced, own_end}
 use Rattle.tr_introduce.proofs.introducing.IntroduceTransform.glue.Goals as goal
 
 pub glue_goal-requires-clause-front : goal.glue_goal-requires-clause-front
@@ -34,7 +38,8 @@ returns-clause-refutes c =
 pub bounds-ends-0 : goal.bounds-ends-0
 bounds-ends-0 c =
     let d = c.args.draft.now in
-    end_there d c.args.ends.now (tasks_at d.trees c.args.to.now.items) c.requires.gives c.requires.ends
+    let tasks = tasks_at d.trees c.args.to.now.items in
+    end_there d c.args.ends.now tasks (introduced_task d.task) (one_introduced d.task tasks c.requires.gives) c.requires.ends
 
 pub glue_goal-requires-clause-end : goal.glue_goal-requires-clause-end
 glue_goal-requires-clause-end c =

@@ -1,7 +1,6 @@
 use Rattle.tasks.specs.trees.Node.{tree_at}
 use Rattle.tasks.specs.Meaning.{trees_at, task_at}
 use Rattle.tr_split.proofs.Glued.{fact_kept}
-use Rattle.tr_split_goals.specs.Kept.{unlimited}
 use Rattle.tr_split_goals.proofs.splitting.SplitTransform.fact.Goals as goal
 
 pub fact_lemma-requires-clause-fact : goal.fact_lemma-requires-clause-fact
@@ -9,7 +8,7 @@ fact_lemma-requires-clause-fact c =
     let d = c.args.draft.now in
     let a = c.requires.stage.among in
     fact_kept d.task (task_at d.trees c.args.to.now) c.args.name (trees_at d.trees c.args.types.now) (tree_at d.trees c.args.formula)
-    (record { tasks = a.tasks; is = unlimited d.task a.tasks a.is; place = a.place; within = a.within; there = a.there }) c.requires.fact
+    (record { tasks = a.tasks; is = a.is; place = a.place; within = a.within; there = a.there }) c.requires.fact
 
 pub fact_lemma-requires-clause-types_held : goal.fact_lemma-requires-clause-types_held
 fact_lemma-requires-clause-types_held c = c.requires.types_held

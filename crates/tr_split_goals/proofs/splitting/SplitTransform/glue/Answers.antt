@@ -6,12 +6,13 @@ use Rattle.tasks.specs.trees.Node.{tree_at}
 use Rattle.tasks.specs.Task.{neg, start}
 use Rattle.tasks.specs.Meaning.{trees_at, tasks_at}
 use Rattle.evidence.specs.Drafts.{Refutes, AreFormulas}
-use Rattle.stage_limits.specs.Laws.{limited_gives}
 use Rattle.tr_split.specs.Split.{split, split_task}
 use Rattle.tr_split.specs.Glue.{EndsOfParts}
-use Rattle.tr_split.proofs.Glued.{own_locals, own_goal, own_ends}
+use Rattle.tr_split.specs.Kept.{parts_are_split}
+use Rattle.evidence.proofs.Owned.{own_locals, own_goal}
+use Rattle.tr_split.proofs.Glued.{own_ends}
 use Rattle.tr_split_goals.specs.Goals.{AreParamsBelow}
-use Rattle.tr_split_goals.proofs.Owned.{own_below}
+use Rattle.task_parts.proofs.Own.{own_below}
 use Rattle.tr_split_goals.proofs.splitting.SplitTransform.glue.Goals as goal
 
 pub glue_goal-requires-clause-front : goal.glue_goal-requires-clause-front
@@ -31,7 +32,7 @@ pub glue_goal-requires-clause-ends : goal.glue_goal-requires-clause-ends
 glue_goal-requires-clause-ends c =
     let d = c.args.draft.now in
     let from = c.args.from.now in
-    let is : tasks_at d.trees c.args.to.now.items ≡ split_task d.task = limited_gives (split_task d.task) (tasks_at d.trees c.args.to.now.items) c.requires.gives in
+    let is : tasks_at d.trees c.args.to.now.items ≡ split_task d.task = parts_are_split d.task (tasks_at d.trees c.args.to.now.items) c.requires.gives in
     let e = own_ends d from c.args.ends.now (tasks_at d.trees c.args.to.now.items) c.requires.own is c.requires.ends in
     subst (λ (z : List TermId). EndsOfParts d c.args.ends.now (trees_at d.trees z) (split (tree_at d.trees from.goal))) (sym c.as_slice.ensures) e
 

@@ -1,4 +1,4 @@
--- What a valid task gives for the glue of its goal.
+-- What a valid task gives: its parameters are below their number.
 use Rattle.std.proofs.Common.{◌≡◌, ℕ, ◌≤◌, length, All, sym, ap, subst, ◌∙◌, arith}
 use Rattle.std.proofs.lemmas.List.{length-map}
 use Rattle.std.proofs.lemmas.List.Elements.{All-weaker}
@@ -10,13 +10,15 @@ use Rattle.tasks.specs.Valid.{IsFormula}
 use Rattle.tasks.specs.Meaning.{trees_at}
 use Rattle.evidence.specs.Drafts.{DraftTree}
 use Rattle.evidence.specs.Stages.{IsOwnTask}
+use Rattle.instances.specs.Instances.{AreParamsBelow}
 use Rattle.instances.proofs.Kept.{parameters_within}
-use Rattle.tr_split_goals.specs.Goals.{AreParamsBelow}
 
--- the parameters of a valid task are below their number
+pub own_count : (d : DraftTree) (from : Task) → IsOwnTask d from → length d.task.params ≡ length from.params
+own_count d from o = sym (ap (λ (t : TaskTree). length t.params) o.is) ∙ length-map from.params (tree_at d.trees)
+
 pub own_below : (d : DraftTree) (from : Task) (n : ℕ) → n ≡ length from.params → IsOwnTask d from → AreParamsBelow n (trees_at d.trees from.locals) (tree_at d.trees from.goal)
 own_below d from n q o =
-    let k : length d.task.params ≡ n = sym (ap (λ (t : TaskTree). length t.params) o.is) ∙ length-map from.params (tree_at d.trees) ∙ sym q in
+    let k : length d.task.params ≡ n = own_count d from o ∙ sym q in
     let l : All (λ e. above_params e ≤ n) d.task.locals = All-weaker (IsFormula d.task d.task.params 0) (λ e. above_params e ≤ n) (λ e f. omega (arith, k, parameters_within d.task.params e f.parameters)) d.task.locals o.valid.locals in
     let g : above_params d.task.goal ≤ n = omega (arith, k, parameters_within d.task.params d.task.goal o.valid.goal.parameters) in
     record {

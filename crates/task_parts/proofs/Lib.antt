@@ -1,0 +1,4 @@
+pub mod One
+pub mod Facts
+pub mod Own
+pub mod Opened
