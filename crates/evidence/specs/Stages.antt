@@ -16,19 +16,12 @@ use Rattle.evidence.specs.Facts.{IsFact}
 pub use Rattle.stage_limits.specs.Limits.{Refusal, Misplaced, TooLarge}
 use Rattle.stage_limits.specs.Limits.{limited}
 pub use Rattle.stage_limits.specs.Laws.{limited_gives, limited_small}
-use Rattle.evidence.specs.declared.stage.MakeFault.{MakeFault}
-use Rattle.evidence.specs.declared.stage.MakeFault.TheVariants as make_fault
 use Rattle.evidence.specs.declared.stage.StageFault.{StageFault}
 use Rattle.evidence.specs.declared.stage.StageFault.TheVariants as fault
 
 -- what a task becomes, however large that is, or the place of a declaration for which it becomes nothing
 abbrev pub TaskEquation : Type 0
 TaskEquation = TaskTree → Result (List TaskTree) ℕ
-
--- want of memory, or what the equation says
-abbrev pub IsMakeFault : Result (List TaskTree) ℕ → MakeFault → Type 0
-IsMakeFault said make_fault.Memory = Unit {0}
-IsMakeFault said (make_fault.Misplaced decl) = said ≡ Err decl
 
 -- what a task becomes by a stage, or why it becomes nothing
 abbrev pub StageEquation : Type 0

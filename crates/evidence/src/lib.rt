@@ -17,4 +17,4 @@ pub use by::{
 pub use draft::Draft;
 pub use lift::lift_stage;
 pub use names::facts_named;
-pub use stage::{MakeFault, StageFault, Transform};
+pub use stage::{StageFault, Transform};

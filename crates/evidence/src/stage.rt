@@ -8,8 +8,8 @@ ghost use Rattle.tasks.specs.Meaning.{trees_at, task_at, tasks_at, TaskHeld, Tas
 ghost use Rattle.stage_limits.specs.Limits.{limited};
 ghost use Rattle.evidence.specs.Drafts.{Extends, Refutes, IsFormulaAt};
 ghost use Rattle.evidence.specs.Facts.{IsFact};
-ghost use Rattle.evidence.specs.declared.stage.MakeFault.{MakeFault};
-ghost use Rattle.evidence.specs.Stages.{TaskEquation, Gives, IsMakeFault, stage_equation, IsStageFault};
+ghost use Rattle.evidence.specs.declared.stage.StageFault.{StageFault};
+ghost use Rattle.evidence.specs.Stages.{TaskEquation, Gives, stage_equation, IsStageFault};
 ghost use Rattle.evidence.specs.Stages.{Keeps, IsOwnTask, InStage, EndIn};
 
 use crate::Draft;
@@ -19,22 +19,6 @@ use tasks::{Fact, Task};
 use term_store::Store;
 use trees::TermId;
 
-/// Why a transformation makes no tasks.
-#[derive(Clone, Copy)]
-pub enum MakeFault {
-    Memory,
-    /// A declaration that the transformation doesn't take, by its place.
-    Misplaced { decl: usize },
-}
-
-impl From<AllocError> for MakeFault {
-    ghost from_gives = { λ _ e. e ≡ MakeFault.Memory };
-
-    fn from(_: AllocError) -> Self {
-        MakeFault::Memory
-    }
-}
-
 /// Why a stage gives no tasks.
 #[derive(Clone, Copy)]
 pub enum StageFault {
@@ -43,6 +27,14 @@ pub enum StageFault {
     Misplaced { decl: usize },
     /// A task that would be too large.
     TooLarge,
+}
+
+impl From<AllocError> for StageFault {
+    ghost from_gives = { λ _ e. e ≡ StageFault.Memory };
+
+    fn from(_: AllocError) -> Self {
+        StageFault::Memory
+    }
 }
 
 // The tasks where they aren't too large.
@@ -64,16 +56,16 @@ pub trait Transform {
     /// Which tasks a task becomes, however large they are, or the place of a declaration for which it becomes none.
     ghost equation: { Self → TaskEquation };
 
-    /// What the equation says: its tasks, or a declaration that the transformation doesn't take. Want of memory apart, it
-    /// says nothing else.
-    fn make(&self, alloc: Global, store: &mut Store, task: &Task) -> Result<Vec<Task>, MakeFault>
+    /// The tasks of the equation, however large they are, or why the stage gives none: a transformation whose tasks can't be
+    /// made where they are too large may answer `TooLarge` here, and only there.
+    fn make(&self, alloc: Global, store: &mut Store, task: &Task) -> Result<Vec<Task>, StageFault>
         requires held { TaskHeld store.old task.now }
         requires valid { IsValid (task_at store.old task.now) }
         ensures held { IfOk result (λ ts. TasksHeld store.new ts.items) }
         ensures tasks { IfOk result (λ ts. equation self.now (task_at store.old task.now)
             ≡ Ok (tasks_at store.new ts.items)) }
         ensures fault { IfErr result
-            (IsMakeFault (equation self.now (task_at store.old task.now))) }
+            (IsStageFault (stage_equation (equation self.now) (task_at store.old task.now))) }
         ensures grows { Grows store.old store.new };
 
     /// The tasks, or the declaration that the transformation doesn't take, or `TooLarge` where a task has more than 2^20 tree
@@ -95,8 +87,7 @@ pub trait Transform {
     {
         match self.make(alloc, store, task) {
             Ok(tasks) => limited_tasks(store, tasks),
-            Err(MakeFault::Memory) => Err(StageFault::Memory),
-            Err(MakeFault::Misplaced { decl }) => Err(StageFault::Misplaced { decl }),
+            Err(fault) => Err(fault),
         }
     }
 

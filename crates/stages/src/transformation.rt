@@ -3,7 +3,7 @@
 ghost use Rattle.stages.specs.Transformations.{task_equation_of};
 ghost use Rattle.stages.specs.Kept.{keeps_of};
 
-use evidence::{Draft, MakeFault, Transform};
+use evidence::{Draft, StageFault, Transform};
 use std::alloc::{AllocError, Global};
 use tasks::{Fact, Store, Task, TermId};
 use tr_introduce::{Introduce, Remove};
@@ -20,7 +20,7 @@ pub enum Transformation {
 impl Transform for Transformation {
     ghost equation = { task_equation_of };
 
-    fn make(&self, alloc: Global, store: &mut Store, task: &Task) -> Result<Vec<Task>, MakeFault> {
+    fn make(&self, alloc: Global, store: &mut Store, task: &Task) -> Result<Vec<Task>, StageFault> {
         match self {
             Transformation::Remove(its) => its.make(alloc, store, task),
             Transformation::Split(its) => its.make(alloc, store, task),

@@ -7,7 +7,7 @@ ghost use Rattle.tr_introduce.specs.Kept.{introduce_keeps};
 
 use crate::gluing::glue_goal;
 use crate::introduction::introduced_task;
-use evidence::{Draft, MakeFault, Transform, fact_lemma};
+use evidence::{Draft, StageFault, Transform, fact_lemma};
 use std::alloc::{AllocError, Global};
 use task_parts::one_task;
 use tasks::{Fact, Task};
@@ -23,7 +23,7 @@ impl Transform for Introduce {
     ghost equation = { λ _ from. introduce_equation from };
 
     /// The task with what is introduced.
-    fn make(&self, alloc: Global, store: &mut Store, task: &Task) -> Result<Vec<Task>, MakeFault> {
+    fn make(&self, alloc: Global, store: &mut Store, task: &Task) -> Result<Vec<Task>, StageFault> {
         Ok(introduced_tasks(alloc, store, task)?)
     }
 

@@ -8,7 +8,7 @@ ghost use Rattle.tr_introduce.specs.Remove.{removed_task, remove_equation};
 ghost use Rattle.tr_introduce.specs.KeptDecls.{remove_keeps};
 
 use crate::removal::{old_place, removed_task};
-use evidence::{Draft, MakeFault, Transform, fact_lemma};
+use evidence::{Draft, StageFault, Transform, fact_lemma};
 use outside::{Seq, Text};
 use std::alloc::{AllocError, Global};
 use task_parts::one_task;
@@ -27,7 +27,7 @@ impl Transform for Remove {
     ghost equation = { λ x from. remove_equation x.props from };
 
     /// The task without what is removed.
-    fn make(&self, alloc: Global, store: &mut Store, task: &Task) -> Result<Vec<Task>, MakeFault> {
+    fn make(&self, alloc: Global, store: &mut Store, task: &Task) -> Result<Vec<Task>, StageFault> {
         let _ = store;
         Ok(removed_tasks(alloc, self.props.as_slice(), task)?)
     }

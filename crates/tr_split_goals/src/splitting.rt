@@ -3,7 +3,7 @@ ghost use Rattle.tr_split_goals.specs.Goals.{split_equation};
 ghost use Rattle.tr_split_goals.specs.Kept.{split_keeps};
 
 use crate::gluing::glue_goal;
-use evidence::{Draft, MakeFault, Transform, fact_lemma};
+use evidence::{Draft, StageFault, Transform, fact_lemma};
 use std::alloc::{AllocError, Global};
 use tasks::{Fact, Store, Task, TermId};
 use tr_split::split_goal;
@@ -16,7 +16,7 @@ impl Transform for Split {
     ghost equation = { λ _ from. split_equation from };
 
     /// A task for each part of the goal, in order.
-    fn make(&self, alloc: Global, store: &mut Store, task: &Task) -> Result<Vec<Task>, MakeFault> {
+    fn make(&self, alloc: Global, store: &mut Store, task: &Task) -> Result<Vec<Task>, StageFault> {
         Ok(split_goal(alloc, store, task)?)
     }
 
