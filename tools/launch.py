@@ -4,12 +4,16 @@ import re
 import shutil
 import subprocess
 import sys
+import tempfile
 
 ROOT = os.path.dirname(os.path.dirname(os.path.realpath(__file__)))
 # Lines of code that are proved in a minute, from nothing, on four processors of a common machine; and crates that are
 # loaded and built in a minute beside that.
 LINES_A_MINUTE = 1500
 CRATES_A_MINUTE = 4
+USAGE = "usage: why3lift print|names SRC DRV THEORY GOAL | lift SRC DRV THEORY GOAL REF... | check SRC THEORY GOAL DER | stress N"
+# How many words a command has; `lift` has one more for each refutation.
+FORMS = {"print": 5, "names": 5, "lift": 5, "check": 5}
 
 
 def tell(text):
@@ -111,6 +115,17 @@ def build(name):
     os.utime(binary_of(name))
 
 
+def is_usage(words):
+    """Returns whether why3lift answers these words with its usage line."""
+    count = FORMS.get(words[0] if words else "")
+    if count is None or len(words) < count or (len(words) > count and words[0] != "lift"):
+        return True
+    try:
+        return any(not it or it.startswith("-") or not it.encode() for it in words)
+    except UnicodeEncodeError:
+        return True
+
+
 def places_of(words):
     """Returns the places of the words that name files: the source, then the driver or the derivation, then the refutations."""
     command = words[0] if words else ""
@@ -156,6 +171,23 @@ def file_of_refusal(words, numbers):
     return file_of(words, numbers[1] if numbers[0] in (15, 91) or 50 <= numbers[0] < 60 else 0)
 
 
+def fault_words(code):
+    """Returns what the table of faults says of a code; nothing where it has none."""
+    with open(f"{ROOT}/crates/fault_rows/data/FAULTS.md", encoding="utf-8") as lines:
+        for line in lines:
+            cells = [it.strip() for it in line.split(" | ")]
+            if cells[0] == f"| {code}" and len(cells) > 2:
+                return cells[2]
+    return ""
+
+
+def tell_words(words, numbers):
+    """Says in one line what a refusal of the trial run means, and which command shows the place."""
+    file = file_of_refusal(words, numbers)
+    shows = f"; ./why3lift-explain {file} {' '.join(map(str, numbers))} says where" if file else ""
+    tell(f"why3lift-unproved: {fault_words(numbers[0])}{shows}")
+
+
 def explain(words, line):
     """Says what the line on standard error means, for a reader at a terminal."""
     found = re.fullmatch(r"(refused|absent|read fault): ([0-9 ]+)\n|usage: .*\n", line)
@@ -175,7 +207,10 @@ def explain(words, line):
 
 
 def run_proved(words):
-    """Runs why3lift with these words, as it was proved and built."""
+    """Runs why3lift with these words, as it was proved and built; wrong words get the usage line without a build."""
+    if is_usage(words) and not is_current("why3lift"):
+        tell(USAGE)
+        return 2
     build("why3lift")
     program = [binary_of("why3lift"), *words]
     if not sys.stderr.isatty():
@@ -204,28 +239,96 @@ def copied(at, word, data):
     return name
 
 
-def run_unproved(words):
-    """Runs the sources of why3lift, or after the word `explain` those of why3lift-explain, by a trial run."""
-    if not shutil.which("rt"):
-        tell("why3lift-unproved: the toolchain's command rt isn't there")
-        return 70
-    tell("why3lift-unproved: nothing was proved; this trial run takes a minute or two, over copies of the files")
-    if words[:1] == ["explain"]:
-        crate, words, places = "why3lift_explain", words[1:], [0]
-    else:
-        crate, places = "why3lift", places_of(words)
+def copies_of(words, places):
+    """Returns the words with the names of copies for those of files, and the options of the trial run that make the copies."""
     data = []
     shown = [copied(at, word, data) if at in places else word for at, word in enumerate(words)]
     if 2 in places and len(words) > 2:
         for file, name in imports_below(words[2], shown[2]):
             if os.path.isfile(file):
                 data += ["--data", f"{name}={os.path.abspath(file)}"]
+    return shown, data
+
+
+def tell_answer(words, lines, crate):
+    """Shows what came on standard error, and what a refusal means."""
+    for line in lines:
+        if not re.match(r"checked: |run=|rt: |case=", line):
+            tell(line)
+        if line.startswith("refused: ") and crate == "why3lift":
+            tell_words(words, [int(it) for it in line.split()[1:]])
+
+
+def run_unproved(words):
+    """Runs the sources of why3lift, or after the word `explain` those of why3lift-explain, by a trial run. Without words it
+    takes commands from standard input, a line each, where that is no terminal.
+    """
+    crate = "why3lift"
+    if words[:1] == ["explain"]:
+        crate, words, places = "why3lift_explain", words[1:], [0]
+    elif not words and not sys.stdin.isatty():
+        commands = [it.split() for it in sys.stdin if it.strip() and not it.startswith("#")]
+        return run_commands(commands or [[]])
+    elif is_usage(words):
+        tell(USAGE)
+        return 2
+    else:
+        places = places_of(words)
+    if not shutil.which("rt"):
+        tell("why3lift-unproved: the toolchain's command rt isn't there")
+        return 70
+    tell("why3lift-unproved: nothing was proved; this trial run takes a minute or two, over copies of the files")
+    shown, data = copies_of(words, places)
     how = {"cwd": f"{ROOT}/crates/{crate}", "stdin": subprocess.DEVNULL, "stderr": subprocess.PIPE}
     ran = subprocess.run(["rt", "try", *data, "--", *shown], check=False, **how)
-    for line in ran.stderr.decode(errors="replace").splitlines():
-        if not re.match(r"checked: |run=|rt: ", line):
-            tell(line)
-        if line.startswith("refused: ") and crate == "why3lift" and sys.stderr.isatty():
-            numbers = [int(it) for it in line.split()[1:]]
-            tell(f"./why3lift-explain {file_of_refusal(words, numbers)} {line[9:]} says where")
+    tell_answer(words, ran.stderr.decode(errors="replace").splitlines(), crate)
     return ran.returncode
+
+
+def run_commands(commands):
+    """Runs several commands by one trial run: shows each, its standard output, and its line of standard error. A command whose
+    words are wrong gets the usage line. Returns the greatest status of them.
+    """
+    right = [it for it in commands if not is_usage(it)]
+    if right and not shutil.which("rt"):
+        tell("why3lift-unproved: the toolchain's command rt isn't there")
+        return 70
+    tell("why3lift-unproved: nothing was proved; one trial run for all commands takes a minute or two")
+    answers = iter(tried(right)) if right else iter(())
+    worst = 0
+    for words in commands:
+        print("$", *words, flush=True)
+        status, out, lines = (2, "", [USAGE]) if is_usage(words) else next(answers)
+        sys.stdout.write(out)
+        sys.stdout.flush()
+        tell_answer(words, lines, "why3lift")
+        worst = max(worst, status)
+    return worst
+
+
+def tried(commands):
+    """Returns the status, the standard output and the lines of standard error of each command, by one trial run."""
+    with tempfile.TemporaryDirectory() as cases:
+        flags = {}
+        for at, words in enumerate(commands):
+            shown, data = copies_of(words, places_of(words))
+            flags.update(dict.fromkeys(data[1::2]))
+            with open(f"{cases}/case{at:04}", "w", encoding="utf-8"):
+                pass
+            with open(f"{cases}/case{at:04}.args", "w", encoding="utf-8") as it:
+                it.writelines(f"{word}\n" for word in shown)
+        how = {"cwd": f"{ROOT}/crates/why3lift", "stdin": subprocess.DEVNULL, "capture_output": True, "check": False}
+        options = [it for flag in flags for it in ("--data", flag)]
+        ran = subprocess.run(["rt", "try", "--cases", cases, *options], **how)
+    err = ran.stderr.decode(errors="replace")
+    outs = re.split(r"^== case\d+\n", ran.stdout.decode(errors="replace"), flags=re.M)[1:]
+    errs = re.split(r"^(case=case\d+ .*)\n", err, flags=re.M)
+    if len(outs) != len(commands) or len(errs) < 2 * len(commands) + 1:
+        tell(err)
+        sys.exit(70)
+    made = []
+    for at, out in enumerate(outs):
+        body, head = errs[2 * at], errs[2 * at + 1]
+        status = re.search(r"\b(?:exit|status|rc)=(\d+)", head)
+        made.append((int(status[1]) if status else 0, out, body.splitlines()))
+    return made
