@@ -6,3 +6,9 @@ pub mod Holes
 pub mod Templates
 pub mod Patterns
 pub mod Laws
+pub mod Constructors
+pub mod TypesAt
+pub mod DataTerms
+pub mod PatternTyping
+pub mod PatternParts
+pub mod PatternLaws

@@ -3,3 +3,4 @@ pub mod Open
 pub mod OpenTerms
 pub mod Templates
 pub mod Laws
+pub mod PatternTerms

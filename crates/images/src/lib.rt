@@ -17,6 +17,13 @@ ghost use Rattle.images.specs.Laws.{
   TestsAreAt,
   BindsAreAt,
 };
+ghost use Rattle.images.specs.PatternTerms.{
+  MatchesAreTyped,
+  ClosedMatchesAreFor,
+  MatchesHaveParts,
+  ConstructorsHaveResults,
+  TypesHaveResults,
+};
 
 /// The law of images, for readers to cite: where a rule keeps, at one node, what typing sees of a
 /// tree (its sort and type, that it is typed under the same binders, and no new type variable or
@@ -56,4 +63,20 @@ pub fn law_of_open_terms()
 pub fn law_of_patterns()
     ensures tests { TestsAreAt }
     ensures terms { BindsAreAt }
+{}
+
+/// The laws of what a pattern's test and the terms for its variables are, of a valid task: where the pattern is typed and the term
+/// has its type, the test is a typed formula and the terms are of the variables' types; they have the type variables of both, and
+/// the parameters of the term alone. It does nothing when it runs.
+pub fn law_of_pattern_terms()
+    ensures typed { MatchesAreTyped }
+    ensures closed { ClosedMatchesAreFor }
+    ensures parts { MatchesHaveParts }
+{}
+
+/// The laws of constructors of a valid task: a constructor and its projections have closed types for results, by the constructor's
+/// own role and by that of its type. It does nothing when it runs.
+pub fn law_of_constructors()
+    ensures results { ConstructorsHaveResults }
+    ensures of_types { TypesHaveResults }
 {}
