@@ -22,11 +22,11 @@ no_kinds : (s : Sort) (o : Option Sort) → (s ≡ Kind → ⊥) → (s ≡ sort
 no_kinds s o a b (inl e) = a e
 no_kinds s o a b (inr l) = b l.0
 
-no_patterns : (s t : Sort) (o : Option Sort) → s ≡ t → (t ≡ Pattern → ⊥) → (t ≡ sort.List → ⊥) → (s ≡ Pattern) ⊎ IsListOf Pattern s o → ⊥
+pub no_patterns : (s t : Sort) (o : Option Sort) → s ≡ t → (t ≡ Pattern → ⊥) → (t ≡ sort.List → ⊥) → (s ≡ Pattern) ⊎ IsListOf Pattern s o → ⊥
 no_patterns s t o q a b (inl e) = a (sym q ∙ e)
 no_patterns s t o q a b (inr l) = b (sym q ∙ l.0)
 
-expression_no_patterns : (s : Sort) (o : Option Sort) → IsExpression s → (s ≡ Pattern) ⊎ IsListOf Pattern s o → ⊥
+pub expression_no_patterns : (s : Sort) (o : Option Sort) → IsExpression s → (s ≡ Pattern) ⊎ IsListOf Pattern s o → ⊥
 expression_no_patterns s o (inl t) k = no_patterns s Term o t (λ e. cc) (λ e. cc) k
 expression_no_patterns s o (inr t) k = no_patterns s Formula o t (λ e. cc) (λ e. cc) k
 
@@ -57,7 +57,7 @@ not_list : (s : Sort) → IsExpression s → s ≡ sort.List → ⊥
 not_list s (inl e) q = let z : Term ≡ sort.List = sym e ∙ q in cc
 not_list s (inr e) q = let z : Formula ≡ sort.List = sym e ∙ q in cc
 
-expression_first : (e : Tree) → IsExpression (sort_of e) → first_sort e ≡ None
+pub expression_first : (e : Tree) → IsExpression (sort_of e) → first_sort e ≡ None
 expression_first e k = first_sort_none e (not_list (sort_of e) k)
 
 pub expression_members : (e : Tree) → IsExpression (sort_of e) → members e ≡ []
@@ -71,10 +71,10 @@ top_cell : (h : Head) (s : Sort) → IsExpression (top_sort h s) → h ≡ HCell
 top_cell HCell s k q = not_list sort.List k refl
 top_cell _ s k q = cc
 
-expression_cell : (e : Tree) → IsExpression (sort_of e) → head_of e ≡ HCell → ⊥
+pub expression_cell : (e : Tree) → IsExpression (sort_of e) → head_of e ≡ HCell → ⊥
 expression_cell e k q = top_cell (head_of e) (yield e) k q
 
-expression_arm : (p x : Tree) → IsExpression (sort_of (Two HArm p x)) → ⊥
+pub expression_arm : (p x : Tree) → IsExpression (sort_of (Two HArm p x)) → ⊥
 expression_arm p x (inl e) = cc
 expression_arm p x (inr e) = cc
 
@@ -114,7 +114,7 @@ branches_alike ty uy one other (Two _ a b) r s q x = tt
 branches_alike ty uy one other (Three h a b c) r s q x = tt
 
 -- the members of a list of one sort
-first_of : (s : Sort) (a b : Tree) → Fits (Two HCell a b) → IsList s (Two HCell a b) → (sort_of a ≡ s) × IsList s b
+pub first_of : (s : Sort) (a b : Tree) → Fits (Two HCell a b) → IsList s (Two HCell a b) → (sort_of a ≡ s) × IsList s b
 first_of s a b w (q, inl n) = absurd (cc)
 first_of s a b w (q, inr n) = let e : sort_of a ≡ s = cc in (e, subst (λ (z : Sort). IsListOf z (sort_of b) (first_sort b)) e w.0.1)
 

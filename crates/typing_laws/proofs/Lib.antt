@@ -1,0 +1,4 @@
+pub mod Sorted
+pub mod TypeInstances
+pub mod Changes
+pub mod Images

@@ -1,0 +1,2 @@
+pub mod HasTyping
+pub mod Laws
