@@ -1,0 +1,8 @@
+pub mod Rows
+pub mod Bodies
+pub mod Uses
+pub mod Changed
+pub mod Inlined
+pub mod AtTypes
+pub mod Equations
+pub mod InlinedAtTypes

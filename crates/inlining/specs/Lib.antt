@@ -1,0 +1,4 @@
+pub mod Groups
+pub mod Changed
+pub mod Inlining
+pub mod Laws
