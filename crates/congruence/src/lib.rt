@@ -1,11 +1,14 @@
 //! Evidence that two closed expressions are alike, one level of congruence at a time: negations, connectives, quantifiers,
-//! equations, a `let` and its body at its value, the value of a `let` and what a `match` asks, one term in the place of another,
-//! and links of alike expressions.
+//! equations, a `let` and its body at its value, the value of a `let` and what a `match` asks, conditionals (`if`, and `match` by its
+//! tests), one term in the place of another, and links of alike expressions.
 //!
 //! Contract: steps that show the two expressions equal or equivalent, from what shows their parts so.
 #![tactic(auto)]
 
 mod alike;
+mod cases;
+mod claims;
+mod conditionals;
 mod equations;
 mod joins;
 mod lets;
@@ -14,6 +17,9 @@ mod replacing;
 mod values;
 
 pub use alike::{AlikeBy, Halves, make_halves};
+pub use cases::{CaseLinks, alike_branch, alike_cases, alike_ifs, alike_matches};
+pub use claims::{alike_by_step, step_of_alike};
+pub use conditionals::{CaseValues, Conditional, if_values, match_values};
 pub use equations::alike_equal;
 pub use joins::{alike_join, alike_not};
 pub use lets::alike_let;

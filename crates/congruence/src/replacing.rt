@@ -19,7 +19,7 @@ use term_store::Grow;
 use trees::{Node, Sort, TermId};
 
 // The negated equation of a tree with a hole and a closed term.
-fn template_left(
+pub(crate) fn template_left(
     draft: &mut Draft,
     hole: TermId,
     left: TermId,
@@ -55,7 +55,7 @@ fn template_left(
 }
 
 // The negated equation of two terms.
-fn apart(draft: &mut Draft, l: TermId, r: TermId) -> Result<TermId, AllocError>
+pub(crate) fn apart(draft: &mut Draft, l: TermId, r: TermId) -> Result<TermId, AllocError>
     requires pair { ArePair draft.old l r }
     requires term { sort_of (tree_at draft.old.trees l) ≡ Sort.Term }
     ensures formula { IfOk result (IsFormulaAt draft.new) }
