@@ -8,7 +8,7 @@ use Rattle.rule_rows.specs.Rows.{where_true, where_false}
 use Rattle.evidence.specs.Drafts.{DraftTree}
 use Rattle.evidence.proofs.Rules.{some_map}
 use Rattle.proof_scripts.specs.declared.line.Line.{Line}
-use Rattle.proof_scripts.specs.Scripts.{LineTree, GivenLine, KeptLine, RuleLine, HoldingLine, FailingLine, CutLine, script_line_at, lines_at, sequents_under, Follows}
+use Rattle.proof_scripts.specs.Scripts.{LineTree, GivenLine, KeptLine, RuleLine, HoldingLine, FailingLine, CutLine, TailLine, script_line_at, lines_at, sequents_under, adds, Follows}
 
 module _ (d : DraftTree) (f : List Tree) where
   -- what is opened before other sequents
@@ -24,6 +24,7 @@ module _ (d : DraftTree) (f : List Tree) where
   follows_append (HoldingLine op i ∷ ls) ks [] us h g = absurd h
   follows_append (FailingLine op i ∷ ls) ks [] us h g = absurd h
   follows_append (CutLine a ∷ ls) ks [] us h g = absurd h
+  follows_append (TailLine r ∷ ls) ks [] us h g = absurd h
   follows_append (GivenLine k n ∷ ls) ks (t ∷ ts) us h g = (h.0, follows_append ls ks ts us h.1 g)
   follows_append (KeptLine k ps ∷ ls) ks (t ∷ ts) us h g = (h.0, follows_append ls ks ts us h.1 g)
   follows_append (RuleLine r a b ∷ ls) ks (t ∷ ts) us h g =
@@ -40,6 +41,9 @@ module _ (d : DraftTree) (f : List Tree) where
   follows_append (CutLine a ∷ ls) ks (t ∷ ts) us h g =
       let os = sequents_under t ((a ∷ []) ∷ (neg a ∷ []) ∷ []) in
       opened_before (ls ++ ks) os ts us (follows_append ls ks (os ++ ts) us h g)
+  follows_append (TailLine r ∷ ls) ks (t ∷ ts) us h g =
+      let os = sequents_under t (adds t r) in
+      (h.0, h.1, opened_before (ls ++ ks) os ts us (follows_append ls ks (os ++ ts) us h.2 g))
 
 -- the lines of both
 pub lines_append : (s : List Tree) (ls ks : List Line) → lines_at s (ls ++ ks) ≡ lines_at s ls ++ lines_at s ks

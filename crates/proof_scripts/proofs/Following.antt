@@ -1,7 +1,7 @@
 -- How scripts are followed: line by line, over drafts that grow.
-use Rattle.std.proofs.Common.{◌≡◌, ℕ, zero, suc, ◌+◌, ◌<◌, ◌≤◌, List, [], ◌∷◌, ◌++◌, map, length, slice_get, take, drop, All, Option, Some, None, Result, Ok, Err, IfOk, IsErrAnd, refl, sym, ap, subst, ◌∙◌, append_assoc, arith}
-use Rattle.std.proofs.lemmas.List.{map-append, length-map, length-append}
-use Rattle.std.proofs.lemmas.List.Elements.{All-cons, All-nil}
+use Rattle.std.proofs.Common.{◌≡◌, ℕ, zero, suc, ◌+◌, ◌<◌, ◌≤◌, List, [], ◌∷◌, ◌++◌, map, length, slice_get, take, drop, All, Option, Some, None, refl, sym, ap, subst, ◌∙◌, append_assoc, arith}
+use Rattle.std.proofs.lemmas.List.{map-append, length-map, length-append, append-nil}
+use Rattle.std.proofs.lemmas.List.Elements.{All-append, All-cons, All-nil}
 use Rattle.std.proofs.lemmas.Option.{slice_get_within}
 use Rattle.tasks.specs.Valid.{IsGroundFormula}
 use Rattle.trees.specs.declared.TermId.{TermId}
@@ -23,12 +23,15 @@ use Rattle.proof_scripts.specs.declared.line.Places.{Places}
 use Rattle.proof_scripts.specs.declared.line.Places.TheVariants as places
 use Rattle.proof_scripts.specs.declared.line.Line.{Line}
 use Rattle.proof_scripts.specs.declared.line.Line.TheVariants as line
-use Rattle.proof_scripts.specs.Scripts.{LineTree, GivenLine, KeptLine, RuleLine, HoldingLine, FailingLine, CutLine, word_rule, WordHeld, ids_of, added_ids, added_at, script_line_at, lines_at, LineHeld, LinesHeld, sequents_under, IsGiven, places_of, PlacesFit, IsByRule, Follows, CanFollow}
-use Rattle.proof_scripts.specs.Derived.{Consumes, RefuteUnder}
+use Rattle.proof_scripts.specs.Scripts.{LineTree, GivenLine, KeptLine, RuleLine, HoldingLine, FailingLine, CutLine, TailLine, word_rule, WordHeld, ids_of, added_ids, added_at, script_line_at, lines_at, LineHeld, LinesHeld, sequents_under, adds, IsOfTail, IsGiven, places_of, PlacesFit, IsByRule, Follows, CanFollow}
+use Rattle.proof_scripts.specs.Derived.{AreAdded, all_added, Consumes, RefuteUnder, AreByLines}
 use Rattle.plain_laws.proofs.Lists.{All-left, All-right}
 
 abbrev cut_line : Tree → LineTree
 cut_line a = CutLine a
+
+abbrev tail_line : RuleTree → LineTree
+tail_line r = TailLine r
 
 abbrev word_rule_cut : Tree → RuleTree
 word_rule_cut e = RCut e
@@ -97,6 +100,9 @@ module _ (d d1 : DraftTree) (x : Extends d d1) where
   by_rule_later : (s : List Tree) (r : RuleTree) (added : List (List Tree)) → IsByRule d.task s r added → IsByRule d1.task s r added
   by_rule_later s r added g = subst (λ (t : TaskTree). IsByRule t s r added) (sym x.task) g
 
+  of_tail_later : (s : List Tree) (r : RuleTree) → IsOfTail d.task s r → IsOfTail d1.task s r
+  of_tail_later s r g = subst (λ (t : TaskTree). IsOfTail t s r) (sym x.task) g
+
   pub follows_later : (f : List Tree) (ls : List LineTree) (ts : List (List Tree)) → Follows d f ls ts → Follows d1 f ls ts
   follows_later f [] [] h = tt
   follows_later f [] (t ∷ ts) h = h
@@ -106,9 +112,11 @@ module _ (d d1 : DraftTree) (x : Extends d d1) where
   follows_later f (HoldingLine op i ∷ ls) [] h = h
   follows_later f (FailingLine op i ∷ ls) [] h = h
   follows_later f (CutLine a ∷ ls) [] h = h
+  follows_later f (TailLine r ∷ ls) [] h = h
   follows_later f (GivenLine k n ∷ ls) (t ∷ ts) h = (given_later f t k n h.0, follows_later f ls ts h.1)
   follows_later f (KeptLine k ps ∷ ls) (t ∷ ts) h = (kept_later t ps k h.0, follows_later f ls ts h.1)
   follows_later f (RuleLine r a b ∷ ls) (t ∷ ts) h = (by_rule_later (f ++ t) r (a ++ b) h.0, follows_later f ls (sequents_under t a ++ (sequents_under t b ++ ts)) h.1)
+  follows_later f (TailLine r ∷ ls) (t ∷ ts) h = (of_tail_later t r h.0, h.1, follows_later f ls (sequents_under t (adds t r) ++ ts) h.2)
   follows_later f (HoldingLine op i ∷ ls) (t ∷ ts) h =
       some_map (connected (slice_get t i)) _ _ (λ p z. (z.0, follows_later f ls (sequents_under t (where_true op p.1 p.2) ++ ts) z.1)) h
   follows_later f (FailingLine op i ∷ ls) (t ∷ ts) h =
@@ -168,12 +176,20 @@ module _ (d d1 : DraftTree) (x : Extends d d1) where
   added_same None a = refl
   added_same (Some fs) a = ap (λ (z : List Tree). z ∷ []) (same d d1 x (ids_of fs) (a 0 [] (omega arith)))
 
+  pub all_later : (fs : List Formulas) → AreAdded d fs → AreAdded d1 fs
+  all_later fs a = λ k z l. formulas_later d d1 x _ (a k z l)
+
+  pub all_same : (fs : List Formulas) → AreAdded d fs → all_added d1.trees fs ≡ all_added d.trees fs
+  all_same [] a = refl
+  all_same (f ∷ fs) a = cc (same d d1 x (ids_of f) (a 0 [] (omega arith)), all_same fs (λ k z l. a (suc k) z (omega arith)))
+
   line_later : (l : Line) → LineHeld d l → LineHeld d1 l
   line_later (line.Given k n) h = tt
   line_later (line.Kept k ps) h = tt
   line_later (line.Holding op i) h = tt
   line_later (line.Failing op i) h = tt
   line_later (line.Cut a) h = formula_later d d1 x a h
+  line_later (line.Rule w) h = (word_later w h.0, h.1)
   line_later (line.By w a b) h = (word_later w h.0, added_later a h.1, added_later b h.2)
 
   line_same : (l : Line) → LineHeld d l → script_line_at d1.trees l ≡ script_line_at d.trees l
@@ -182,6 +198,7 @@ module _ (d d1 : DraftTree) (x : Extends d d1) where
   line_same (line.Holding op i) h = refl
   line_same (line.Failing op i) h = refl
   line_same (line.Cut a) h = ap cut_line (x.trees.same a.0 h.held)
+  line_same (line.Rule w) h = ap tail_line (word_same w h.0)
   line_same (line.By w a b) h = cc (word_same w h.0, added_same a h.1, added_same b h.2)
 
   pub lines_later : (ls : List Line) → LinesHeld d ls → LinesHeld d1 ls
@@ -205,11 +222,27 @@ module _ (d : DraftTree) (f t : List Tree) (ts : List (List Tree)) (s : List Tre
   pub given_here : (k n : ℕ) → l ≡ line.Given k n → Follows d f (lines_at s ls) (t ∷ ts) → IsGiven d f t k n × Follows d f (lines_at s rest) ts
   given_here k n e h = subst (λ (z : Line). Follows d f (script_line_at s z ∷ lines_at s rest) (t ∷ ts)) e (opened h)
 
+  pub kept_here : (k : ℕ) (ps : Places) → l ≡ line.Kept k ps → Follows d f (lines_at s ls) (t ∷ ts) → RefutesAt d t (places_of ps) k × Follows d f (lines_at s rest) ts
+  kept_here k ps e h = subst (λ (z : Line). Follows d f (script_line_at s z ∷ lines_at s rest) (t ∷ ts)) e (opened h)
+
   pub first_held : LinesHeld d ls → LineHeld d l
   first_held h = subst (LinesHeld d) q h 0 l (omega arith)
 
   pub rest_held : LinesHeld d ls → LinesHeld d rest
   rest_held h = λ k z m. subst (LinesHeld d) q h (suc k) z (omega arith)
+
+-- nothing is used
+pub consumes_none : (f : List Tree) (ls : List LineTree) → Consumes f ls [] 0
+consumes_none f ls = record { left = λ d r h. h }
+
+-- without premises nothing is used
+pub none_derived : (d : DraftTree) (s f t : List Tree) (ls : List LineTree) (fs : List Formulas) (steps : List ℕ) → length fs ≡ 0 → AreByLines d f (sequents_under t (all_added s fs)) ls steps steps 0
+none_derived d s f t ls [] steps e = record {
+  refute = record { more = []; is = sym (append-nil steps); refute = tt };
+  consumes = consumes_none f ls;
+  within = omega arith;
+}
+none_derived d s f t ls (x ∷ fs) steps e = absurd (omega (arith, e))
 
 -- one line is used, and others after it
 pub consumes_more : (f t : List Tree) (s : List Tree) (ls rest : List Line) (l : Line) (q : ls ≡ l ∷ rest) (n : ℕ) (us : List (List Tree))
@@ -218,9 +251,34 @@ consumes_more f t s ls rest l q n us step c =
     let e : drop (suc n) (lines_at s ls) ≡ drop n (lines_at s rest) = ap (λ (z : List Line). drop (suc n) (lines_at s z)) q in
     record { left = λ d r h. subst (λ (z : List LineTree). Follows d f z r) (sym e) (c.left d r (step d r h)) }
 
--- nothing is used
-pub consumes_none : (f : List Tree) (ls : List LineTree) → Consumes f ls [] 0
-consumes_none f ls = record { left = λ d r h. h }
+pub one_line_more : (s : List Tree) (ls rest : List Line) (l : Line) → ls ≡ l ∷ rest → length (lines_at s ls) ≡ length (lines_at s rest) + 1
+one_line_more s ls rest l q = let e : length (lines_at s ls) ≡ suc (length (lines_at s rest)) = ap (λ (z : List Line). length (lines_at s z)) q in omega arith
+
+pub some_line : (s : List Tree) (ls rest : List Line) (l : Line) → ls ≡ l ∷ rest → 1 ≤ length (lines_at s ls)
+some_line s ls rest l q = omega (arith, one_line_more s ls rest l q)
+
+-- ---- what premises add, one after the other
+-- two premises as a list
+module _ (d : DraftTree) (a b : Option Formulas) (fs : List Formulas) (e : map ids_of fs ≡ added_ids a ++ added_ids b) where
+  pub listed_held : All (AreFormulas d) (added_ids a) → All (AreFormulas d) (added_ids b) → AreAdded d fs
+  listed_held x y = subst (All (AreFormulas d)) (sym e) (All-append (AreFormulas d) (added_ids a) (added_ids b) x y)
+
+  pub listed_same : all_added d.trees fs ≡ added_at d.trees a ++ added_at d.trees b
+  listed_same = ap (map (trees_at d.trees)) e ∙ map-append (trees_at d.trees) (added_ids a) (added_ids b)
+
+pub under_listed : (t : List Tree) (xs ys zs : List (List Tree)) → zs ≡ xs ++ ys → sequents_under t xs ++ sequents_under t ys ≡ sequents_under t zs
+under_listed t xs ys zs e = sym (map-append (λ x. t ++ x) xs ys) ∙ ap (sequents_under t) (sym e)
+
+-- the first of them, and the others
+module _ (d : DraftTree) (fs rest : List Formulas) (f : Formulas) (q : fs ≡ f ∷ rest) where
+  pub first_added : AreAdded d fs → AreFormulas d (ids_of f)
+  first_added a = subst (AreAdded d) q a 0 (ids_of f) (omega arith)
+
+  pub rest_added : AreAdded d fs → AreAdded d rest
+  rest_added a = λ k z l. subst (AreAdded d) q a (suc k) z (omega arith)
+
+  pub sequents_are : (t : List Tree) → sequents_under t (all_added d.trees fs) ≡ (t ++ trees_at d.trees (ids_of f)) ∷ sequents_under t (all_added d.trees rest)
+  sequents_are t = ap (λ (z : List Formulas). sequents_under t (all_added d.trees z)) q
 
 -- one and then the other
 pub consumes_both : (f : List Tree) (s : List Tree) (ls behind : List Line) (ts us : List (List Tree)) (m n : ℕ) → behind ≡ drop m ls → Consumes f (lines_at s ls) ts m
@@ -247,7 +305,7 @@ behind_held d ls behind m q h = subst (LinesHeld d) (sym q) (All-right (LineHeld
 
 -- ---- the tail with what a premise adds
 module _ (d : DraftTree) (front tail w ids : List TermId) (e : w ≡ tail ++ ids) where
-  wider_trees : trees_at d.trees w ≡ trees_at d.trees tail ++ trees_at d.trees ids
+  pub wider_trees : trees_at d.trees w ≡ trees_at d.trees tail ++ trees_at d.trees ids
   wider_trees = ap (trees_at d.trees) e ∙ map-append (tree_at d.trees) tail ids
 
   pub wider_formulas : AreFormulas d tail → AreFormulas d ids → AreFormulas d w
@@ -259,36 +317,29 @@ module _ (d : DraftTree) (front tail w ids : List TermId) (e : w ≡ tail ++ ids
   pub wider_consumes : (f : List Tree) (ls : List LineTree) (n : ℕ) → Consumes f ls (trees_at d.trees w ∷ []) n → Consumes f ls ((trees_at d.trees tail ++ trees_at d.trees ids) ∷ []) n
   wider_consumes f ls n c = subst (λ (t : List Tree). Consumes f ls (t ∷ []) n) wider_trees c
 
-  pub wider_refute : (d1 : DraftTree) (f : List Tree) (k : ℕ) (old new : List ℕ) → new ≡ old ++ k ∷ [] → Refutes d1 k (f ++ trees_at d.trees w) → RefuteUnder d1 old new f ((trees_at d.trees tail ++ trees_at d.trees ids) ∷ [])
-  wider_refute d1 f k old new p r = record {
-    more = k ∷ [];
-    is = p;
-    refute = (subst (λ (t : List Tree). Refutes d1 k (f ++ t)) wider_trees r, tt);
-  }
-
 -- ---- what a rule needs
-refute_both : (d : DraftTree) (ks js : List ℕ) (ps qs : List (List Tree)) → RefuteAll d ks ps → RefuteAll d js qs → RefuteAll d (ks ++ js) (ps ++ qs)
-refute_both d [] js [] qs r s = s
-refute_both d [] js (p ∷ ps) qs r s = absurd r
-refute_both d (k ∷ ks) js [] qs r s = absurd r
-refute_both d (k ∷ ks) js (p ∷ ps) qs r s = (r.0, refute_both d ks js ps qs r.1 s)
-
 behind_front : (f t : List Tree) (added : List (List Tree)) → map (λ x. f ++ x) (sequents_under t added) ≡ sequents_under (f ++ t) added
 behind_front f t [] = refl
 behind_front f t (a ∷ added) = let e : f ++ (t ++ a) ≡ (f ++ t) ++ a = sym (append_assoc f t a) in cc (e, behind_front f t added)
 
-pub rule_added : (d d1 d2 : DraftTree) (x : Extends d1 d2) (f t : List Tree) (r : RuleTree) (a b : List (List Tree)) (none one two : List ℕ) → d2.task ≡ d.task → none ≡ [] → IsByRule d.task (f ++ t) r (a ++ b)
-    → RefuteUnder d1 none one f (sequents_under t a) → RefuteUnder d2 one two f (sequents_under t b) → RefuteAdded d2 (f ++ t) r two
-rule_added d d1 d2 x f t r a b none one two k n g u v =
-    let all : two ≡ u.more ++ v.more = v.is ∙ ap (λ z. z ++ v.more) (u.is ∙ ap (λ z. z ++ u.more) n) in
-    let first : RefuteAll d2 u.more (sequents_under (f ++ t) a) = subst (RefuteAll d2 u.more) (behind_front f t a) (refute_later d1 d2 x u.more _ u.refute) in
-    let second : RefuteAll d2 v.more (sequents_under (f ++ t) b) = subst (RefuteAll d2 v.more) (behind_front f t b) v.refute in
-    let both : sequents_under (f ++ t) a ++ sequents_under (f ++ t) b ≡ sequents_under (f ++ t) (a ++ b) = sym (map-append (λ x. (f ++ t) ++ x) a b) in
+pub rule_added : (d d1 : DraftTree) (f t : List Tree) (r : RuleTree) (added : List (List Tree)) (none steps : List ℕ) → d1.task ≡ d.task → none ≡ [] → IsByRule d.task (f ++ t) r added
+    → RefuteUnder d1 none steps f (sequents_under t added) → RefuteAdded d1 (f ++ t) r steps
+rule_added d d1 f t r added none steps k n g u =
+    let all : steps ≡ u.more = u.is ∙ ap (λ z. z ++ u.more) n in
+    let refuted : RefuteAll d1 u.more (sequents_under (f ++ t) added) = subst (RefuteAll d1 u.more) (behind_front f t added) u.refute in
     record {
-      sequents = sequents_under (f ++ t) (a ++ b);
-      refuted = subst (λ (ks : List ℕ). RefuteAll d2 ks (sequents_under (f ++ t) (a ++ b))) (sym all) (subst (RefuteAll d2 (u.more ++ v.more)) both (refute_both d2 u.more v.more _ _ first second));
-      row = subst (λ (z : TaskTree). IsRuleRow z (f ++ t) r (sequents_under (f ++ t) (a ++ b))) (sym k) g.row;
+      sequents = sequents_under (f ++ t) added;
+      refuted = subst (λ (ks : List ℕ). RefuteAll d1 ks (sequents_under (f ++ t) added)) (sym all) refuted;
+      row = subst (λ (z : TaskTree). IsRuleRow z (f ++ t) r (sequents_under (f ++ t) added)) (sym k) g.row;
     }
+
+-- a step for the first tail, and then steps for the others
+pub one_more : (d1 d2 : DraftTree) (x : Extends d1 d2) (f t : List Tree) (ts : List (List Tree)) (k : ℕ) (old mid new : List ℕ) → mid ≡ old ++ k ∷ [] → Refutes d1 k (f ++ t) → RefuteUnder d2 mid new f ts → RefuteUnder d2 old new f (t ∷ ts)
+one_more d1 d2 x f t ts k old mid new p r u = record {
+  more = k ∷ u.more;
+  is = u.is ∙ ap (λ z. z ++ u.more) p ∙ append_assoc old (k ∷ []) u.more;
+  refute = (refutes_later d1 d2 x k _ r, u.refute);
+}
 
 -- ---- places of the tail
 within_tail : (t : List Tree) (i : ℕ) (a : Tree) → Some a ≡ slice_get t i → i < length t

@@ -1,6 +1,7 @@
 -- Scripts of derivations: a list of lines, each of which says by what rule a sequent is refuted and which formulas each premise adds
 -- to it. The lines come in the order in which the sequents open: a premise's lines follow its step's line.
 use Rattle.std.specs.Prelude.{◌≡◌, ◌≤◌, ◌+◌, ℕ, List, [], ◌∷◌, ◌++◌, map, length, slice_get, All, Option, Some, None, IsSomeAnd}
+use Rattle.trees.specs.Binding.{inst, Param}
 use Rattle.trees.specs.declared.TermId.{TermId}
 use Rattle.trees.specs.Tree.{Tree}
 use Rattle.trees.specs.Node.{tree_at, Holds}
@@ -8,8 +9,8 @@ use Rattle.trees.specs.declared.Op.{Op}
 use Rattle.tasks.specs.Task.{TaskTree, neg}
 use Rattle.tasks.specs.Meaning.{trees_at}
 use Rattle.rule_rows.specs.Trees.{RuleTree, RNotTrue, RClash, RCut, RForall, RNotForall, RLetDef, RIfDef, RMatchDef, RNotNot, RIrrefl, RExists, RNotExists, RReplace, RFalse, RRefl, RDistinct, RProject}
-use Rattle.rule_rows.specs.Forms.{negated, connected}
-use Rattle.rule_rows.specs.Rows.{IsRuleRow, where_true, where_false}
+use Rattle.rule_rows.specs.Forms.{negated, connected, universal, existential, equation_sides, let_of, if_of, equal, alike, by_cases}
+use Rattle.rule_rows.specs.Rows.{IsRuleRow, IsNew, where_true, where_false}
 use Rattle.evidence.specs.Drafts.{DraftTree, Refutes, AreFormulas, IsFormulaAt, RefutesAt}
 use Rattle.evidence.specs.Rules.{NamesOwn, holding_rule, failing_rule}
 use Rattle.proof_scripts.specs.declared.line.Word.{Word}
@@ -23,7 +24,7 @@ use Rattle.proof_scripts.specs.declared.line.Line.TheVariants as line
 
 -- a line in trees: an earlier step that refutes the front and so many formulas at the end; one that refutes the formulas at some places
 -- of the tail; a rule, with the formulas that each premise adds, in two lists of at most one premise; the rule on a connective, or on
--- its negation, at a place of the tail; a cut
+-- its negation, at a place of the tail; a cut; a rule with its places in the tail, whose premises add what the rule says
 pub data LineTree : Type 0 where
   GivenLine : (step count : ℕ) → LineTree
   KeptLine : (step : ℕ) → (places : List ℕ) → LineTree
@@ -31,6 +32,7 @@ pub data LineTree : Type 0 where
   HoldingLine : (op : Op) → (place : ℕ) → LineTree
   FailingLine : (op : Op) → (place : ℕ) → LineTree
   CutLine : (formula : Tree) → LineTree
+  TailLine : (rule : RuleTree) → LineTree
 
 -- the rule that a word names
 abbrev pub word_rule : List Tree → Word → RuleTree
@@ -66,6 +68,28 @@ WordHeld s (word.Refl e) = Holds s e
 WordHeld s (word.Project e) = Holds s e
 WordHeld s _ = Unit {0}
 
+-- the words of the rules for which a line makes what their premises add
+abbrev pub IsMaker : Word → Type 0
+IsMaker (word.Holding op i) = ⊥
+IsMaker (word.Failing op i) = ⊥
+IsMaker (word.Cut a) = ⊥
+IsMaker (word.MatchDef e) = ⊥
+IsMaker (word.Project e) = ⊥
+IsMaker _ = Unit {0}
+
+-- the words of those of them that have one premise
+abbrev pub HasOnePremise : Word → Type 0
+HasOnePremise (word.NotNot i) = Unit {0}
+HasOnePremise (word.Forall i t) = Unit {0}
+HasOnePremise (word.NotForall i n) = Unit {0}
+HasOnePremise (word.Exists i n) = Unit {0}
+HasOnePremise (word.NotExists i t) = Unit {0}
+HasOnePremise (word.Replace i j e) = Unit {0}
+HasOnePremise (word.LetDef e) = Unit {0}
+HasOnePremise (word.IfDef e) = Unit {0}
+HasOnePremise (word.Refl e) = Unit {0}
+HasOnePremise _ = ⊥
+
 abbrev pub ids_of : Formulas → List TermId
 ids_of (formulas.One a) = a ∷ []
 ids_of (formulas.Two a b) = a ∷ b ∷ []
@@ -96,6 +120,7 @@ script_line_at s (line.By w a b) = RuleLine (word_rule s w) (added_at s a) (adde
 script_line_at s (line.Holding op i) = HoldingLine op i
 script_line_at s (line.Failing op i) = FailingLine op i
 script_line_at s (line.Cut a) = CutLine (tree_at s a)
+script_line_at s (line.Rule w) = TailLine (word_rule s w)
 
 abbrev pub lines_at : List Tree → List Line → List LineTree
 lines_at s ls = map (script_line_at s) ls
@@ -108,6 +133,7 @@ LineHeld d (line.By w a b) = WordHeld d.trees w × All (AreFormulas d) (added_id
 LineHeld d (line.Holding op i) = Unit {0}
 LineHeld d (line.Failing op i) = Unit {0}
 LineHeld d (line.Cut a) = IsFormulaAt d a
+LineHeld d (line.Rule w) = WordHeld d.trees w × IsMaker w
 
 abbrev pub LinesHeld : DraftTree → List Line → Type 0
 LinesHeld d ls = All (LineHeld d) ls
@@ -129,6 +155,35 @@ pub record IsByRule (t : TaskTree) (s : List Tree) (r : RuleTree) (added : List 
   pub names : NamesOwn t r
   pub row : IsRuleRow t s r (sequents_under s added)
 
+-- one premise, that adds this of what was found
+abbrev pub one_added : {X : Type 0} → Option X → (X → Tree) → List (List Tree)
+one_added None g = []
+one_added (Some x) g = (g x ∷ []) ∷ []
+
+-- What the premises of a rule add to a sequent, by the formulas at its places and by its trees: the same as in the table of rules.
+abbrev pub adds : List Tree → RuleTree → List (List Tree)
+adds s (RNotNot i) = one_added (negated (negated (slice_get s i))) (λ a. a)
+adds s (RForall i e) = one_added (universal (slice_get s i)) (λ p. inst p.1 e)
+adds s (RNotForall i n) = one_added (universal (negated (slice_get s i))) (λ p. neg (inst p.1 (Param n p.0)))
+adds s (RExists i n) = one_added (existential (slice_get s i)) (λ p. inst p.1 (Param n p.0))
+adds s (RNotExists i e) = one_added (existential (negated (slice_get s i))) (λ p. neg (inst p.1 e))
+adds s (RRefl e) = (equal e e ∷ []) ∷ []
+adds s (RReplace i j e) = one_added (equation_sides (slice_get s i)) (λ p. inst e p.1)
+adds s (RLetDef e) = one_added (let_of e) (λ p. alike e (inst p.1 p.0))
+adds s (RIfDef e) = one_added (if_of e) (λ p. by_cases p.0 e p.1 p.2)
+adds s _ = []
+
+-- the rule has a row in the table of rules over this sequent, by what its premises add
+pub record IsOfTail (t : TaskTree) (s : List Tree) (r : RuleTree) : Type 0 where
+  pub names : NamesOwn t r
+  pub row : IsRuleRow t s r (sequents_under s (adds s r))
+
+-- the parameter that a rule takes is in none of these formulas either
+abbrev pub IsNewTo : List Tree → RuleTree → Type 0
+IsNewTo f (RNotForall i n) = IsNew n f
+IsNewTo f (RExists i n) = IsNew n f
+IsNewTo f _ = Unit {0}
+
 -- The lines refute the front with each of these tails, one after the other.
 abbrev pub Follows : DraftTree → List Tree → List LineTree → List (List Tree) → Type 0
 Follows d f [] [] = Unit {0}
@@ -139,6 +194,7 @@ Follows d f (KeptLine k ps ∷ ls) (t ∷ ts) = RefutesAt d t ps k × Follows d 
 Follows d f (RuleLine r a b ∷ ls) (t ∷ ts) = IsByRule d.task (f ++ t) r (a ++ b) × Follows d f ls (sequents_under t a ++ (sequents_under t b ++ ts))
 Follows d f (HoldingLine op i ∷ ls) (t ∷ ts) = IsSomeAnd (connected (slice_get t i)) (λ p. (p.0 ≡ op) × Follows d f ls (sequents_under t (where_true op p.1 p.2) ++ ts))
 Follows d f (FailingLine op i ∷ ls) (t ∷ ts) = IsSomeAnd (connected (negated (slice_get t i))) (λ p. (p.0 ≡ op) × Follows d f ls (sequents_under t (where_false op p.1 p.2) ++ ts))
+Follows d f (TailLine r ∷ ls) (t ∷ ts) = IsOfTail d.task t r × IsNewTo f r × Follows d f ls (sequents_under t (adds t r) ++ ts)
 Follows d f (CutLine a ∷ ls) (t ∷ ts) = Follows d f ls (sequents_under t ((a ∷ []) ∷ (neg a ∷ []) ∷ []) ++ ts)
 
 -- they refute these, and others after them

@@ -1,15 +1,16 @@
 // Lines of scripts.
-ghost use Rattle.std.specs.Prelude.{◌≡◌, ◌++◌, List, IfOk};
+ghost use Rattle.std.specs.Prelude.{◌≡◌, ◌++◌, List, map, IfOk};
 ghost use Rattle.trees.specs.Tree.{Tree};
 ghost use Rattle.rule_rows.specs.Meaning.{rule_at, RuleHeld};
-ghost use Rattle.proof_scripts.specs.Scripts.{word_rule, WordHeld, ids_of};
+ghost use Rattle.proof_scripts.specs.Scripts.{word_rule, WordHeld, ids_of, added_ids};
+ghost use Rattle.proof_scripts.specs.Words.{rule_behind, WordFits};
 
 use evidence::{failing_rule, holding_rule, join_lists};
 use rule_rows::Rule;
 use std::alloc::{AllocError, Global};
 use trees::{Op, TermId};
 
-/// A rule with its places in the whole sequent and its trees. `Holding` takes a connective apart, `Failing` its negation.
+/// A rule with its places and its trees. `Holding` takes a connective apart, `Failing` its negation.
 #[derive(Clone, Copy)]
 pub enum Word {
     NotTrue(usize),
@@ -49,8 +50,9 @@ pub enum Formulas {
 }
 
 /// A line: an earlier step that refutes the front and so many formulas at the end of the tail; one that refutes the formulas at some
-/// places of the tail, without the front; a rule, with what each of its premises adds, of which it has at most two; or a rule on a
-/// connective, or on its negation, at a place of the tail, or a cut, whose premises add what the rule says.
+/// places of the tail, without the front; a rule with its places in the whole sequent and with what each of its premises adds, of
+/// which it has at most two; or a rule on a connective, or on its negation, at a place of the tail, a cut, or a rule with its places
+/// in the tail, whose premises add what the rule says, which is made.
 #[derive(Clone, Copy)]
 pub enum Line {
     Given(usize, usize),
@@ -59,6 +61,7 @@ pub enum Line {
     Holding(Op, usize),
     Failing(Op, usize),
     Cut(TermId),
+    Rule(Word),
 }
 
 /// What the premises of a rule add.
@@ -68,30 +71,39 @@ pub(crate) struct Sides {
     pub second: Option<Formulas>,
 }
 
-// The rule of a word.
-pub(crate) fn rule_of(word: Word) -> Rule
-    ensures tree { (s : List Tree) → rule_at s result ≡ word_rule s word }
+// The rule of a line: a word, the number of formulas before those in which its places are counted, and what its premises add.
+#[derive(Clone, Copy)]
+pub(crate) struct Opened {
+    pub before: usize,
+    pub word: Word,
+    pub sides: Sides,
+}
+
+// The rule of a word, with so many formulas before those in which its places are counted.
+pub(crate) fn rule_of(before: usize, word: Word) -> Rule
+    requires fits { WordFits before word }
+    ensures tree { (s : List Tree) → rule_at s result ≡ rule_behind before (word_rule s word) }
     ensures held { (s : List Tree) → WordHeld s word → RuleHeld s result }
 {
     match word {
-        Word::NotTrue(i) => Rule::NotTrue(i),
-        Word::Clash(i, j) => Rule::Clash(i, j),
-        Word::Holding(op, i) => holding_rule(op, i),
-        Word::Failing(op, i) => failing_rule(op, i),
+        Word::NotTrue(i) => Rule::NotTrue(before + i),
+        Word::Clash(i, j) => Rule::Clash(before + i, before + j),
+        Word::Holding(op, i) => holding_rule(op, before + i),
+        Word::Failing(op, i) => failing_rule(op, before + i),
         Word::Cut(a) => Rule::Cut(a),
-        Word::Forall(i, t) => Rule::Forall(i, t),
-        Word::NotForall(i, n) => Rule::NotForall(i, n),
+        Word::Forall(i, t) => Rule::Forall(before + i, t),
+        Word::NotForall(i, n) => Rule::NotForall(before + i, n),
         Word::LetDef(e) => Rule::LetDef(e),
         Word::IfDef(e) => Rule::IfDef(e),
         Word::MatchDef(e) => Rule::MatchDef(e),
-        Word::NotNot(i) => Rule::NotNot(i),
-        Word::Irrefl(i) => Rule::Irrefl(i),
-        Word::Exists(i, n) => Rule::Exists(i, n),
-        Word::NotExists(i, t) => Rule::NotExists(i, t),
-        Word::Replace(i, j, e) => Rule::Replace(i, j, e),
-        Word::False(i) => Rule::False(i),
+        Word::NotNot(i) => Rule::NotNot(before + i),
+        Word::Irrefl(i) => Rule::Irrefl(before + i),
+        Word::Exists(i, n) => Rule::Exists(before + i, n),
+        Word::NotExists(i, t) => Rule::NotExists(before + i, t),
+        Word::Replace(i, j, e) => Rule::Replace(before + i, before + j, e),
+        Word::False(i) => Rule::False(before + i),
         Word::Refl(e) => Rule::Refl(e),
-        Word::Distinct(i) => Rule::Distinct(i),
+        Word::Distinct(i) => Rule::Distinct(before + i),
         Word::Project(e) => Rule::Project(e),
     }
 }
@@ -107,5 +119,22 @@ pub(crate) fn tail_with(
     match added {
         Formulas::One(a) => join_lists(alloc, tail, &[a]),
         Formulas::Two(a, b) => join_lists(alloc, tail, &[a, b]),
+    }
+}
+
+// What the premises add, one after the other.
+pub(crate) fn premises_of(alloc: Global, sides: Sides) -> Result<Vec<Formulas>, AllocError>
+    ensures { IfOk result (λ v. map ids_of v.items
+        ≡ added_ids sides.first ++ added_ids sides.second) }
+{
+    match sides.first {
+        None => match sides.second {
+            None => Ok(Vec::new(alloc)),
+            Some(b) => Vec::from_slice(alloc, &[b]),
+        },
+        Some(a) => match sides.second {
+            None => Vec::from_slice(alloc, &[a]),
+            Some(b) => Vec::from_slice(alloc, &[a, b]),
+        },
     }
 }

@@ -5,7 +5,8 @@ ghost use Rattle.evidence.specs.Drafts.{AddsTrees, AreFormulas};
 ghost use Rattle.proof_scripts.specs.Scripts.{script_line_at, LineHeld, HoldingLine, FailingLine};
 ghost use Rattle.proof_scripts.specs.Derived.{CanOpen, HasRule, IsLineOpened};
 
-use crate::line::{Formulas, Line, Sides, Word};
+use crate::line::{Formulas, Line, Opened, Sides, Word};
+use crate::making::make_sides;
 use crate::sides::{negate_both, where_false, where_true};
 use evidence::{Draft, negation};
 use std::alloc::AllocError;
@@ -18,27 +19,43 @@ pub(crate) fn open_line(
     front: &[TermId],
     tail: &[TermId],
     line: Line,
-) -> Result<(Word, Sides), AllocError>
+) -> Result<Opened, AllocError>
     requires tail { AreFormulas draft.old tail.now }
     requires line { LineHeld draft.old line }
     requires rule { HasRule (script_line_at draft.old.trees line) }
     requires opens { CanOpen draft.old (trees_at draft.old.trees front.now)
         (trees_at draft.old.trees tail.now) (script_line_at draft.old.trees line) }
     ensures opened { IfOk result (λ r. IsLineOpened draft.new (trees_at draft.old.trees front.now)
-        (trees_at draft.old.trees tail.now) (script_line_at draft.old.trees line) r.0 r.1) }
+        (trees_at draft.old.trees tail.now) (script_line_at draft.old.trees line) r) }
     ensures grows { AddsTrees draft.old draft.new }
 {
     match line {
         Line::Given(_, _) => unreachable!(),
         Line::Kept(_, _) => unreachable!(),
-        Line::By(word, first, second) => Ok((word, Sides { first, second })),
+        Line::By(word, first, second) => Ok(Opened {
+            before: 0,
+            word,
+            sides: Sides { first, second },
+        }),
         Line::Holding(op, place) => open_holding(draft, front, tail, op, place),
         Line::Failing(op, place) => open_failing(draft, front, tail, op, place),
         Line::Cut(formula) => {
             let negated = negation(draft, formula)?;
             let first = Some(Formulas::One(formula));
             let second = Some(Formulas::One(negated));
-            Ok((Word::Cut(formula), Sides { first, second }))
+            Ok(Opened {
+                before: 0,
+                word: Word::Cut(formula),
+                sides: Sides { first, second },
+            })
+        }
+        Line::Rule(word) => {
+            let sides = make_sides(draft, tail, word)?;
+            Ok(Opened {
+                before: front.len(),
+                word,
+                sides,
+            })
         }
     }
 }
@@ -50,18 +67,22 @@ fn open_holding(
     tail: &[TermId],
     op: Op,
     place: usize,
-) -> Result<(Word, Sides), AllocError>
+) -> Result<Opened, AllocError>
     requires tail { AreFormulas draft.old tail.now }
     requires opens { CanOpen draft.old (trees_at draft.old.trees front.now)
         (trees_at draft.old.trees tail.now) (HoldingLine op place) }
     ensures opened { IfOk result (λ r. IsLineOpened draft.new (trees_at draft.old.trees front.now)
-        (trees_at draft.old.trees tail.now) (HoldingLine op place) r.0 r.1) }
+        (trees_at draft.old.trees tail.now) (HoldingLine op place) r) }
     ensures grows { AddsTrees draft.old draft.new }
 {
     match draft.store().node(tail[place]) {
         Node::Join(_, a, b) => {
             let both = negate_both(draft, a, b)?;
-            Ok((Word::Holding(op, front.len() + place), where_true(op, both)))
+            Ok(Opened {
+                before: front.len(),
+                word: Word::Holding(op, place),
+                sides: where_true(op, both),
+            })
         }
         _ => unreachable!(),
     }
@@ -74,22 +95,23 @@ fn open_failing(
     tail: &[TermId],
     op: Op,
     place: usize,
-) -> Result<(Word, Sides), AllocError>
+) -> Result<Opened, AllocError>
     requires tail { AreFormulas draft.old tail.now }
     requires opens { CanOpen draft.old (trees_at draft.old.trees front.now)
         (trees_at draft.old.trees tail.now) (FailingLine op place) }
     ensures opened { IfOk result (λ r. IsLineOpened draft.new (trees_at draft.old.trees front.now)
-        (trees_at draft.old.trees tail.now) (FailingLine op place) r.0 r.1) }
+        (trees_at draft.old.trees tail.now) (FailingLine op place) r) }
     ensures grows { AddsTrees draft.old draft.new }
 {
     match draft.store().node(tail[place]) {
         Node::Not(whole) => match draft.store().node(whole) {
             Node::Join(_, a, b) => {
                 let both = negate_both(draft, a, b)?;
-                Ok((
-                    Word::Failing(op, front.len() + place),
-                    where_false(op, both),
-                ))
+                Ok(Opened {
+                    before: front.len(),
+                    word: Word::Failing(op, place),
+                    sides: where_false(op, both),
+                })
             }
             _ => unreachable!(),
         },

@@ -1,11 +1,12 @@
 // Steps by the lines of a script.
-ghost use Rattle.std.specs.Prelude.{◌≡◌, ◌+◌, ◌<◌, ◌≤◌, ◌++◌, [], ◌∷◌, All, length, map, IfOk};
+ghost use Rattle.std.specs.Prelude.{◌≡◌, ◌+◌, ◌++◌, [], ◌∷◌, map, IfOk};
 ghost use Rattle.tasks.specs.Meaning.{trees_at};
 ghost use Rattle.evidence.specs.Drafts.{Extends, Refutes, AreFormulas, RefutesAt};
-ghost use Rattle.proof_scripts.specs.Scripts.{word_rule, WordHeld, added_ids, added_at, sequents_under, lines_at, LinesHeld, IsByRule, IsGiven, places_of, PlacesFit, Follows, CanFollow};
-ghost use Rattle.proof_scripts.specs.Derived.{Consumes, ConsumesBehind, RefuteUnder};
+ghost use Rattle.proof_scripts.specs.Scripts.{word_rule, WordHeld, sequents_under, lines_at, LinesHeld, IsByRule, IsGiven, places_of, PlacesFit, Follows, CanFollow};
+ghost use Rattle.proof_scripts.specs.Words.{rule_behind, WordFits};
+ghost use Rattle.proof_scripts.specs.Derived.{AreAdded, all_added, IsByLines, IsByRuleAndLines, AreByLines};
 
-use crate::line::{Formulas, Line, Places, Word, rule_of, tail_with};
+use crate::line::{Formulas, Line, Places, Word, premises_of, rule_of, tail_with};
 use crate::opening::open_line;
 use evidence::{Draft, by_rule, join_lists, keep_but};
 use std::alloc::{AllocError, Global};
@@ -85,11 +86,8 @@ fn walk(
     requires lines { LinesHeld draft.old lines.now }
     requires follow { CanFollow draft.old (trees_at draft.old.trees front.now)
         (lines_at draft.old.trees lines.now) (trees_at draft.old.trees tail.now ∷ []) }
-    ensures refutes { IfOk result (λ r. Refutes draft.new r.step
-        (trees_at draft.old.trees front.now ++ trees_at draft.old.trees tail.now)) }
-    ensures used { IfOk result (λ r. Consumes (trees_at draft.old.trees front.now)
-        (lines_at draft.old.trees lines.now) (trees_at draft.old.trees tail.now ∷ []) r.used) }
-    ensures within { IfOk result (λ r. r.used ≤ length lines.now) }
+    ensures derived { IfOk result (λ r. IsByLines draft.new (trees_at draft.old.trees front.now)
+        (trees_at draft.old.trees tail.now) (lines_at draft.old.trees lines.now) r) }
     ensures grows { Extends draft.old draft.new }
 {
     match lines.split_first() {
@@ -110,103 +108,86 @@ fn walk(
             }
             _ => {
                 let opened = open_line(draft, front, tail, *line)?;
-                let mut steps = Vec::new(draft.allocator());
-                by_word(
-                    draft,
-                    front,
-                    tail,
-                    opened.0,
-                    opened.1.first,
-                    opened.1.second,
-                    rest,
-                    &mut steps,
-                )
+                let added = premises_of(draft.allocator(), opened.sides)?;
+                by_word(draft, front, tail, opened.before, opened.word, &added, rest)
             }
         },
         None => unreachable!(),
     }
 }
 
-// The same by a rule, over the lines after it, where no premise has a step yet.
+// The same by a rule, over the lines after it: what each premise adds is refuted by the first of these.
 #[cycle(walk)]
 fn by_word(
     draft: &mut Draft,
     front: &[TermId],
     tail: &[TermId],
+    before: usize,
     word: Word,
-    first: Option<Formulas>,
-    second: Option<Formulas>,
+    added: &[Formulas],
     lines: &[Line],
-    premises: &mut Vec<usize>,
 ) -> Result<Derived, AllocError>
     requires front { AreFormulas draft.old front.now }
     requires tail { AreFormulas draft.old tail.now }
     requires word { WordHeld draft.old.trees word }
-    requires first { All (AreFormulas draft.old) (added_ids first) }
-    requires second { All (AreFormulas draft.old) (added_ids second) }
+    requires fits { WordFits before word }
+    requires added { AreAdded draft.old added.now }
     requires lines { LinesHeld draft.old lines.now }
     requires rule { IsByRule draft.old.task
         (trees_at draft.old.trees front.now ++ trees_at draft.old.trees tail.now)
-        (word_rule draft.old.trees word)
-        (added_at draft.old.trees first ++ added_at draft.old.trees second) }
+        (rule_behind before (word_rule draft.old.trees word))
+        (all_added draft.old.trees added.now) }
     requires follow { CanFollow draft.old (trees_at draft.old.trees front.now)
         (lines_at draft.old.trees lines.now)
-        (sequents_under (trees_at draft.old.trees tail.now) (added_at draft.old.trees first)
-        ++ sequents_under (trees_at draft.old.trees tail.now) (added_at draft.old.trees second)) }
-    requires none { premises.old.items ≡ [] }
-    ensures refutes { IfOk result (λ r. Refutes draft.new r.step
-        (trees_at draft.old.trees front.now ++ trees_at draft.old.trees tail.now)) }
-    ensures used { IfOk result (λ r. ConsumesBehind
-        (trees_at draft.old.trees front.now) (lines_at draft.old.trees lines.now)
-        (sequents_under (trees_at draft.old.trees tail.now) (added_at draft.old.trees first)
-        ++ sequents_under (trees_at draft.old.trees tail.now) (added_at draft.old.trees second))
-        r.used) }
-    ensures within { IfOk result (λ r. r.used ≤ length lines.now + 1) }
+        (sequents_under (trees_at draft.old.trees tail.now)
+        (all_added draft.old.trees added.now)) }
+    ensures derived { IfOk result (λ r. IsByRuleAndLines draft.new
+        (trees_at draft.old.trees front.now) (trees_at draft.old.trees tail.now)
+        (lines_at draft.old.trees lines.now) (all_added draft.old.trees added.now) r) }
     ensures grows { Extends draft.old draft.new }
 {
-    let one = premise(draft, front, tail, first, lines, premises)?;
-    let (_, behind) = lines.split_at(one);
-    let two = premise(draft, front, tail, second, behind, premises)?;
-    let step = by_rule(draft, front, tail, rule_of(word), premises)?;
+    let mut steps = Vec::new(draft.allocator());
+    let used = premises(draft, front, tail, added, lines, &mut steps)?;
+    let step = by_rule(draft, front, tail, rule_of(before, word), &steps)?;
     Ok(Derived {
         step,
-        used: 1 + one + two,
+        used: used + 1,
     })
 }
 
-// Adds the number of a step for the premise, where there is one, by the first lines.
+// Adds the number of a step for each premise, by the first lines, and gives how many these are.
 #[cycle(walk)]
-fn premise(
+fn premises(
     draft: &mut Draft,
     front: &[TermId],
     tail: &[TermId],
-    added: Option<Formulas>,
+    added: &[Formulas],
     lines: &[Line],
-    premises: &mut Vec<usize>,
+    steps: &mut Vec<usize>,
 ) -> Result<usize, AllocError>
     requires front { AreFormulas draft.old front.now }
     requires tail { AreFormulas draft.old tail.now }
-    requires added { All (AreFormulas draft.old) (added_ids added) }
+    requires added { AreAdded draft.old added.now }
     requires lines { LinesHeld draft.old lines.now }
     requires follow { CanFollow draft.old (trees_at draft.old.trees front.now)
         (lines_at draft.old.trees lines.now)
-        (sequents_under (trees_at draft.old.trees tail.now) (added_at draft.old.trees added)) }
-    ensures refute { IfOk result (λ _. RefuteUnder draft.new premises.old.items premises.new.items
-        (trees_at draft.old.trees front.now)
-        (sequents_under (trees_at draft.old.trees tail.now) (added_at draft.old.trees added))) }
-    ensures used { IfOk result (λ n. Consumes (trees_at draft.old.trees front.now)
-        (lines_at draft.old.trees lines.now)
-        (sequents_under (trees_at draft.old.trees tail.now) (added_at draft.old.trees added)) n) }
-    ensures within { IfOk result (λ n. n ≤ length lines.now) }
+        (sequents_under (trees_at draft.old.trees tail.now)
+        (all_added draft.old.trees added.now)) }
+    ensures derived { IfOk result (λ n. AreByLines draft.new (trees_at draft.old.trees front.now)
+        (sequents_under (trees_at draft.old.trees tail.now)
+        (all_added draft.old.trees added.now)) (lines_at draft.old.trees lines.now)
+        steps.old.items steps.new.items n) }
     ensures grows { Extends draft.old draft.new }
 {
-    match added {
+    match added.split_first() {
         None => Ok(0),
-        Some(formulas) => {
-            let all = tail_with(draft.allocator(), tail, formulas)?;
+        Some((first, rest)) => {
+            let all = tail_with(draft.allocator(), tail, *first)?;
             let made = walk(draft, front, &all, lines)?;
-            premises.push(made.step)?;
-            Ok(made.used)
+            steps.push(made.step)?;
+            let (_, behind) = lines.split_at(made.used);
+            let more = premises(draft, front, tail, rest, behind, steps)?;
+            Ok(made.used + more)
         }
     }
 }
