@@ -1,5 +1,5 @@
 -- A goal opened at a parameter, or at a value: the ends of its parts there.
-use Rattle.std.proofs.Common.{◌≡◌, ℕ, ◌≤◌, ◌+◌, List, [], ◌∷◌, ◌++◌, map, sym, subst, ◌∙◌, append-nil, arith}
+use Rattle.std.proofs.Common.{◌≡◌, ℕ, ◌≤◌, List, [], ◌∷◌, ◌++◌, map, sym, subst, ◌∙◌, append-nil, arith}
 use Rattle.tasks.specs.trees.declared.TermId.{TermId}
 use Rattle.tasks.specs.trees.Tree.{Tree, Two, HForall, HLet, above_params}
 use Rattle.tasks.specs.trees.Node.{tree_at, Holds}
@@ -18,12 +18,12 @@ use Rattle.tr_split.specs.Glue.{EndsOfParts}
 use Rattle.tr_split.specs.Kept.{let_sentence}
 use Rattle.tr_split.proofs.Pieces.{ends_later}
 use Rattle.tr_split_goals.specs.Goals.{AreParamsBelow}
-use Rattle.tr_split_goals.specs.Over.{IsTermAt}
+use Rattle.proof_scripts.specs.Added.{IsClosedTermAt}
 use Rattle.tr_split_goals.proofs.Instances.{split_inst}
 
 -- ---- a quantifier
 module _ (d : DraftTree) (goal ty body : TermId) (f : IsFormulaAt d goal) (is : tree_at d.trees goal ≡ Two HForall (tree_at d.trees ty) (tree_at d.trees body)) where
-  pub param_at : (number : ℕ) (param : TermId) → Holds d.trees param → tree_at d.trees param ≡ Param number (tree_at d.trees ty) → IsClosedTerm (tree_at d.trees param) → IsTermAt d (tree_at d.trees ty) param
+  pub param_at : (number : ℕ) (param : TermId) → Holds d.trees param → tree_at d.trees param ≡ Param number (tree_at d.trees ty) → IsClosedTerm (tree_at d.trees param) → IsClosedTermAt d (tree_at d.trees ty) param
   param_at number param h e k = record {
     held = h;
     closed = k;

@@ -18,10 +18,11 @@ use Rattle.tr_split.specs.Split.{imp}
 use Rattle.tr_split.specs.Glue.{EndsOfParts, sequent_of_part}
 use Rattle.tr_split_goals.specs.declared.over.Over.{Over}
 use Rattle.tr_split_goals.specs.declared.over.Over.TheVariants as stands
-use Rattle.tr_split_goals.specs.Over.{IsTermAt, OverHeld, whole_of, inner_of, extra_of}
+use Rattle.proof_scripts.specs.Added.{IsClosedTermAt}
+use Rattle.tr_split_goals.specs.Over.{OverHeld, whole_of, inner_of, extra_of}
 
 module _ (d d1 : DraftTree) (x : Extends d d1) where
-  term_later : (ty : Tree) (id : TermId) → IsTermAt d ty id → IsTermAt d1 ty id
+  term_later : (ty : Tree) (id : TermId) → IsClosedTermAt d ty id → IsClosedTermAt d1 ty id
   term_later ty id t =
       let e : tree_at d1.trees id ≡ tree_at d.trees id = x.trees.same id.0 t.held in
       record {
@@ -35,7 +36,7 @@ module _ (d d1 : DraftTree) (x : Extends d d1) where
   over_later (stands.Hypothesis h) f = formula_later d d1 x h f
   over_later (stands.Universal ty t) f =
       let e : tree_at d1.trees ty ≡ tree_at d.trees ty = x.trees.same ty.0 f.0 in
-      (omega (arith, x.trees.longer, f.0), subst (λ (z : Tree). IsTermAt d1 z t) (sym e) (term_later (tree_at d.trees ty) t f.1))
+      (omega (arith, x.trees.longer, f.0), subst (λ (z : Tree). IsClosedTermAt d1 z t) (sym e) (term_later (tree_at d.trees ty) t f.1))
   over_later (stands.Value v) f = record { ty = f.ty; term = term_later f.ty v f.term }
 
   pub whole_later : (o : Over) → OverHeld d o → (a : Tree) → whole_of d1.trees o a ≡ whole_of d.trees o a

@@ -1,12 +1,10 @@
 -- What is inside a `let`, a quantifier and an `if`.
-use Rattle.std.proofs.Common.{◌≡◌, ℕ, ◌≤◌, ◌++◌, List, [], ◌∷◌, Some, map, refl, ap, subst, arith}
+use Rattle.std.proofs.Common.{◌≡◌, ℕ, ◌≤◌, ◌++◌, List, [], ◌∷◌, map, refl, ap, subst, arith}
 use Rattle.tasks.specs.trees.declared.TermId.{TermId}
 use Rattle.tasks.specs.trees.declared.Op.{Op}
 use Rattle.tasks.specs.trees.declared.Op.TheVariants.{Imp}
-use Rattle.tasks.specs.trees.declared.Sort.TheVariants.{Term}
-use Rattle.tasks.specs.trees.Tree.{Tree, Leaf, One, Two, Three, HCell, HBound, HParam, HNum, HFun, HJoin, HForall, HLet, HIf, HCase, HArm, loose, above_params}
+use Rattle.tasks.specs.trees.Tree.{Tree, Two, Three, HJoin, HForall, HLet, HIf, loose, above_params}
 use Rattle.tasks.specs.trees.Node.{tree_at, Holds}
-use Rattle.tasks.specs.trees.Sorts.{sort_of, type_of, yield, yield_type, int_type}
 use Rattle.tasks.specs.Vocabulary.{of_task}
 use Rattle.tasks.specs.Valid.{IsGroundFormula}
 use Rattle.tasks.proofs.Closing.{typed_closed}
@@ -17,38 +15,10 @@ use Rattle.tasks.proofs.Closing.{typed_sorted}
 use Rattle.tasks.specs.trees.Binding.{inst}
 use Rattle.tasks.specs.Task.{neg}
 use Rattle.tr_split_goals.specs.Goals.{AreParamsBelow, splits}
+use Rattle.proof_scripts.proofs.Expressions.{has_type}
 use Rattle.tr_split_goals.proofs.Instances.{splits_inst}
 use Rattle.tr_split_goals.specs.declared.over.Over.TheVariants as stands
 use Rattle.tr_split_goals.specs.Over.{IsTypedTermAt, inner_of}
-
-yields_type : (e : Tree) → yield e ≡ Term → (ty : Tree) × (yield_type e ≡ Some ty)
-yields_type (Leaf (HNum z)) q = (int_type, refl)
-yields_type (Leaf _) q = absurd (cc)
-yields_type (One (HBound i) a) q = (a, refl)
-yields_type (One (HParam n) a) q = (a, refl)
-yields_type (One _ a) q = absurd (cc)
-yields_type (Two HCell a b) q = yields_type a q
-yields_type (Two HLet a b) q = yields_type b q
-yields_type (Two HCase a b) q = yields_type b q
-yields_type (Two HArm a b) q = yields_type b q
-yields_type (Two _ a b) q = absurd (cc)
-yields_type (Three (HFun f) a b c) q = (c, refl)
-yields_type (Three HIf a b c) q = yields_type b q
-yields_type (Three _ a b c) q = absurd (cc)
-
--- a term has a type
-pub has_type : (e : Tree) → sort_of e ≡ Term → (ty : Tree) × (type_of e ≡ Some ty)
-has_type (Leaf (HNum z)) q = (int_type, refl)
-has_type (Leaf _) q = absurd (cc)
-has_type (One (HBound i) a) q = (a, refl)
-has_type (One (HParam n) a) q = (a, refl)
-has_type (One _ a) q = absurd (cc)
-has_type (Two HLet a b) q = yields_type b q
-has_type (Two HCase a b) q = yields_type b q
-has_type (Two _ a b) q = absurd (cc)
-has_type (Three (HFun f) a b c) q = (c, refl)
-has_type (Three HIf a b c) q = yields_type b q
-has_type (Three _ a b c) q = absurd (cc)
 
 -- the value of a `let` is a closed term of some type
 pub value_at : (d : DraftTree) (goal value body : TermId) → IsFormulaAt d goal → tree_at d.trees goal ≡ Two HLet (tree_at d.trees value) (tree_at d.trees body) → Holds d.trees value → IsTypedTermAt d value

@@ -1,3 +1,4 @@
 pub mod Goals
+pub mod Gluing
 pub mod Over
 pub mod Kept

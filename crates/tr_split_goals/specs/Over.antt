@@ -1,14 +1,12 @@
 -- What a part is under, and what its end gives.
-use Rattle.std.specs.Prelude.{ℕ, List, [], ◌∷◌, ◌++◌, map}
+use Rattle.std.specs.Prelude.{◌≡◌, ℕ, List, [], ◌∷◌, ◌++◌, map}
 use Rattle.tasks.specs.trees.declared.TermId.{TermId}
 use Rattle.tasks.specs.trees.Tree.{Tree, Two, HForall, HLet}
 use Rattle.tasks.specs.trees.Node.{tree_at, Holds}
 use Rattle.tasks.specs.trees.Binding.{inst}
 use Rattle.tasks.specs.Task.{neg}
-use Rattle.tasks.specs.Vocabulary.{of_task}
-use Rattle.tasks.specs.Valid.{VariablesBelow}
 use Rattle.evidence.specs.Drafts.{DraftTree, Refutes, IsFormulaAt}
-use Rattle.instances.specs.Instances.{IsTermOf, IsClosedTerm}
+use Rattle.proof_scripts.specs.Added.{IsClosedTermAt}
 use Rattle.tr_split.specs.Split.{imp, split}
 use Rattle.tr_split_goals.specs.declared.over.Over.{Over}
 use Rattle.tr_split_goals.specs.declared.over.Over.TheVariants as stands
@@ -18,17 +16,28 @@ pub record PartOf (d : DraftTree) (k : ℕ) (front : List Tree) (whole : Tree �
   pub part : Tree
   pub refutes : Refutes d k (front ++ neg (whole part) ∷ [])
 
--- a closed term of this type, over the task of the draft
-pub record IsTermAt (d : DraftTree) (ty : Tree) (id : TermId) : Type 0 where
-  pub held : Holds d.trees id
-  pub closed : IsClosedTerm (tree_at d.trees id)
-  pub term : IsTermOf (of_task d.task) ty (tree_at d.trees id)
-  pub variables : VariablesBelow 0 (tree_at d.trees id)
+-- a step refutes some formulas and a negation
+pub record IsEnd (d : DraftTree) (k : ℕ) : Type 0 where
+  pub front : List Tree
+  pub whole : Tree
+  pub refutes : Refutes d k (front ++ neg whole ∷ [])
 
 -- a closed term of some type
 pub record IsTypedTermAt (d : DraftTree) (id : TermId) : Type 0 where
   pub ty : Tree
-  pub term : IsTermAt d ty id
+  pub term : IsClosedTermAt d ty id
+
+-- the same of a part under a quantifier, and a term of its type
+pub record IsUniversalEnd (d : DraftTree) (k : ℕ) (front : List Tree) (id : TermId) : Type 0 where
+  pub ty : Tree
+  pub term : IsClosedTermAt d ty id
+  pub end : PartOf d k front (Two HForall ty)
+
+-- a term at which a quantifier is opened, or the value of a `let`
+abbrev pub IsClosedIn : DraftTree → Tree → TermId → Type 0
+IsClosedIn d (Two HForall ty b) t = IsClosedTermAt d ty t
+IsClosedIn d (Two HLet v b) t = (v ≡ tree_at d.trees t) × IsTypedTermAt d t
+IsClosedIn d _ t = ⊥
 
 -- a quantifier or a `let`
 abbrev pub IsBinding : Tree → Type 0
@@ -56,7 +65,7 @@ extra_of s (stands.Value v) = []
 
 abbrev pub OverHeld : DraftTree → Over → Type 0
 OverHeld d (stands.Hypothesis h) = IsFormulaAt d h
-OverHeld d (stands.Universal ty t) = Holds d.trees ty × IsTermAt d (tree_at d.trees ty) t
+OverHeld d (stands.Universal ty t) = Holds d.trees ty × IsClosedTermAt d (tree_at d.trees ty) t
 OverHeld d (stands.Value v) = IsTypedTermAt d v
 
 -- the parts of a formula under what they are under, and alone

@@ -1,25 +1,34 @@
 // From steps that refute the parts of a goal, one that refutes the goal's negation.
-ghost use Rattle.std.specs.Prelude.{◌≡◌, ◌++◌, [], ◌∷◌, length, min, IfOk};
+ghost use Rattle.std.specs.Prelude.{◌≡◌, ◌++◌, length, min, IfOk};
 ghost use Rattle.tasks.specs.trees.Tree.{Tree, Two, Three, HForall, HLet, HIf, HJoin};
 ghost use Rattle.tasks.specs.trees.Node.{tree_at, Holds};
-ghost use Rattle.tasks.specs.Task.{neg};
 ghost use Rattle.tasks.specs.Meaning.{trees_at};
-ghost use Rattle.evidence.specs.Drafts.{Extends, Refutes, IsFormulaAt, AreFormulas};
+ghost use Rattle.evidence.specs.Drafts.{Extends, AddsTrees, IsFormulaAt, AreFormulas};
 ghost use Rattle.tr_split.specs.Split.{split};
 ghost use Rattle.tr_split.specs.Glue.{EndsOfParts};
 ghost use Rattle.tr_split.specs.Parts.{Joins};
 ghost use Rattle.tr_split_goals.specs.Goals.{AreParamsBelow};
+ghost use Rattle.tr_split_goals.specs.Gluing.{CanGlue, RefutesGoal, IsGlued};
 
-use crate::forming::{connect, if_equation};
 use crate::opening::{open_universal, open_valued};
 use crate::over::{Over, ends_over};
-use crate::refuting::{
-    refute_and, refute_and_then, refute_forall, refute_if, refute_iff, refute_imp, refute_let,
-    refute_true,
-};
+use crate::refuting::refute_goal;
 use evidence::{Draft, join_lists, negation};
+use proof_scripts::{Line, Word};
 use std::alloc::AllocError;
 use tasks::{Grow, Node, Op, Store, TermId};
+
+// Two formulas joined.
+fn connect(draft: &mut Draft, op: Op, a: TermId, b: TermId) -> Result<TermId, AllocError>
+    requires a { IsFormulaAt draft.old a }
+    requires b { IsFormulaAt draft.old b }
+    ensures formula { IfOk result (IsFormulaAt draft.new) }
+    ensures tree { IfOk result (λ id. tree_at draft.new.trees id
+        ≡ Two (HJoin op) (tree_at draft.old.trees a) (tree_at draft.old.trees b)) }
+    ensures grows { AddsTrees draft.old draft.new }
+{
+    draft.add(Node::Join(op, a, b))
+}
 
 // The number of the parts of a formula, or the greatest number.
 fn part_count(store: &Store, formula: TermId) -> usize
@@ -59,18 +68,12 @@ pub(crate) fn glue_goal(
     params: &[TermId],
     ends: &[usize],
 ) -> Result<usize, AllocError>
-    requires front { AreFormulas draft.old front.now }
-    requires goal { IsFormulaAt draft.old goal }
-    requires below { AreParamsBelow (length params.now) (trees_at draft.old.trees front.now)
-        (tree_at draft.old.trees goal) }
-    requires ends { EndsOfParts draft.old ends.now (trees_at draft.old.trees front.now)
-        (split (tree_at draft.old.trees goal)) }
-    ensures refutes { IfOk result (λ k. Refutes draft.new k
-        (trees_at draft.old.trees front.now ++ neg (tree_at draft.old.trees goal) ∷ [])) }
+    requires can { CanGlue draft.old front.now goal (length params.now) ends.now }
+    ensures refutes { IfOk result (RefutesGoal draft.old draft.new front.now goal) }
     ensures grows { Extends draft.old draft.new }
 {
     match draft.store().node(goal) {
-        Node::True => refute_true(draft, front, goal),
+        Node::True => refute_goal(draft, front, goal, &[Line::Rule(Word::NotTrue(0))]),
         Node::Join(op, a, b) => glue_joined(draft, front, goal, op, a, b, params, ends),
         Node::Forall(ty, body) => glue_forall(draft, front, goal, ty, body, params, ends),
         Node::Let(value, body) => glue_let(draft, front, goal, value, body, params, ends),
@@ -91,15 +94,9 @@ fn glue_joined(
     params: &[TermId],
     ends: &[usize],
 ) -> Result<usize, AllocError>
-    requires front { AreFormulas draft.old front.now }
-    requires goal { IsFormulaAt draft.old goal }
+    requires can { CanGlue draft.old front.now goal (length params.now) ends.now }
     requires joins { Joins draft.old.trees goal op a b }
-    requires below { AreParamsBelow (length params.now) (trees_at draft.old.trees front.now)
-        (tree_at draft.old.trees goal) }
-    requires ends { EndsOfParts draft.old ends.now (trees_at draft.old.trees front.now)
-        (split (tree_at draft.old.trees goal)) }
-    ensures refutes { IfOk result (λ k. Refutes draft.new k
-        (trees_at draft.old.trees front.now ++ neg (tree_at draft.old.trees goal) ∷ [])) }
+    ensures refutes { IfOk result (RefutesGoal draft.old draft.new front.now goal) }
     ensures grows { Extends draft.old draft.new }
 {
     match op {
@@ -130,10 +127,8 @@ fn glue_two(
         (tree_at draft.old.trees b) }
     requires ends { EndsOfParts draft.old ends.now (trees_at draft.old.trees front.now)
         (split (tree_at draft.old.trees a) ++ split (tree_at draft.old.trees b)) }
-    ensures left { IfOk result (λ r. Refutes draft.new r.0
-        (trees_at draft.old.trees front.now ++ neg (tree_at draft.old.trees a) ∷ [])) }
-    ensures right { IfOk result (λ r. Refutes draft.new r.1
-        (trees_at draft.old.trees front.now ++ neg (tree_at draft.old.trees b) ∷ [])) }
+    ensures left { IfOk result (λ r. RefutesGoal draft.old draft.new front.now a r.0) }
+    ensures right { IfOk result (λ r. RefutesGoal draft.old draft.new front.now b r.1) }
     ensures grows { Extends draft.old draft.new }
 {
     let count = part_count(draft.store(), a);
@@ -154,19 +149,17 @@ fn glue_and(
     params: &[TermId],
     ends: &[usize],
 ) -> Result<usize, AllocError>
-    requires front { AreFormulas draft.old front.now }
-    requires goal { IsFormulaAt draft.old goal }
+    requires can { CanGlue draft.old front.now goal (length params.now) ends.now }
     requires joins { Joins draft.old.trees goal Op.And a b }
-    requires below { AreParamsBelow (length params.now) (trees_at draft.old.trees front.now)
-        (tree_at draft.old.trees goal) }
-    requires ends { EndsOfParts draft.old ends.now (trees_at draft.old.trees front.now)
-        (split (tree_at draft.old.trees goal)) }
-    ensures refutes { IfOk result (λ k. Refutes draft.new k
-        (trees_at draft.old.trees front.now ++ neg (tree_at draft.old.trees goal) ∷ [])) }
-    ensures grows { Extends draft.old draft.new }
+    ensures { IsGlued draft.old draft.new front.now goal result }
 {
     let (left, right) = glue_two(draft, front, a, b, params, ends)?;
-    refute_and(draft, front, goal, a, b, left, right)
+    let lines = [
+        Line::Failing(Op::And, 0),
+        Line::Given(left, 1),
+        Line::Given(right, 1),
+    ];
+    refute_goal(draft, front, goal, &lines)
 }
 
 // The same of a conjunction by `&&`.
@@ -180,20 +173,22 @@ fn glue_and_then(
     params: &[TermId],
     ends: &[usize],
 ) -> Result<usize, AllocError>
-    requires front { AreFormulas draft.old front.now }
-    requires goal { IsFormulaAt draft.old goal }
+    requires can { CanGlue draft.old front.now goal (length params.now) ends.now }
     requires joins { Joins draft.old.trees goal Op.AndThen a b }
-    requires below { AreParamsBelow (length params.now) (trees_at draft.old.trees front.now)
-        (tree_at draft.old.trees goal) }
-    requires ends { EndsOfParts draft.old ends.now (trees_at draft.old.trees front.now)
-        (split (tree_at draft.old.trees goal)) }
-    ensures refutes { IfOk result (λ k. Refutes draft.new k
-        (trees_at draft.old.trees front.now ++ neg (tree_at draft.old.trees goal) ∷ [])) }
-    ensures grows { Extends draft.old draft.new }
+    ensures { IsGlued draft.old draft.new front.now goal result }
 {
     let implied = connect(draft, Op::Imp, a, b)?;
     let (left, right) = glue_two(draft, front, a, implied, params, ends)?;
-    refute_and_then(draft, front, goal, a, b, implied, left, right)
+    let lines = [
+        Line::Cut(implied),
+        Line::Failing(Op::AndThen, 0),
+        Line::Given(left, 1),
+        Line::Holding(Op::Imp, 1),
+        Line::Given(left, 1),
+        Line::Rule(Word::Clash(3, 2)),
+        Line::Given(right, 1),
+    ];
+    refute_goal(draft, front, goal, &lines)
 }
 
 // The same of an implication.
@@ -207,21 +202,15 @@ fn glue_imp(
     params: &[TermId],
     ends: &[usize],
 ) -> Result<usize, AllocError>
-    requires front { AreFormulas draft.old front.now }
-    requires goal { IsFormulaAt draft.old goal }
+    requires can { CanGlue draft.old front.now goal (length params.now) ends.now }
     requires joins { Joins draft.old.trees goal Op.Imp a b }
-    requires below { AreParamsBelow (length params.now) (trees_at draft.old.trees front.now)
-        (tree_at draft.old.trees goal) }
-    requires ends { EndsOfParts draft.old ends.now (trees_at draft.old.trees front.now)
-        (split (tree_at draft.old.trees goal)) }
-    ensures refutes { IfOk result (λ k. Refutes draft.new k
-        (trees_at draft.old.trees front.now ++ neg (tree_at draft.old.trees goal) ∷ [])) }
-    ensures grows { Extends draft.old draft.new }
+    ensures { IsGlued draft.old draft.new front.now goal result }
 {
     let made = ends_over(draft, front, Over::Hypothesis(a), b, ends)?;
     let wider = join_lists(draft.allocator(), front, &[a])?;
     let step = glue_goal(draft, &wider, b, params, &made)?;
-    refute_imp(draft, front, goal, a, b, step)
+    let lines = [Line::Failing(Op::Imp, 0), Line::Given(step, 2)];
+    refute_goal(draft, front, goal, &lines)
 }
 
 // The same of an equivalence.
@@ -235,16 +224,27 @@ fn glue_iff(
 ) -> Result<usize, AllocError>
     requires front { AreFormulas draft.old front.now }
     requires goal { IsFormulaAt draft.old goal }
-    requires joins { Joins draft.old.trees goal Op.Iff a b }
     requires ends { EndsOfParts draft.old ends.now (trees_at draft.old.trees front.now)
         (split (tree_at draft.old.trees goal)) }
-    ensures refutes { IfOk result (λ k. Refutes draft.new k
-        (trees_at draft.old.trees front.now ++ neg (tree_at draft.old.trees goal) ∷ [])) }
-    ensures grows { Extends draft.old draft.new }
+    requires joins { Joins draft.old.trees goal Op.Iff a b }
+    ensures { IsGlued draft.old draft.new front.now goal result }
 {
     let there = connect(draft, Op::Imp, a, b)?;
     let back = connect(draft, Op::Imp, b, a)?;
-    refute_iff(draft, front, goal, a, b, there, back, ends[0], ends[1])
+    let lines = [
+        Line::Cut(there),
+        Line::Cut(back),
+        Line::Failing(Op::Iff, 0),
+        Line::Holding(Op::Imp, 1),
+        Line::Rule(Word::Clash(3, 5)),
+        Line::Rule(Word::Clash(5, 4)),
+        Line::Holding(Op::Imp, 2),
+        Line::Rule(Word::Clash(4, 5)),
+        Line::Rule(Word::Clash(5, 3)),
+        Line::Given(ends[1], 1),
+        Line::Given(ends[0], 1),
+    ];
+    refute_goal(draft, front, goal, &lines)
 }
 
 // The same of a quantifier.
@@ -258,26 +258,19 @@ fn glue_forall(
     params: &[TermId],
     ends: &[usize],
 ) -> Result<usize, AllocError>
-    requires front { AreFormulas draft.old front.now }
-    requires goal { IsFormulaAt draft.old goal }
+    requires can { CanGlue draft.old front.now goal (length params.now) ends.now }
     requires tree { tree_at draft.old.trees goal
         ≡ Two HForall (tree_at draft.old.trees ty) (tree_at draft.old.trees body) }
     requires ty_held { Holds draft.old.trees ty }
     requires body_held { Holds draft.old.trees body }
-    requires below { AreParamsBelow (length params.now) (trees_at draft.old.trees front.now)
-        (tree_at draft.old.trees goal) }
-    requires ends { EndsOfParts draft.old ends.now (trees_at draft.old.trees front.now)
-        (split (tree_at draft.old.trees goal)) }
-    ensures refutes { IfOk result (λ k. Refutes draft.new k
-        (trees_at draft.old.trees front.now ++ neg (tree_at draft.old.trees goal) ∷ [])) }
-    ensures grows { Extends draft.old draft.new }
+    ensures { IsGlued draft.old draft.new front.now goal result }
 {
     let number = params.len();
     let (inner, made) = open_universal(draft, front, goal, ty, body, number, ends)?;
     let wider = join_lists(draft.allocator(), params, &[ty])?;
     let step = glue_goal(draft, front, inner, &wider, &made)?;
-    let no_inner = negation(draft, inner)?;
-    refute_forall(draft, front, goal, ty, body, inner, no_inner, number, step)
+    let lines = [Line::Rule(Word::NotForall(0, number)), Line::Given(step, 1)];
+    refute_goal(draft, front, goal, &lines)
 }
 
 // The same of a `let`.
@@ -291,24 +284,22 @@ fn glue_let(
     params: &[TermId],
     ends: &[usize],
 ) -> Result<usize, AllocError>
-    requires front { AreFormulas draft.old front.now }
-    requires goal { IsFormulaAt draft.old goal }
+    requires can { CanGlue draft.old front.now goal (length params.now) ends.now }
     requires tree { tree_at draft.old.trees goal
         ≡ Two HLet (tree_at draft.old.trees value) (tree_at draft.old.trees body) }
     requires value_held { Holds draft.old.trees value }
     requires body_held { Holds draft.old.trees body }
-    requires below { AreParamsBelow (length params.now) (trees_at draft.old.trees front.now)
-        (tree_at draft.old.trees goal) }
-    requires ends { EndsOfParts draft.old ends.now (trees_at draft.old.trees front.now)
-        (split (tree_at draft.old.trees goal)) }
-    ensures refutes { IfOk result (λ k. Refutes draft.new k
-        (trees_at draft.old.trees front.now ++ neg (tree_at draft.old.trees goal) ∷ [])) }
-    ensures grows { Extends draft.old draft.new }
+    ensures { IsGlued draft.old draft.new front.now goal result }
 {
     let (inner, made) = open_valued(draft, front, goal, value, body, params.len(), ends)?;
     let step = glue_goal(draft, front, inner, params, &made)?;
-    let defined = connect(draft, Op::Iff, goal, inner)?;
-    refute_let(draft, front, goal, value, body, inner, defined, step)
+    let lines = [
+        Line::Rule(Word::LetDef(goal)),
+        Line::Holding(Op::Iff, 1),
+        Line::Rule(Word::Clash(2, 0)),
+        Line::Given(step, 1),
+    ];
+    refute_goal(draft, front, goal, &lines)
 }
 
 // The same of an `if`.
@@ -323,28 +314,41 @@ fn glue_if(
     params: &[TermId],
     ends: &[usize],
 ) -> Result<usize, AllocError>
-    requires front { AreFormulas draft.old front.now }
-    requires goal { IsFormulaAt draft.old goal }
+    requires can { CanGlue draft.old front.now goal (length params.now) ends.now }
     requires tree { tree_at draft.old.trees goal
         ≡ Three HIf (tree_at draft.old.trees cond) (tree_at draft.old.trees a)
         (tree_at draft.old.trees b) }
     requires cond { IsFormulaAt draft.old cond }
     requires a { IsFormulaAt draft.old a }
     requires b { IsFormulaAt draft.old b }
-    requires below { AreParamsBelow (length params.now) (trees_at draft.old.trees front.now)
-        (tree_at draft.old.trees goal) }
-    requires ends { EndsOfParts draft.old ends.now (trees_at draft.old.trees front.now)
-        (split (tree_at draft.old.trees goal)) }
-    ensures refutes { IfOk result (λ k. Refutes draft.new k
-        (trees_at draft.old.trees front.now ++ neg (tree_at draft.old.trees goal) ∷ [])) }
-    ensures grows { Extends draft.old draft.new }
+    ensures { IsGlued draft.old draft.new front.now goal result }
 {
     let no_cond = negation(draft, cond)?;
     let there = connect(draft, Op::Imp, cond, a)?;
     let away = connect(draft, Op::Imp, no_cond, b)?;
-    let defined = if_equation(draft, goal, cond, no_cond, a, b)?;
     let (left, right) = glue_two(draft, front, there, away, params, ends)?;
-    refute_if(
-        draft, front, goal, cond, a, b, there, away, defined, left, right,
-    )
+    let lines = [
+        Line::Cut(there),
+        Line::Cut(away),
+        Line::Rule(Word::IfDef(goal)),
+        Line::Holding(Op::And, 3),
+        Line::Cut(cond),
+        Line::Holding(Op::Imp, 4),
+        Line::Rule(Word::Clash(6, 7)),
+        Line::Holding(Op::Imp, 1),
+        Line::Rule(Word::Clash(6, 8)),
+        Line::Holding(Op::Iff, 7),
+        Line::Rule(Word::Clash(9, 0)),
+        Line::Rule(Word::Clash(8, 10)),
+        Line::Holding(Op::Imp, 5),
+        Line::Rule(Word::Clash(6, 7)),
+        Line::Holding(Op::Imp, 2),
+        Line::Rule(Word::Clash(6, 8)),
+        Line::Holding(Op::Iff, 7),
+        Line::Rule(Word::Clash(9, 0)),
+        Line::Rule(Word::Clash(8, 10)),
+        Line::Given(right, 1),
+        Line::Given(left, 1),
+    ];
+    refute_goal(draft, front, goal, &lines)
 }

@@ -3,8 +3,6 @@
 //! Contract: `Transform`.
 #![tactic(auto)]
 
-mod ends;
-mod forming;
 mod gluing;
 mod opening;
 mod over;

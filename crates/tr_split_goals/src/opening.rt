@@ -1,13 +1,10 @@
 // What a goal binds opened, with the ends of its parts there.
-ghost use Rattle.std.specs.Prelude.{◌≡◌, ◌<◌, ◌+◌, IfOk};
+ghost use Rattle.std.specs.Prelude.{◌≡◌, ◌+◌, IfOk};
 ghost use Rattle.tasks.specs.trees.Tree.{Two, HForall, HLet};
 ghost use Rattle.tasks.specs.trees.Node.{tree_at, Holds};
 ghost use Rattle.tasks.specs.trees.Binding.{inst, Param};
-ghost use Rattle.tasks.specs.Meaning.{trees_at};
-ghost use Rattle.evidence.specs.Drafts.{Extends, IsFormulaAt, AreFormulas};
-ghost use Rattle.tr_split.specs.Split.{split};
-ghost use Rattle.tr_split.specs.Glue.{EndsOfParts};
-ghost use Rattle.tr_split_goals.specs.Goals.{AreParamsBelow};
+ghost use Rattle.evidence.specs.Drafts.{Extends};
+ghost use Rattle.tr_split_goals.specs.Gluing.{CanGlue, IsGoalOpened};
 
 use crate::over::{Over, ends_over};
 use evidence::Draft;
@@ -25,24 +22,14 @@ pub(crate) fn open_universal(
     number: usize,
     ends: &[usize],
 ) -> Result<(TermId, Vec<usize>), AllocError>
-    requires front { AreFormulas draft.old front.now }
-    requires goal { IsFormulaAt draft.old goal }
+    requires can { CanGlue draft.old front.now goal number ends.now }
     requires tree { tree_at draft.old.trees goal
         ≡ Two HForall (tree_at draft.old.trees ty) (tree_at draft.old.trees body) }
     requires ty_held { Holds draft.old.trees ty }
     requires body_held { Holds draft.old.trees body }
-    requires below { AreParamsBelow number (trees_at draft.old.trees front.now)
-        (tree_at draft.old.trees goal) }
-    requires ends { EndsOfParts draft.old ends.now (trees_at draft.old.trees front.now)
-        (split (tree_at draft.old.trees goal)) }
-    ensures formula { IfOk result (λ r. IsFormulaAt draft.new r.0) }
-    ensures is { IfOk result (λ r. tree_at draft.new.trees r.0
-        ≡ inst (tree_at draft.old.trees body) (Param number (tree_at draft.old.trees ty))) }
-    ensures below { IfOk result (λ r. AreParamsBelow (number + 1)
-        (trees_at draft.old.trees front.now)
-        (tree_at draft.new.trees r.0)) }
-    ensures ends { IfOk result (λ r. EndsOfParts draft.new r.1.items
-        (trees_at draft.old.trees front.now) (split (tree_at draft.new.trees r.0))) }
+    ensures opened { IfOk result (λ r. IsGoalOpened draft.old draft.new front.now
+        (inst (tree_at draft.old.trees body) (Param number (tree_at draft.old.trees ty)))
+        (number + 1) r.0 r.1.items) }
     ensures grows { Extends draft.old draft.new }
 {
     let param = parameter(draft, number, ty)?;
@@ -62,23 +49,14 @@ pub(crate) fn open_valued(
     number: usize,
     ends: &[usize],
 ) -> Result<(TermId, Vec<usize>), AllocError>
-    requires front { AreFormulas draft.old front.now }
-    requires goal { IsFormulaAt draft.old goal }
+    requires can { CanGlue draft.old front.now goal number ends.now }
     requires tree { tree_at draft.old.trees goal
         ≡ Two HLet (tree_at draft.old.trees value) (tree_at draft.old.trees body) }
     requires value_held { Holds draft.old.trees value }
     requires body_held { Holds draft.old.trees body }
-    requires below { AreParamsBelow number (trees_at draft.old.trees front.now)
-        (tree_at draft.old.trees goal) }
-    requires ends { EndsOfParts draft.old ends.now (trees_at draft.old.trees front.now)
-        (split (tree_at draft.old.trees goal)) }
-    ensures formula { IfOk result (λ r. IsFormulaAt draft.new r.0) }
-    ensures is { IfOk result (λ r. tree_at draft.new.trees r.0
-        ≡ inst (tree_at draft.old.trees body) (tree_at draft.old.trees value)) }
-    ensures below { IfOk result (λ r. AreParamsBelow number (trees_at draft.old.trees front.now)
-        (tree_at draft.new.trees r.0)) }
-    ensures ends { IfOk result (λ r. EndsOfParts draft.new r.1.items
-        (trees_at draft.old.trees front.now) (split (tree_at draft.new.trees r.0))) }
+    ensures opened { IfOk result (λ r. IsGoalOpened draft.old draft.new front.now
+        (inst (tree_at draft.old.trees body) (tree_at draft.old.trees value))
+        number r.0 r.1.items) }
     ensures grows { Extends draft.old draft.new }
 {
     let alloc = draft.allocator();

@@ -1,21 +1,21 @@
 // From the end of a part under something, which is read from its step, the end of the part alone.
-ghost use Rattle.std.specs.Prelude.{◌++◌, [], ◌∷◌, IfOk};
+ghost use Rattle.std.specs.Prelude.{◌≡◌, ◌++◌, [], ◌∷◌, List, IfOk};
 ghost use Rattle.tasks.specs.trees.Tree.{Tree, Two, HForall, HLet};
 ghost use Rattle.tasks.specs.trees.Node.{tree_at, Holds};
 ghost use Rattle.tasks.specs.trees.Binding.{inst};
 ghost use Rattle.tasks.specs.Task.{neg};
 ghost use Rattle.tasks.specs.Meaning.{trees_at};
-ghost use Rattle.evidence.specs.Drafts.{Extends, Refutes, IsFormulaAt, AreFormulas};
+ghost use Rattle.evidence.specs.Drafts.{Extends, AddsTrees, Refutes, IsFormulaAt, AreFormulas};
 ghost use Rattle.tr_split.specs.Split.{imp};
-ghost use Rattle.tr_split.specs.Glue.{EndsOfParts};
-ghost use Rattle.tr_split_goals.specs.Over.{PartOf, IsTermAt, IsTypedTermAt, whole_of, inner_of, extra_of, wholes, inners, OverHeld};
+ghost use Rattle.tr_split.specs.Glue.{EndsOfParts, IsNegation, IsImplication};
+ghost use Rattle.tr_split_goals.specs.Over.{IsEnd, PartOf, IsBinding, IsClosedIn, IsUniversalEnd, IsTypedTermAt};
+ghost use Rattle.tr_split_goals.specs.Over.{whole_of, inner_of, extra_of, wholes, inners, OverHeld};
 
-use crate::ends::{end_opened, end_under, end_valued};
-use crate::forming::{connect, formula_under_not, right_side, under_binder};
 use evidence::{Draft, last_formula, negation};
 use instances::instance;
+use proof_scripts::{Line, Word, derive};
 use std::alloc::AllocError;
-use tasks::{Op, TermId};
+use tasks::{Grow, Node, Op, TermId};
 
 // A hypothesis; a quantifier's type, and the term at which it is opened; or the value of a `let`, which is opened there.
 #[derive(Clone, Copy)]
@@ -25,8 +25,62 @@ pub(crate) enum Over {
     Value(TermId),
 }
 
+// What a part's end refutes, without the negation.
+fn end_formula(draft: &Draft, end: usize) -> TermId
+    requires { IsEnd draft.now end }
+    ensures formula { IsFormulaAt draft.now result }
+    ensures is { (front : List Tree) (whole : Tree) → Refutes draft.now end
+        (front ++ neg whole ∷ []) → tree_at draft.now.trees result ≡ whole }
+{
+    let negated = last_formula(draft, end);
+    under_not(draft, negated)
+}
+
+// What a negation negates.
+fn under_not(draft: &Draft, id: TermId) -> TermId
+    requires formula { IsFormulaAt draft.now id }
+    requires negation { IsNegation (tree_at draft.now.trees id) }
+    ensures formula { IsFormulaAt draft.now result }
+    ensures tree { tree_at draft.now.trees id ≡ neg (tree_at draft.now.trees result) }
+{
+    match draft.store().node(id) {
+        Node::Not(a) => a,
+        _ => unreachable!(),
+    }
+}
+
+// The right side of an implication.
+fn right_side(draft: &Draft, id: TermId) -> TermId
+    requires formula { IsFormulaAt draft.now id }
+    requires implication { IsImplication (tree_at draft.now.trees id) }
+    ensures formula { IsFormulaAt draft.now result }
+    ensures tree { (a b : Tree) → tree_at draft.now.trees id ≡ imp a b
+        → tree_at draft.now.trees result ≡ b }
+{
+    match draft.store().node(id) {
+        Node::Join(_, _, b) => b,
+        _ => unreachable!(),
+    }
+}
+
+// What is under a quantifier or a `let`.
+fn under_binder(draft: &Draft, id: TermId) -> TermId
+    requires formula { IsFormulaAt draft.now id }
+    requires binding { IsBinding (tree_at draft.now.trees id) }
+    ensures held { Holds draft.now.trees result }
+    ensures universal { (a b : Tree) → tree_at draft.now.trees id ≡ Two HForall a b
+        → tree_at draft.now.trees result ≡ b }
+    ensures valued { (a b : Tree) → tree_at draft.now.trees id ≡ Two HLet a b
+        → tree_at draft.now.trees result ≡ b }
+{
+    match draft.store().node(id) {
+        Node::Forall(_, b) | Node::Let(_, b) => b,
+        _ => unreachable!(),
+    }
+}
+
 // A part under a hypothesis.
-pub(crate) fn part_under(
+fn part_under(
     draft: &mut Draft,
     front: &[TermId],
     hypothesis: TermId,
@@ -42,43 +96,66 @@ pub(crate) fn part_under(
         ++ tree_at draft.old.trees hypothesis ∷ neg part ∷ [])) }
     ensures grows { Extends draft.old draft.new }
 {
-    let no_whole = last_formula(draft, end);
-    let whole = formula_under_not(draft, no_whole);
+    let whole = end_formula(draft, end);
     let part = right_side(draft, whole);
     let no_part = negation(draft, part)?;
-    end_under(draft, front, hypothesis, part, no_part, whole, end)
+    let lines = [
+        Line::Cut(whole),
+        Line::Holding(Op::Imp, 2),
+        Line::Rule(Word::Clash(0, 3)),
+        Line::Rule(Word::Clash(3, 1)),
+        Line::Given(end, 1),
+    ];
+    derive(draft, front, &[hypothesis, no_part], &lines)
 }
 
-// A part under a quantifier, at a term.
-pub(crate) fn part_opened(
+// The body of a part that binds at a term, negated.
+fn part_at(draft: &mut Draft, whole: TermId, term: TermId) -> Result<TermId, AllocError>
+    requires whole { IsFormulaAt draft.old whole }
+    requires term { IsClosedIn draft.old (tree_at draft.old.trees whole) term }
+    ensures formula { IfOk result (IsFormulaAt draft.new) }
+    ensures universal { IfOk result (λ id. (a b : Tree) → tree_at draft.old.trees whole
+        ≡ Two HForall a b → tree_at draft.new.trees id
+        ≡ neg (inst b (tree_at draft.old.trees term))) }
+    ensures valued { IfOk result (λ id. (a b : Tree) → tree_at draft.old.trees whole
+        ≡ Two HLet a b → tree_at draft.new.trees id
+        ≡ neg (inst b (tree_at draft.old.trees term))) }
+    ensures grows { AddsTrees draft.old draft.new }
+{
+    let part = under_binder(draft, whole);
+    let alloc = draft.allocator();
+    let inner = instance(alloc, draft, part, term)?;
+    negation(draft, inner)
+}
+
+// A part under a quantifier, at a term of its type.
+fn part_opened(
     draft: &mut Draft,
     front: &[TermId],
-    ty: TermId,
     term: TermId,
     end: usize,
 ) -> Result<usize, AllocError>
     requires front { AreFormulas draft.old front.now }
-    requires term { IsTermAt draft.old (tree_at draft.old.trees ty) term }
-    requires ty { Holds draft.old.trees ty }
-    requires end { PartOf draft.old end (trees_at draft.old.trees front.now)
-        (Two HForall (tree_at draft.old.trees ty)) }
-    ensures refutes { IfOk result (λ k. (part : Tree) → Refutes draft.old end
-        (trees_at draft.old.trees front.now ++ neg (Two HForall (tree_at draft.old.trees ty) part)
-        ∷ []) → Refutes draft.new k (trees_at draft.old.trees front.now
+    requires end { IsUniversalEnd draft.old end (trees_at draft.old.trees front.now) term }
+    ensures refutes { IfOk result (λ k. (ty part : Tree) → Refutes draft.old end
+        (trees_at draft.old.trees front.now ++ neg (Two HForall ty part) ∷ [])
+        → Refutes draft.new k (trees_at draft.old.trees front.now
         ++ neg (inst part (tree_at draft.old.trees term)) ∷ [])) }
     ensures grows { Extends draft.old draft.new }
 {
-    let no_whole = last_formula(draft, end);
-    let whole = formula_under_not(draft, no_whole);
-    let part = under_binder(draft, whole);
-    let alloc = draft.allocator();
-    let inner = instance(alloc, draft, part, term)?;
-    let no_inner = negation(draft, inner)?;
-    end_opened(draft, front, ty, part, term, inner, no_inner, whole, end)
+    let whole = end_formula(draft, end);
+    let no_inner = part_at(draft, whole, term)?;
+    let lines = [
+        Line::Cut(whole),
+        Line::Rule(Word::Forall(1, term)),
+        Line::Rule(Word::Clash(2, 0)),
+        Line::Given(end, 1),
+    ];
+    derive(draft, front, &[no_inner], &lines)
 }
 
 // A part under a `let`, at the value.
-pub(crate) fn part_valued(
+fn part_valued(
     draft: &mut Draft,
     front: &[TermId],
     value: TermId,
@@ -94,16 +171,17 @@ pub(crate) fn part_valued(
         ++ neg (inst part (tree_at draft.old.trees value)) ∷ [])) }
     ensures grows { Extends draft.old draft.new }
 {
-    let no_whole = last_formula(draft, end);
-    let whole = formula_under_not(draft, no_whole);
-    let part = under_binder(draft, whole);
-    let alloc = draft.allocator();
-    let inner = instance(alloc, draft, part, value)?;
-    let no_inner = negation(draft, inner)?;
-    let defined = connect(draft, Op::Iff, whole, inner)?;
-    end_valued(
-        draft, front, value, part, inner, no_inner, whole, defined, end,
-    )
+    let whole = end_formula(draft, end);
+    let no_inner = part_at(draft, whole, value)?;
+    let lines = [
+        Line::Cut(whole),
+        Line::Rule(Word::LetDef(whole)),
+        Line::Holding(Op::Iff, 2),
+        Line::Rule(Word::Clash(4, 0)),
+        Line::Rule(Word::Clash(1, 3)),
+        Line::Given(end, 1),
+    ];
+    derive(draft, front, &[no_inner], &lines)
 }
 
 // A part under any of these.
@@ -125,7 +203,7 @@ fn part_end(
 {
     match over {
         Over::Hypothesis(hypothesis) => part_under(draft, front, hypothesis, end),
-        Over::Universal(ty, term) => part_opened(draft, front, ty, term, end),
+        Over::Universal(_, term) => part_opened(draft, front, term, end),
         Over::Value(value) => part_valued(draft, front, value, end),
     }
 }

@@ -36,16 +36,14 @@ part_under-requires-clause-end c =
     let d = c.args.draft.now in
     subst (λ (o : Over). PartOf d c.args.end (trees_at d.trees c.args.front.now) (whole_of d.trees o)) c.in-Hypothesis.is c.requires.end
 
-pub part_opened-requires-clause-ty : goal.part_opened-requires-clause-ty
-part_opened-requires-clause-ty c = (subst (OverHeld c.args.draft.now) c.in-Universal.is c.requires.over).0
-
-pub part_opened-requires-clause-term : goal.part_opened-requires-clause-term
-part_opened-requires-clause-term c = (subst (OverHeld c.args.draft.now) c.in-Universal.is c.requires.over).1
-
 pub part_opened-requires-clause-end : goal.part_opened-requires-clause-end
 part_opened-requires-clause-end c =
     let d = c.args.draft.now in
-    subst (λ (o : Over). PartOf d c.args.end (trees_at d.trees c.args.front.now) (whole_of d.trees o)) c.in-Universal.is c.requires.end
+    record {
+      ty = tree_at d.trees c.in-Universal.field-0;
+      term = (subst (OverHeld d) c.in-Universal.is c.requires.over).1;
+      end = subst (λ (o : Over). PartOf d c.args.end (trees_at d.trees c.args.front.now) (whole_of d.trees o)) c.in-Universal.is c.requires.end;
+    }
 
 pub part_valued-requires-clause-value : goal.part_valued-requires-clause-value
 part_valued-requires-clause-value c = subst (OverHeld c.args.draft.now) c.in-Value.is c.requires.over
@@ -70,7 +68,7 @@ returns-in-Universal-clause-refutes c =
     let F = trees_at d.trees c.args.front.now in
     let t = tree_at d.trees c.in-Universal.term in
     rw c.in-Universal.is (IfOk-weaker c.part_opened.result _ _ (λ k f part r.
-    let q = f part r in
+    let q = f (tree_at d.trees c.in-Universal.field-0) part r in
     record { within = q.within; is = q.is ∙ ap (λ (z : List Tree). z ++ neg (inst part t) ∷ []) (sym (append-nil F)) }) c.part_opened.ensures.refutes)
 
 pub returns-in-Value-clause-refutes : goal.returns-in-Value-clause-refutes
