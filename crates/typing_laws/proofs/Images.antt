@@ -3,7 +3,7 @@ use Rattle.std.proofs.Common.{◌≡◌, ℕ, ◌≤◌, ◌⊎◌, inl, inr, Li
 use Rattle.trees.specs.declared.Sort.{Sort}
 use Rattle.trees.specs.declared.Sort.TheVariants.{Kind, Term, Formula, Pattern, Branch}
 use Rattle.trees.specs.Tree.{Tree, Leaf, One, Two, Three, Head, HTyVar, HTyRigid, HTyApp, HEnd, HCell, HBound, HParam, HNum, HFun, HPred, HEq, HTrue, HFalse, HNot, HJoin, HForall, HExists, HLet, HIf, HCase, HArm, HPatAny, HPatVar, HPatCon, HPatAlias, head_of, above_params}
-use Rattle.trees.specs.Sorts.{sort_of, yield, yield_type, type_of, first_sort, IsList, IsListOf, IsExpression}
+use Rattle.trees.specs.Sorts.{Fits, sort_of, yield, yield_type, type_of, first_sort, IsList, IsListOf, IsExpression}
 use Rattle.trees.specs.Binding.{inst_types, TyVar}
 use Rattle.trees.proofs.Instances.{inst_two}
 use Rattle.trees.proofs.Types.{AreKinds, expression_yield, three_no_cell}
@@ -14,7 +14,7 @@ use Rattle.tasks.specs.Task.{SymbolTree}
 use Rattle.tasks.proofs.TypeInstances.{some_kept}
 use Rattle.images.specs.Images.{image, IsOtherHead}
 use Rattle.images.proofs.Images.{ArePatterns, expression_sort, expression_type, expression_members, expression_branches, leaf_no_list, branches_alike, others_type, no_patterns, expression_no_patterns, expression_first, expression_cell, expression_arm, first_of}
-use Rattle.typing_laws.specs.HasTyping.{HasSorts, HasTyping, IsTypeAt, KeepsTyping, IsTypedRule}
+use Rattle.typing_laws.specs.HasTyping.{Suits, HasSorts, HasTyping, IsTypeAt, KeepsTyping, IsTypedRule, over_parts}
 use Rattle.typing_laws.proofs.TypeInstances.{at_one}
 use Rattle.typing_laws.proofs.Sorted.{has_sorts, kinds_sorted, one_is_no_cell}
 
@@ -384,6 +384,23 @@ module _ (v : Vocabulary) (f : Tree → Tree) (r : IsTypedRule v f) where
   pub image_keeps_typing : (types : List Tree) (e : Tree) → HasTyping v types e → KeepsTyping v types e (image f e)
   image_keeps_typing types e x = let l = like types e x in record { typed = l.typed; sort = l.sort; type = l.type; variables = l.variables; above = l.above; parameters = l.parameters }
 
+  -- the node over the images of its parts is typed as the tree is, and its children fit
+  pub over_typed : (types : List Tree) (e : Tree) → HasTyping v types e → HasTyping v types (over_parts f e)
+  over_typed types (Leaf h) x = x
+  over_typed types (One h a) x = (one_over types h a x (like types a x.2)).typed
+  over_typed types (Two h a b) x = (two_over types h a b x (like types a x.2) (like (bound_types h a ++ types) b x.3)).typed
+  over_typed types (Three h a b c) x = (three_over types h a b c x (like types a x.2) (like types b x.3) (like types c x.4)).typed
+
+  one_fits_too : (types : List Tree) (h : Head) (a : Tree) → HasTyping v types (One h a) → Fits (One h a) → Suits (One h (image f a)) → Fits (One h (image f a))
+  one_fits_too types (HBound i) a x t s = (s.0, t.1)
+  one_fits_too types h a x t s = s
+
+  pub over_fits : (types : List Tree) (e : Tree) → HasTyping v types e → Fits e → Fits (over_parts f e)
+  over_fits types (Leaf h) x t = t
+  over_fits types (One h a) x t = one_fits_too types h a x t (over_typed types (One h a) x).0
+  over_fits types (Two h a b) x t = (over_typed types (Two h a b) x).0
+  over_fits types (Three h a b c) x t = (over_typed types (Three h a b c) x).0
+
   -- ---- type instances
   -- where the rule at the type instance of a typed node is the instance of the rule there, so it is of the image of a typed tree
   module _ (ys : List Tree) (each : (j : ℕ) → IsTypeAt v (get_or ys j (TyVar j))) (node : (types : List Tree) (e : Tree) → HasTyping v types e → f (inst_types e ys) ≡ inst_types (f e) ys) where
@@ -412,3 +429,9 @@ module _ (v : Vocabulary) (f : Tree → Tree) (r : IsTypedRule v f) where
         ∙ ap (λ (z : Tree). f (Three h (inst_types (image f a) ys) z (image f (inst_types c ys)))) (image_at_types types b x.3)
         ∙ ap (λ (z : Tree). f (Three h (inst_types (image f a) ys) (inst_types (image f b) ys) z)) (image_at_types types c x.4)
         ∙ node types (Three h (image f a) (image f b) (image f c)) (three_over types h a b c x (like types a x.2) (like types b x.3) (like types c x.4)).typed
+
+pub image_over : (f : Tree → Tree) (e : Tree) → image f e ≡ f (over_parts f e)
+image_over f (Leaf h) = refl
+image_over f (One h a) = refl
+image_over f (Two h a b) = refl
+image_over f (Three h a b c) = refl

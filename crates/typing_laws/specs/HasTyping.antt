@@ -8,7 +8,7 @@ use Rattle.trees.specs.Sorts.{Fits, OneFits, sort_of, type_of, first_sort, IsExp
 use Rattle.tasks.specs.Vocabulary.{Vocabulary}
 use Rattle.tasks.specs.Typing.{TopTyped, bound_types}
 use Rattle.tasks.specs.Valid.{VariablesBelow, ParametersOf}
-use Rattle.images.specs.Images.{IsOtherHead}
+use Rattle.images.specs.Images.{image, IsOtherHead}
 
 -- the children are of fitting sorts
 abbrev pub OneSuits : Head → Sort → Option Sort → Type 0
@@ -57,3 +57,10 @@ pub record KeepsTyping (v : Vocabulary) (types : List Tree) (e made : Tree) : Ty
 pub record IsTypedRule (v : Vocabulary) (f : Tree → Tree) : Type 0 where
   pub others : (e : Tree) → IsOtherHead (head_of e) → f e ≡ e
   pub keeps : (types : List Tree) (e : Tree) → IsExpression (sort_of e) → HasTyping v types e → KeepsTyping v types e (f e)
+
+-- the node over the images of its parts
+abbrev pub over_parts : (Tree → Tree) → Tree → Tree
+over_parts f (Leaf h) = Leaf h
+over_parts f (One h a) = One h (image f a)
+over_parts f (Two h a b) = Two h (image f a) (image f b)
+over_parts f (Three h a b c) = Three h (image f a) (image f b) (image f c)
