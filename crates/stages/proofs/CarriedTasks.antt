@@ -14,7 +14,7 @@ use Rattle.stages.specs.declared.transformation.Transformation.{Transformation}
 use Rattle.stages.specs.Transformations.{equation_of}
 use Rattle.stages.specs.Kept.{keeps_of}
 use Rattle.stages.specs.Carried.{and_then, map_ok, all_tasks, carried_once, StageRefusal, at_stage, carried}
-use Rattle.stage_limits.specs.Limits.{limited}
+use Rattle.tr_remove.specs.stage_limits.Limits.{limited}
 use Rattle.stages.specs.Faults.{IsCarryFault}
 use Rattle.stages.specs.declared.fault.CarryFault.{CarryFault}
 use Rattle.stages.specs.declared.fault.CarryFault.TheVariants as fault

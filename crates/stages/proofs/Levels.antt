@@ -8,8 +8,8 @@ use Rattle.tasks.specs.Task.{TaskTree}
 use Rattle.kernel.specs.rule_rows.Trees.{StepTree}
 use Rattle.kernel.specs.Right.{Closes}
 use Rattle.evidence.specs.Stages.{Refusal, StageEquation, PartsClose, task_or, part_or, no_task}
-use Rattle.stage_limits.specs.Limits.{limited}
-use Rattle.stage_limits.specs.Laws.{limited_gives}
+use Rattle.tr_remove.specs.stage_limits.Limits.{limited}
+use Rattle.tr_remove.specs.stage_limits.Laws.{limited_gives}
 use Rattle.stages.specs.declared.transformation.Transformation.{Transformation}
 use Rattle.stages.specs.Transformations.{equation_of}
 use Rattle.stages.specs.Carried.{and_then, map_ok, all_tasks, carried_once, at_stage, carried, carries}

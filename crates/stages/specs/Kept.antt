@@ -4,7 +4,7 @@ use Rattle.tasks.specs.Task.{TaskTree}
 use Rattle.tasks.specs.Valid.{IsValid}
 use Rattle.evidence.specs.Stages.{Gives, Keeps}
 use Rattle.tr_introduce.specs.Kept.{introduce_keeps}
-use Rattle.tr_introduce.specs.KeptDecls.{remove_keeps}
+use Rattle.tr_remove.specs.Kept.{remove_keeps}
 use Rattle.tr_split_goals.specs.Kept.{split_keeps}
 use Rattle.stages.specs.declared.transformation.Transformation.{Transformation}
 use Rattle.stages.specs.declared.transformation.Transformation.TheVariants.{Remove, Split, Introduce}

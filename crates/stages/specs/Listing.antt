@@ -6,7 +6,7 @@ use Rattle.tasks.specs.Task.{TaskTree, DeclarationTree}
 use Rattle.driver_items.specs.declared.kinds.Trans.{Trans}
 use Rattle.driver_items.specs.declared.kinds.Trans.TheVariants.{SplitGoalRight, IntroducePremises}
 use Rattle.driver_parts.specs.declared.driver.Driver.{Driver}
-use Rattle.tr_introduce.specs.Remove.{is_proposition}
+use Rattle.tr_remove.specs.Remove.{is_proposition}
 use Rattle.stages.specs.declared.fault.CarryFault.{CarryFault}
 use Rattle.stages.specs.declared.fault.CarryFault.TheVariants as fault
 use Rattle.stages.specs.declared.transformation.Transformation.{Transformation}

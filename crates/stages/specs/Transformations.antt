@@ -1,7 +1,7 @@
 -- The equations of the transformations that are built.
 use Rattle.evidence.specs.Stages.{TaskEquation, StageEquation, stage_equation}
 use Rattle.tr_introduce.specs.Introduce.{introduce_equation}
-use Rattle.tr_introduce.specs.Remove.{remove_equation}
+use Rattle.tr_remove.specs.Remove.{remove_equation}
 use Rattle.tr_split_goals.specs.Goals.{split_equation}
 use Rattle.stages.specs.declared.transformation.Transformation.{Transformation}
 use Rattle.stages.specs.declared.transformation.Transformation.TheVariants.{Remove, Split, Introduce}

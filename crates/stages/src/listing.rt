@@ -14,7 +14,8 @@ use driver_items::Trans;
 use driver_parts::Driver;
 use std::alloc::{AllocError, Global};
 use tasks::{Body, Decl, Seq, Task, Text};
-use tr_introduce::{Introduce, Remove};
+use tr_introduce::Introduce;
+use tr_remove::Remove;
 use tr_split_goals::Split;
 
 // The transformation of this name, if it is built.

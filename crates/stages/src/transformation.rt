@@ -6,7 +6,8 @@ ghost use Rattle.stages.specs.Kept.{keeps_of};
 use evidence::{Draft, StageFault, Transform};
 use std::alloc::{AllocError, Global};
 use tasks::{Fact, Store, Task, TermId};
-use tr_introduce::{Introduce, Remove};
+use tr_introduce::Introduce;
+use tr_remove::Remove;
 use tr_split_goals::Split;
 
 /// A transformation that is built.

@@ -1,4 +1,4 @@
-//! The transformation `introduce_premises`, and the removal of propositions by theory and name.
+//! The transformation `introduce_premises`.
 //!
 //! Contract: the task of its equation, and the laws of a transformation.
 #![tactic(auto)]
@@ -8,10 +8,6 @@ mod introducing;
 mod introduction;
 mod openings;
 mod refuting;
-mod removal;
-mod removing;
 
 pub use introducing::Introduce;
 pub use introduction::introduced_task;
-pub use removal::removed_task;
-pub use removing::Remove;

@@ -3,7 +3,7 @@ use crate::small::{Named, filled_store, task, text};
 use outside::Text;
 use std::alloc::Global;
 use std::process::Abort;
-use tr_introduce::removed_task;
+use tr_remove::is_removed;
 use trees::{Node, TermId};
 
 static NODES: [Node; 1] = [Node::True];
@@ -43,14 +43,8 @@ fn compare(rt: &impl Abort, alloc: Global, row: &Row) {
     let store = filled_store(rt, alloc, &NODES);
     let whole = task(rt, alloc, &store, &[], TermId(2), &DECLS);
     let props = names(rt, alloc, words);
-    let made = removed_task(alloc, &props, &whole).expect(rt, "out of memory");
-    let decls = made.decls.as_slice();
-    assert!(rt; decls.len() == left.len());
-    for (decl, place) in decls.iter().zip(left) {
-        assert!(rt; *place < DECLS.len());
-        let (theory, name, _) = DECLS[*place];
-        assert!(rt; decl.theory.as_slice() == theory.as_bytes());
-        assert!(rt; decl.name.as_slice() == name.as_bytes());
+    for (place, decl) in whole.decls.as_slice().iter().enumerate() {
+        assert!(rt; is_removed(&props, decl) != left.contains(&place));
     }
 }
 

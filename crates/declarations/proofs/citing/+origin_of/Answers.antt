@@ -1,0 +1,15 @@
+use Rattle.std.proofs.Common.{◌∙◌, ◌+◌, ℕ, ap}
+use Rattle.tasks.specs.Meaning.{declaration_at, declarations_at}
+use Rattle.declarations.proofs.Places.{origin_here, origin_after}
+use Rattle.declarations.proofs.citing.+origin_of.Goals as goal
+
+pub returns-in-Here : goal.returns-in-Here
+returns-in-Here g t c = λ symbols.
+    let s = c.args.store.now in
+    rw c.in-Some.ensures.cases.0 (origin_here (g.R.RewriteDeclarations.said c.args.rule.now) symbols c.args.place (declaration_at s c.in-Some.first.now) (declarations_at s c.in-Some.rest.now) c.args.k c.in-Here.name (c.in-Here.ensures symbols))
+
+pub returns-in-After : goal.returns-in-After
+returns-in-After g t c = λ symbols.
+    let s = c.args.store.now in
+    rw c.in-Some.ensures.cases.0
+    (c.origin_of.ensures symbols ∙ origin_after (g.R.RewriteDeclarations.said c.args.rule.now) symbols c.args.place (declaration_at s c.in-Some.first.now) (declarations_at s c.in-Some.rest.now) c.args.k c.in-After.left (c.args.place + c.said_in.result) (c.in-After.ensures symbols) (ap (λ (n : ℕ). c.args.place + n) c.said_in.ensures.said))

@@ -1,0 +1,11 @@
+//! The removal of propositions by theory and name.
+//!
+//! Contract: the task of its equation, and the laws of a transformation.
+#![tactic(auto)]
+
+mod removal;
+mod removing;
+
+pub use removal::is_removed;
+pub use removing::Remove;
+pub use stage_limits::limit_tasks;
