@@ -12,3 +12,6 @@ pub mod DataTerms
 pub mod PatternTyping
 pub mod PatternParts
 pub mod PatternLaws
+pub mod PatternTypes
+pub mod OpenInstances
+pub mod InstanceLaws

@@ -4,3 +4,4 @@ pub mod OpenTerms
 pub mod Templates
 pub mod Laws
 pub mod PatternTerms
+pub mod Instances

@@ -17,6 +17,14 @@ ghost use Rattle.images.specs.Laws.{
   TestsAreAt,
   BindsAreAt,
 };
+ghost use Rattle.images.specs.Instances.{
+  InstancesCompose,
+  QuantifiersOpen,
+  LoweredAreAt,
+  ImagesAreAtTypes,
+  TestsAreAtTypes,
+  BindsAreAtTypes,
+};
 ghost use Rattle.images.specs.PatternTerms.{
   MatchesAreTyped,
   ClosedMatchesAreFor,
@@ -59,10 +67,13 @@ pub fn law_of_open_terms()
 {}
 
 /// The laws of patterns: a pattern's test, and the terms for its variables, asked of a term at an
-/// environment are those of the open term, at the environment. It does nothing when it runs.
+/// environment are those of the open term, at the environment; and so at types put in for type
+/// variables, of a typed pattern in a valid task. It does nothing when it runs.
 pub fn law_of_patterns()
     ensures tests { TestsAreAt }
     ensures terms { BindsAreAt }
+    ensures tests_at_types { TestsAreAtTypes }
+    ensures terms_at_types { BindsAreAtTypes }
 {}
 
 /// The laws of what a pattern's test and the terms for its variables are, of a valid task: where the pattern is typed and the term
@@ -79,4 +90,16 @@ pub fn law_of_pattern_terms()
 pub fn law_of_constructors()
     ensures results { ConstructorsHaveResults }
     ensures of_types { TypesHaveResults }
+{}
+
+/// The laws of instances one after another: open terms put in for all open variables and then closed
+/// ones are the terms at the closed ones, put in; quantifiers at closed terms, one after another, are
+/// the body at all of them; what is put in for a variable that isn't there makes no difference; and
+/// the image of a tree at types is the tree's image at them, for a rule that commutes with them. It
+/// does nothing when it runs.
+pub fn law_of_instances()
+    ensures compose { InstancesCompose }
+    ensures quantifiers { QuantifiersOpen }
+    ensures lowered { LoweredAreAt }
+    ensures images { ImagesAreAtTypes }
 {}
