@@ -15,3 +15,4 @@ pub mod PatternLaws
 pub mod PatternTypes
 pub mod OpenInstances
 pub mod InstanceLaws
+pub mod AtTypes

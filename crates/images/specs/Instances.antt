@@ -1,14 +1,18 @@
 -- Instances of open trees one after another, and rules that commute with types put in.
-use Rattle.std.specs.Prelude.{◌≡◌, ℕ, ◌≤◌, false, List, [], ◌∷◌, map, length, get_or}
-use Rattle.trees.specs.declared.Sort.TheVariants.{Kind}
-use Rattle.trees.specs.Tree.{Tree, Leaf, One, Two, Three, Head, HForall, head_of, loose, pat_vars}
+use Rattle.std.specs.Prelude.{◌≡◌, ℕ, ◌≤◌, false, List, [], ◌∷◌, map, length, get_or, Some, All}
+use Rattle.trees.specs.declared.Sort.TheVariants.{Kind, Term}
+use Rattle.trees.specs.Tree.{Tree, Leaf, One, Two, Three, Head, HForall, head_of, loose, pat_vars, above_params}
 use Rattle.trees.specs.Binding.{change, inst, instantiating_many, inst_many, inst_types, TyVar, AreClosed, AreNoPatterns}
-use Rattle.trees.specs.Sorts.{WellSorted, sort_of}
+use Rattle.trees.specs.Sorts.{WellSorted, sort_of, type_of}
 use Rattle.trees.specs.Facts.{is_open}
 use Rattle.tasks.specs.Task.{TaskTree}
 use Rattle.tasks.specs.Equations.{for_all}
 use Rattle.tasks.specs.MatchTests.{test, bind}
-use Rattle.tasks.specs.Valid.{IsValid}
+use Rattle.tasks.specs.Vocabulary.{of_task}
+use Rattle.tasks.specs.Typing.{TypedUnder}
+use Rattle.tasks.specs.Valid.{VariablesBelow, IsTypeOver, IsValid}
+use Rattle.images.specs.Open.{IsEnvironment, IsOpenUnder}
+use Rattle.images.specs.Templates.{IsClosedType}
 use Rattle.images.specs.Images.{image, IsOtherHead}
 use Rattle.images.specs.PatternTerms.{IsTypedPattern}
 
@@ -60,3 +64,13 @@ TestsAreAtTypes = (t : TaskTree) → IsValid t → (tys types : List Tree) (p s 
 
 abbrev pub BindsAreAtTypes : Type 0
 BindsAreAtTypes = (t : TaskTree) → IsValid t → (tys types : List Tree) (p s : Tree) → IsTypedPattern t types p → map (λ e. inst_types e tys) (bind t p s) ≡ bind t (inst_types p tys) (inst_types s tys)
+
+-- ---- an open tree at types, and then at closed terms
+-- in a valid task, of a tree typed under binders, the one made of it is closed, typed, ground and has parameters below the same
+-- number, and a term has its type, at these types
+pub record IsInstanceAtTypes (tys env : List Tree) (e made : Tree) : Type 0 where
+  pub sort : sort_of made ≡ sort_of e
+  pub shape : (t : TaskTree) (types : List Tree) (n : ℕ) → IsValid t → All (IsTypeOver t 0) tys → IsEnvironment t (map (λ ty. inst_types ty tys) types) env n → TypedUnder (of_task t) types e → VariablesBelow (length tys) e → above_params e ≤ n
+      → IsOpenUnder t [] made n
+  pub type : (t : TaskTree) (types : List Tree) (n : ℕ) → IsValid t → All (IsTypeOver t 0) tys → IsEnvironment t (map (λ ty. inst_types ty tys) types) env n → TypedUnder (of_task t) types e → (ty : Tree) → IsClosedType (of_task t) ty → sort_of e ≡ Term
+      → type_of e ≡ Some ty → type_of made ≡ Some (inst_types ty tys)

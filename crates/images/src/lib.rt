@@ -1,9 +1,13 @@
-//! Images of trees under a rule for nodes, open trees at environments of closed terms, open terms put into open trees, templates
-//! and patterns at environments; no code.
+//! Images of trees under a rule for nodes, open trees at types and at environments of closed terms, open terms put into open
+//! trees, templates and patterns at environments.
 //!
-//! Contract: definitions and laws.
+//! Contract: definitions and laws; an open tree at types and closed terms, exactly.
 #![tactic(auto)]
 
+ghost use Rattle.std.specs.Prelude.{◌≡◌, IfOk};
+ghost use Rattle.trees.specs.Node.{tree_at, trees_at, Holds};
+ghost use Rattle.trees.specs.Binding.{inst_many, inst_types, AreClosed};
+ghost use Rattle.binders.specs.Visits.{HoldTerms, HoldTypes};
 ghost use Rattle.images.specs.Laws.{
   ImagesKeepTyping,
   TypesAreImages,
@@ -24,6 +28,7 @@ ghost use Rattle.images.specs.Instances.{
   ImagesAreAtTypes,
   TestsAreAtTypes,
   BindsAreAtTypes,
+  IsInstanceAtTypes,
 };
 ghost use Rattle.images.specs.PatternTerms.{
   MatchesAreTyped,
@@ -32,6 +37,41 @@ ghost use Rattle.images.specs.PatternTerms.{
   ConstructorsHaveResults,
   TypesHaveResults,
 };
+
+use binders::{inst_many, inst_types};
+use std::alloc::{AllocError, Global};
+use term_store::Grow;
+use trees::TermId;
+
+/// An open tree at types, put in for its type variables, and then at closed terms, put in for its
+/// open variables, the last one for the variable 0. Where the tree is typed in a valid task, and the
+/// types and terms are of it, what is made is closed, typed and ground, and has parameters below the
+/// same number. Only want of memory refuses.
+pub fn instance_at<G: Grow>(
+    alloc: Global,
+    g: &mut G,
+    e: TermId,
+    types: &[TermId],
+    env: &[TermId],
+) -> Result<TermId, AllocError>
+    requires held { Holds (G.trees g.old) e }
+    requires types { HoldTypes (G.trees g.old) types.now }
+    requires env { HoldTerms (G.trees g.old) env.now }
+    requires closed { AreClosed (trees_at (G.trees g.old) env.now) }
+    ensures held { IfOk result (Holds (G.trees g.new)) }
+    ensures tree { IfOk result (λ id. tree_at (G.trees g.new) id
+        ≡ inst_many (inst_types (tree_at (G.trees g.old) e) (trees_at (G.trees g.old) types.now))
+        (trees_at (G.trees g.old) env.now)) }
+    ensures keeps { IfOk result (λ id. IsInstanceAtTypes (trees_at (G.trees g.old) types.now)
+        (trees_at (G.trees g.old) env.now) (tree_at (G.trees g.old) e)
+        (tree_at (G.trees g.new) id)) }
+    ensures grows { G.grows g.old g.new }
+{
+    g.store().laws();
+    let at_types = inst_types(alloc, g, e, types)?;
+    let made = inst_many(alloc, g, at_types, env)?;
+    Ok(made)
+}
 
 /// The law of images, for readers to cite: where a rule keeps, at one node, what typing sees of a
 /// tree (its sort and type, that it is typed under the same binders, and no new type variable or
