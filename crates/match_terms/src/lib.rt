@@ -72,7 +72,7 @@ pub fn ask<G: Grow>(
 
 /// A constructor on the fields of a term, told by these projections, at a list of types: each result is a closed type. Only want
 /// of memory refuses.
-pub fn rebuilt<G: Grow>(
+pub fn rebuilt_term<G: Grow>(
     alloc: Global,
     g: &mut G,
     look: Lookup<'_>,
