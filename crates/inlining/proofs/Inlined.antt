@@ -15,7 +15,7 @@ use Rattle.inlining.specs.Groups.{is_recursive}
 use Rattle.inlining.specs.Inlining.{unfold_rule, with_uses_unfolded, inlined, is_trivial, plain_definitions, all_definitions, trivial_definitions, inlined_definitions, inlined_task}
 use Rattle.inlining.proofs.Bodies.{defined_body}
 use Rattle.inlining.proofs.Uses.{keeps_same, unfold_typed_rule}
-use Rattle.inlining.proofs.Changed.{changed_valid, goal_changed_valid}
+use Rattle.changed_tasks.proofs.Changed.{changed_valid, goal_changed_valid}
 
 -- ---- the definitions that are inlined are those of the task
 module _ (v : Vocabulary) where
@@ -72,6 +72,6 @@ module _ (t : TaskTree) (valid : IsValid t) where
   task_keeps m types e x = inlined_keeps (of_task t) (sound_task t valid) (inlined_definitions m t.decls) (inlined_defined (of_task t) m t.decls valid.decls) types e x
 
   pub inlined_valid : (m : InlineMode) → nodes (inlined_task m t) ≤ 1048576 → IsValid (inlined_task m t)
-  inlined_valid mode.Trivial l = changed_valid (inlined (inlined_definitions mode.Trivial t.decls)) t (task_keeps mode.Trivial) valid l
-  inlined_valid mode.Goal l = goal_changed_valid (inlined (inlined_definitions mode.Goal t.decls)) t (task_keeps mode.Goal) valid l
-  inlined_valid mode.All l = changed_valid (inlined (inlined_definitions mode.All t.decls)) t (task_keeps mode.All) valid l
+  inlined_valid mode.Trivial l = changed_valid (inlined (inlined_definitions mode.Trivial t.decls)) t (λ e s x. task_keeps mode.Trivial [] e x) valid l
+  inlined_valid mode.Goal l = goal_changed_valid (inlined (inlined_definitions mode.Goal t.decls)) t (λ e s x. task_keeps mode.Goal [] e x) valid l
+  inlined_valid mode.All l = changed_valid (inlined (inlined_definitions mode.All t.decls)) t (λ e s x. task_keeps mode.All [] e x) valid l

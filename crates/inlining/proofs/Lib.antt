@@ -1,7 +1,6 @@
 pub mod Rows
 pub mod Bodies
 pub mod Uses
-pub mod Changed
 pub mod Inlined
 pub mod AtTypes
 pub mod Equations

@@ -12,7 +12,7 @@ use Rattle.inlining.specs.declared.modes.InlineMode.{InlineMode}
 use Rattle.inlining.specs.declared.modes.InlineMode.TheVariants as mode
 use Rattle.decl_checks.specs.Structure.{defining_body}
 use Rattle.inlining.specs.Groups.{is_recursive}
-use Rattle.inlining.specs.Changed.{changed_task}
+use Rattle.changed_tasks.specs.Changed.{changed_task}
 
 -- ---- one definition
 -- a body at a list of types, for its type variables, and a list of arguments, for its parameters

@@ -1,4 +1,3 @@
 pub mod Groups
-pub mod Changed
 pub mod Inlining
 pub mod Laws

@@ -10,9 +10,8 @@ use Rattle.tasks.specs.Roles.{maker, role, role_by, is_made_by, is_constructor}
 use Rattle.tasks.specs.Copying.{with_goal}
 use Rattle.tasks.specs.Vocabulary.{Vocabulary, of_task}
 use Rattle.tasks.specs.Valid.{IsTypeIn, IsFormulaOver, IsValid, IsValidDecl, IsRigidEntry}
-use Rattle.typing_laws.specs.HasTyping.{HasTyping, KeepsTyping}
 use Rattle.typing_laws.proofs.Sorted.{typed_has, small_typed}
-use Rattle.inlining.specs.Changed.{with_formula, changed_declarations, changed_task}
+use Rattle.changed_tasks.specs.Changed.{with_formula, changed_declarations, changed_task, KeepsFormulas}
 
 module _ (g : Tree → Tree) where
   -- ---- what is declared
@@ -41,10 +40,10 @@ module _ (g : Tree → Tree) where
   maker_changed (d ∷ ds) k = maker_once k d d.body refl (changed_declarations g ds) ds (maker_changed ds k)
 
   -- ---- formulas
-  module _ (v : Vocabulary) (keeps : (types : List Tree) (e : Tree) → HasTyping v types e → KeepsTyping v types e (g e)) where
+  module _ (v : Vocabulary) (keeps : KeepsFormulas v g) where
     pub formula_changed : (params : List Tree) (vars : ℕ) (e : Tree) → IsFormulaOver v params vars e → size (g e) ≤ 1048576 → IsFormulaOver v params vars (g e)
     formula_changed params vars e f l =
-        let m = keeps [] e (typed_has v [] e f.typed) in
+        let m = keeps e f.sort (typed_has v [] e f.typed) in
         record { sort = m.sort ∙ f.sort; typed = small_typed v (g e) m.typed l; parameters = m.parameters params f.parameters; variables = m.variables vars f.variables }
 
     declaration_valid : (d : DeclarationTree) (b : BodyTree) → d.body ≡ b → IsValidDecl v d → body_nodes (with_formula g d b).body ≤ 1048576 → IsValidDecl v (with_formula g d b)
@@ -86,7 +85,7 @@ module _ (g : Tree → Tree) where
     pub role_changed : (k : ℕ) → role (changed_task g t) k ≡ role t k
     role_changed k = ap (role_by k) (maker_changed t.decls k)
 
-    module _ (keeps : (types : List Tree) (e : Tree) → HasTyping (of_task t) types e → KeepsTyping (of_task t) types e (g e)) (valid : IsValid t) where
+    module _ (keeps : KeepsFormulas (of_task t) g) (valid : IsValid t) where
       pub changed_valid : nodes (changed_task g t) ≤ 1048576 → IsValid (changed_task g t)
       changed_valid l = record {
         int = valid.int;
