@@ -14,7 +14,7 @@ use Rattle.tasks.specs.Typing.{entry}
 use Rattle.tasks.specs.Valid.{VariablesBelow, ParametersOf, IsDefinition}
 use Rattle.typing_laws.specs.HasTyping.{HasTyping}
 use Rattle.typing_laws.proofs.Sorted.{typed_has, formula_no_type}
-use Rattle.decl_checks.specs.Structure.{defining_body}
+use Rattle.recursive_groups.specs.decl_checks.Structure.{defining_body}
 
 -- a list, last first, before another
 abbrev pub onto : List Tree → List Tree → List Tree
@@ -26,19 +26,19 @@ map_onto g [] ys = refl
 map_onto g (x ∷ xs) ys = map_onto g xs (x ∷ ys)
 
 -- ---- what is under the quantifiers of an equation
-under_typed : (v : Vocabulary) (args types : List Tree) (e : Tree) → HasTyping v types (for_all args e) → HasTyping v (onto args types) e
+pub under_typed : (v : Vocabulary) (args types : List Tree) (e : Tree) → HasTyping v types (for_all args e) → HasTyping v (onto args types) e
 under_typed v [] types e x = x
 under_typed v (a ∷ args) types e x = under_typed v args (a ∷ types) e x.3
 
-under_variables : (n : ℕ) (args : List Tree) (e : Tree) → VariablesBelow n (for_all args e) → VariablesBelow n e
+pub under_variables : (n : ℕ) (args : List Tree) (e : Tree) → VariablesBelow n (for_all args e) → VariablesBelow n e
 under_variables n [] e h = h
 under_variables n (a ∷ args) e h = under_variables n args e h.1
 
-under_parameters : (ps args : List Tree) (e : Tree) → ParametersOf ps (for_all args e) → ParametersOf ps e
+pub under_parameters : (ps args : List Tree) (e : Tree) → ParametersOf ps (for_all args e) → ParametersOf ps e
 under_parameters ps [] e h = h
 under_parameters ps (a ∷ args) e h = under_parameters ps args e h.1
 
-under_body : (args : List Tree) (e : Tree) → defining_body (for_all args e) ≡ defining_body e
+pub under_body : (args : List Tree) (e : Tree) → defining_body (for_all args e) ≡ defining_body e
 under_body [] e = refl
 under_body (a ∷ args) e = under_body args e
 

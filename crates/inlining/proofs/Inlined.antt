@@ -10,8 +10,8 @@ use Rattle.typing_laws.specs.HasTyping.{HasTyping, KeepsTyping}
 use Rattle.typing_laws.proofs.Images.{image_keeps_typing}
 use Rattle.inlining.specs.declared.modes.InlineMode.{InlineMode}
 use Rattle.inlining.specs.declared.modes.InlineMode.TheVariants as mode
-use Rattle.decl_checks.specs.Structure.{defining_body}
-use Rattle.inlining.specs.Groups.{is_recursive}
+use Rattle.recursive_groups.specs.decl_checks.Structure.{defining_body}
+use Rattle.recursive_groups.specs.Groups.{is_recursive}
 use Rattle.inlining.specs.Inlining.{unfold_rule, with_uses_unfolded, inlined, is_trivial, plain_definitions, all_definitions, trivial_definitions, inlined_definitions, inlined_task}
 use Rattle.inlining.proofs.Bodies.{defined_body}
 use Rattle.inlining.proofs.Uses.{keeps_same, unfold_typed_rule}

@@ -8,7 +8,7 @@ use Rattle.tasks.specs.Valid.{IsDefinition}
 use Rattle.tasks.proofs.TypeInstances.{IsSoundVocabulary}
 use Rattle.typing_laws.specs.HasTyping.{HasTyping, IsTypeAt}
 use Rattle.typing_laws.proofs.Images.{image_at_types}
-use Rattle.decl_checks.specs.Structure.{defining_body}
+use Rattle.recursive_groups.specs.decl_checks.Structure.{defining_body}
 use Rattle.inlining.specs.Inlining.{unfold_rule, with_uses_unfolded, inlined}
 use Rattle.inlining.proofs.Bodies.{defined_body}
 use Rattle.inlining.proofs.Uses.{unfold_typed_rule}

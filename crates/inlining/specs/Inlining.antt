@@ -10,8 +10,8 @@ use Rattle.tasks.specs.Typing.{members}
 use Rattle.images.specs.Images.{image}
 use Rattle.inlining.specs.declared.modes.InlineMode.{InlineMode}
 use Rattle.inlining.specs.declared.modes.InlineMode.TheVariants as mode
-use Rattle.decl_checks.specs.Structure.{defining_body}
-use Rattle.inlining.specs.Groups.{is_recursive}
+use Rattle.recursive_groups.specs.decl_checks.Structure.{defining_body}
+use Rattle.recursive_groups.specs.Groups.{is_recursive}
 use Rattle.changed_tasks.specs.Changed.{changed_task}
 
 -- ---- one definition

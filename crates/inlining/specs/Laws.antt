@@ -8,7 +8,7 @@ use Rattle.tasks.specs.Equations.{cells, type_variables, bound_variables}
 use Rattle.tasks.specs.Vocabulary.{Vocabulary}
 use Rattle.tasks.specs.Valid.{IsDefinition, IsValid}
 use Rattle.tasks.proofs.TypeInstances.{IsSoundVocabulary}
-use Rattle.decl_checks.specs.Structure.{defining_body}
+use Rattle.recursive_groups.specs.decl_checks.Structure.{defining_body}
 use Rattle.images.specs.Images.{IsNodeRule}
 use Rattle.typing_laws.specs.HasTyping.{HasTyping, IsTypeAt, IsTypedRule}
 use Rattle.inlining.specs.declared.modes.InlineMode.{InlineMode}

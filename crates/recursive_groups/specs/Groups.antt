@@ -1,4 +1,4 @@
--- Recursive groups of definitions.
+-- Recursive groups of definitions: a body of one of them uses a member.
 use Rattle.std.specs.Prelude.{ℕ, ◌==◌, Bool, false, ◌||◌, List}
 use Rattle.std.specs.List.{list_any}
 use Rattle.trees.specs.Tree.{Tree, Leaf, One, Two, Three, HPred, HFun}

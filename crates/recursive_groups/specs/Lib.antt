@@ -1,0 +1,2 @@
+pub mod Groups
+pub use Rattle.decl_checks.specs as decl_checks
