@@ -25,7 +25,7 @@ kind_stays k body (Three (HFun f) zs ts ty) q = absurd (cc)
 kind_stays k body (Two (HPred p) zs ts) q = absurd (cc)
 kind_stays k body _ q = refl
 
-no_patterns : (v : Vocabulary) (types ms : List Tree) → Each (IsTermHere v types) ms → AreNoPatterns ms
+pub no_patterns : (v : Vocabulary) (types ms : List Tree) → Each (IsTermHere v types) ms → AreNoPatterns ms
 no_patterns v types [] h = tt
 no_patterns v types (m ∷ ms) h = (term_no_vars m h.0.0, no_patterns v types ms h.1)
 

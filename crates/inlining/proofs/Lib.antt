@@ -5,3 +5,10 @@ pub mod Inlined
 pub mod AtTypes
 pub mod Equations
 pub mod InlinedAtTypes
+pub mod OpenInstances
+pub mod ImageChanges
+pub mod UsesChanged
+pub mod FullBodies
+pub mod SinglePass
+pub use Rattle.images.proofs as images
+pub use Rattle.typing_laws.proofs as typing_laws

@@ -3,7 +3,7 @@ use Rattle.std.proofs.Common.{◌≡◌, ℕ, zero, suc, ◌+◌, ◌<◌, ◌�
 use Rattle.std.proofs.lemmas.Bool.Decides.{nat_tests}
 use Rattle.trees.specs.declared.Sort.{Sort}
 use Rattle.trees.specs.declared.Sort.TheVariants.{Kind, Term, Formula}
-use Rattle.trees.specs.Tree.{Tree, Leaf, One, Two, Three, Head, HCell, HFun, HPred, head_of, above_params}
+use Rattle.trees.specs.Tree.{Tree, Leaf, One, Two, Three, Head, HCell, HFun, HPred, head_of, above_params, loose}
 use Rattle.trees.specs.Binding.{inst_types, TyVar}
 use Rattle.trees.specs.Sorts.{WellSorted, sort_of, type_of, first_sort, IsList, IsListOf, IsExpression}
 use Rattle.trees.specs.Facts.{Each}
@@ -20,7 +20,7 @@ use Rattle.tasks.proofs.TypeInstances.{IsSoundVocabulary}
 use Rattle.instances.proofs.Kept.{parameters_longer, parameters_within}
 use Rattle.images.specs.Images.{IsOtherHead, KeepsTree, IsNodeRule}
 use Rattle.typing_laws.specs.HasTyping.{HasSorts, HasTyping, IsTypeAt, AreTermsFor, KeepsTyping, IsTypedRule}
-use Rattle.typing_laws.proofs.Sorted.{has_sorts, has_typed, typed_has, has_further, kind_has}
+use Rattle.typing_laws.proofs.Sorted.{has_sorts, has_typed, typed_has, has_closed, has_further, kind_has}
 use Rattle.typing_laws.proofs.TypeInstances.{sort_at, type_at, has_types, variables_below_at, no_parameters_at}
 use Rattle.typing_laws.proofs.Changes.{many_has, many_sort, many_type, many_variables, many_above_params, many_parameters}
 use Rattle.inlining.specs.Inlining.{use_body, unfold_rule}
@@ -118,6 +118,9 @@ module _ (v : Vocabulary) (types : List Tree) where
     further : HasTyping v (tys ++ types) typed
     further = has_further v tys types typed body_typed
 
+    pub use_closed : loose typed ≤ length (members ts)
+    use_closed = omega (arith, has_closed v tys typed body_typed, terms.as_many)
+
     pub use_typed : HasTyping v types (use_body body zs ts)
     use_typed = many_has v types tys (members ts) terms typed further
 
@@ -162,7 +165,7 @@ module _ (v : Vocabulary) (types : List Tree) where
   predicate_result Function out body q r = absurd (cc)
   predicate_result _ out body q r = absurd r
 
-  entry_is : (o : Option SymbolTree) (e : SymbolTree) (P : SymbolTree → Type 0) → o ≡ Some e → IsSomeAnd o P → P e
+  pub entry_is : (o : Option SymbolTree) (e : SymbolTree) (P : SymbolTree → Type 0) → o ≡ Some e → IsSomeAnd o P → P e
   entry_is o e P q h = subst (λ (z : Option SymbolTree). IsSomeAnd z P) q h
 
   module _ (k : ℕ) (body : Tree) (b : IsBody v k body) where
@@ -182,7 +185,7 @@ module _ (v : Vocabulary) (types : List Tree) where
         subst (λ (m : ℕ). VariablesBelow m body) (sym p.1.as_many) b.variables
 
   module _ (sound : IsSoundVocabulary v) (k : ℕ) (body : Tree) (b : IsBody v k body) where
-    function_keeps : (zs ts ty : Tree) → HasTyping v types (Three (HFun k) zs ts ty) → KeepsTyping v types (Three (HFun k) zs ts ty) (use_body body zs ts)
+    pub function_keeps : (zs ts ty : Tree) → HasTyping v types (Three (HFun k) zs ts ty) → KeepsTyping v types (Three (HFun k) zs ts ty) (use_body body zs ts)
     function_keeps zs ts ty x =
         let p = entry_is (entry v k) b.symbol (λ e. MakesTerms e.kind × IsUse e zs ts × HasResult e zs ty) b.is x.1.1 in
         let r = function_result b.symbol.kind b.symbol.result body p.0 b.result in record {
@@ -194,7 +197,7 @@ module _ (v : Vocabulary) (types : List Tree) where
           parameters = λ ps h. use_parameters sound k body zs ts b p.1 x.0.0 x.0.1 x.2 x.3 ps h.1;
         }
 
-    predicate_keeps : (zs ts : Tree) → HasTyping v types (Two (HPred k) zs ts) → KeepsTyping v types (Two (HPred k) zs ts) (use_body body zs ts)
+    pub predicate_keeps : (zs ts : Tree) → HasTyping v types (Two (HPred k) zs ts) → KeepsTyping v types (Two (HPred k) zs ts) (use_body body zs ts)
     predicate_keeps zs ts x =
         let p = entry_is (entry v k) b.symbol (λ e. (e.kind ≡ Predicate) × IsUse e zs ts) b.is x.1.1 in
         let r = predicate_result b.symbol.kind b.symbol.result body p.0 b.result in record {

@@ -9,10 +9,11 @@ use Rattle.tasks.specs.Vocabulary.{Vocabulary}
 use Rattle.tasks.specs.Valid.{IsDefinition, IsValid}
 use Rattle.tasks.proofs.TypeInstances.{IsSoundVocabulary}
 use Rattle.recursive_groups.specs.decl_checks.Structure.{defining_body}
-use Rattle.images.specs.Images.{IsNodeRule}
+use Rattle.images.specs.Images.{IsNodeRule, image}
 use Rattle.typing_laws.specs.HasTyping.{HasTyping, IsTypeAt, IsTypedRule}
 use Rattle.inlining.specs.declared.modes.InlineMode.{InlineMode}
 use Rattle.inlining.specs.Inlining.{unfold_rule, inlined, inlined_task}
+use Rattle.inlining.specs.FullBodies.{full_rule}
 
 -- the rule of a definition keeps typing at one node
 abbrev pub UsesKeepTyping : Type 0
@@ -25,6 +26,11 @@ abbrev pub InlinedAtTypes : Type 0
 InlinedAtTypes =
     (v : Vocabulary) → IsSoundVocabulary v → (ys : List Tree) → ((j : ℕ) → IsTypeAt v (get_or ys j (TyVar j))) → (ds : List DefinitionTree) → All (IsDefinition v) ds
     → (types : List Tree) (e : Tree) → HasTyping v types e → inlined ds (inst_types e ys) ≡ inst_types (inlined ds e) ys
+
+-- one pass, in which each use becomes its full body, is the passes of all definitions, from the last to the first
+abbrev pub InlinedInOnePass : Type 0
+InlinedInOnePass =
+    (v : Vocabulary) → IsSoundVocabulary v → (ds : List DefinitionTree) → All (IsDefinition v) ds → (types : List Tree) (e : Tree) → HasTyping v types e → inlined ds e ≡ image (full_rule ds) e
 
 -- what a valid task becomes is valid, where it isn't too large
 abbrev pub InlinedTasksAreValid : Type 0

@@ -280,7 +280,7 @@ one_closed t types (HBound i) a x l = omega (arith, slot types i a x)
 one_closed t types _ a x l = l
 
 -- what has its typing under binders has no other open variables
-has_closed : (t : Vocabulary) (types : List Tree) (e : Tree) → HasTyping t types e → loose e ≤ length types
+pub has_closed : (t : Vocabulary) (types : List Tree) (e : Tree) → HasTyping t types e → loose e ≤ length types
 has_closed t types (Leaf h) x = omega arith
 has_closed t types (One h a) x = one_closed t types h a x.1 (has_closed t types a x.2)
 has_closed t types (Two h a b) x =
