@@ -1,3 +1,4 @@
+pub use Rattle.instances.proofs as instances
 pub mod Later
 pub mod NewParameters
 pub mod HoleTemplates
@@ -5,3 +6,6 @@ pub mod EquationHoles
 pub mod ValueHoles
 pub mod BesideTemplates
 pub mod CaseParts
+pub mod Lists
+pub mod ApplicationLaws
+pub mod ApplicationHoles

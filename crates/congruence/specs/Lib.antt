@@ -1,5 +1,7 @@
+pub use Rattle.instances.specs as instances
 pub use Rattle.kernel.specs as kernel
 pub mod Alike
+pub mod Applications
 pub mod Quantifiers
 pub mod Lines
 pub mod Conditionals

@@ -12,7 +12,7 @@ ghost use Rattle.congruence.specs.Alike.{IsClosedAt, HasHalves, Shows, ArePair, 
 use evidence::{Draft, negation};
 use proof_scripts::{Formulas, Line, Places, Word, derive};
 use std::alloc::AllocError;
-use term_store::Grow;
+use tasks::Grow;
 use trees::{Node, Op, Sort, TermId};
 
 /// Evidence that two closed expressions are alike: they are one tree; a step that refutes `not (l = r)` alone; steps that refute

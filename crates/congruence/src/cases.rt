@@ -18,7 +18,7 @@ use crate::replacing::{apart, open_hole, template_left};
 use evidence::{Draft, negation};
 use proof_scripts::{Formulas, Line, Places, Word, derive};
 use std::alloc::AllocError;
-use term_store::Grow;
+use tasks::Grow;
 use trees::{Node, Op, Sort, TermId};
 
 /// Evidence for the condition and the parts of two conditionals.

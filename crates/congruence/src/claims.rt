@@ -13,7 +13,7 @@ use crate::replacing::apart;
 use evidence::{Draft, negation};
 use proof_scripts::{Formulas, Line, Places, Word, derive};
 use std::alloc::AllocError;
-use term_store::Grow;
+use tasks::Grow;
 use trees::{Node, Op, Sort, TermId};
 
 // `l = r` for terms, `l <-> r` for formulas.

@@ -11,7 +11,7 @@ use crate::claims::claim;
 use evidence::{Draft, negation};
 use proof_scripts::{Formulas, Line, Places, Word, derive};
 use std::alloc::AllocError;
-use term_store::Grow;
+use tasks::Grow;
 use trees::{Node, Op, TermId};
 
 /// The numbers of a conditional: the whole, its condition, and what the whole is alike where the condition holds and where it

@@ -13,7 +13,7 @@ use crate::alike::{AlikeBy, Halves, equation};
 use evidence::{Draft, negation};
 use proof_scripts::{Formulas, Line, Word, derive};
 use std::alloc::AllocError;
-use term_store::Grow;
+use tasks::Grow;
 use trees::{Node, Op, Sort, TermId};
 
 // [not (let x = v in b = b[v])].

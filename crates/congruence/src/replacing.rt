@@ -2,7 +2,7 @@
 ghost use Rattle.std.specs.Prelude.{◌≡◌, [], ◌∷◌, Some, IfOk};
 ghost use Rattle.trees.specs.Tree.{Tree};
 ghost use Rattle.trees.specs.Node.{tree_at, Holds};
-ghost use Rattle.trees.specs.Binding.{inst};
+ghost use Rattle.trees.specs.Binding.{inst, Bound};
 ghost use Rattle.trees.specs.Sorts.{sort_of, type_of};
 ghost use Rattle.tasks.specs.Task.{neg};
 ghost use Rattle.rule_rows.specs.Forms.{equal};
@@ -15,7 +15,7 @@ use crate::alike::{
 use evidence::{Draft, negation};
 use proof_scripts::{Formulas, Line, Places, Word, derive};
 use std::alloc::AllocError;
-use term_store::Grow;
+use tasks::Grow;
 use trees::{Node, Sort, TermId};
 
 // The negated equation of a tree with a hole and a closed term.
@@ -125,11 +125,13 @@ pub(crate) fn chain_terms(
     by_hole(draft, hole, l, m, r, l, m, first, second)
 }
 
-// The variable 0 at the type of two terms.
-pub(crate) fn open_hole(draft: &mut Draft, l: TermId, r: TermId) -> Result<TermId, AllocError>
+/// The variable 0 at the type of two terms.
+pub fn open_hole(draft: &mut Draft, l: TermId, r: TermId) -> Result<TermId, AllocError>
     requires pair { ArePair draft.old l r }
     requires term { sort_of (tree_at draft.old.trees l) ≡ Sort.Term }
     ensures hole { IfOk result (λ id. HoleAt draft.new id l r l r) }
+    ensures tree { IfOk result (λ id. (ty : Tree) → type_of (tree_at draft.old.trees l) ≡ Some ty
+        → tree_at draft.new.trees id ≡ Bound 0 ty) }
     ensures grows { AddsTrees draft.old draft.new }
 {
     let _ = r;

@@ -10,7 +10,7 @@ use crate::alike::AlikeBy;
 use crate::replacing::{alike_replaced, open_hole};
 use evidence::Draft;
 use std::alloc::AllocError;
-use term_store::Grow;
+use tasks::Grow;
 use trees::{Node, Sort, TermId};
 
 // `let x = [] in body`.
