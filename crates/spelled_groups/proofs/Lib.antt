@@ -1,0 +1,5 @@
+pub mod Sought
+pub mod SoughtClauses
+pub mod Making
+pub mod Saying
+pub mod Fit

@@ -1,0 +1,71 @@
+// The transformation that spells out definitions that aren't recursive.
+ghost use Rattle.spelled_groups.specs.Groups.{definition_facts};
+ghost use Rattle.spelled_groups.specs.Spelled.{spelling_rule, spelling_said};
+ghost use Rattle.tr_define.specs.Kept.{definitions_equation, definitions_keep};
+
+use declarations::{FactSearch, RewriteDeclarations, cite_old, only_end, rewritten_tasks};
+use evidence::{Draft, StageFault, Transform};
+use spelled_groups::{definitions_origin, definitions_said, push_in_place};
+use std::alloc::{AllocError, Global};
+use tasks::{Decl, Fact, Signature, Store, Task, TermId};
+
+/// The transformation that spells out each group of definitions that isn't recursive: its symbols, and then the equation of each, as
+/// propositions. It gives one task.
+#[derive(Clone, Copy)]
+pub struct Definitions;
+
+impl RewriteDeclarations for Definitions {
+    ghost rule = { λ _. spelling_rule definition_facts };
+
+    ghost said = { λ _. spelling_said definition_facts };
+
+    fn push_in_place(
+        &self,
+        alloc: Global,
+        store: &mut Store,
+        sig: &Signature,
+        decl: &Decl,
+        decls: &mut Vec<Decl>,
+    ) -> Result<(), AllocError> {
+        let said = definitions_said(alloc, store, sig, &decl.body)?;
+        push_in_place(alloc, store, sig, decl, said, decls)
+    }
+
+    fn origin(&self, store: &Store, decl: &Decl, place: usize, k: usize) -> FactSearch {
+        definitions_origin(store, decl, place, k)
+    }
+}
+
+impl Transform for Definitions {
+    ghost equation = { λ _ from. definitions_equation from };
+
+    /// The task with these groups spelled out.
+    fn make(&self, alloc: Global, store: &mut Store, task: &Task) -> Result<Vec<Task>, StageFault> {
+        Ok(rewritten_tasks(alloc, store, self, task)?)
+    }
+
+    fn fact(
+        &self,
+        from: &Task,
+        to: &Task,
+        name: Fact,
+        types: &[TermId],
+        formula: TermId,
+        draft: &mut Draft,
+    ) -> Result<usize, AllocError> {
+        cite_old(self, from, to, name, types, formula, draft)
+    }
+
+    fn glue(
+        &self,
+        from: &Task,
+        to: &Vec<Task>,
+        ends: &[usize],
+        draft: &mut Draft,
+    ) -> Result<usize, AllocError> {
+        let _ = from;
+        Ok(only_end(self, to, ends, draft))
+    }
+
+    ghost keeps = { λ _ t ts valid gives. definitions_keep t ts valid gives };
+}
