@@ -1,0 +1,10 @@
+pub mod Cases
+pub mod Typed
+pub mod AtTypes
+pub mod First
+pub mod Placing
+pub mod PlacedNodes
+pub mod Growing
+pub mod ByFirst
+pub mod EliminatedParts
+pub mod Rows

@@ -1,0 +1,3 @@
+pub mod Conditionals
+pub mod Held
+pub mod Laws
