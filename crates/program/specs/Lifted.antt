@@ -1,13 +1,17 @@
 -- What is lifted: refutations of a task's parts, and the derivation that is written for them.
-use Rattle.std.specs.Prelude.{◌≡◌, ℕ, List, None, Ok}
+use Rattle.std.specs.Prelude.{ℕ, List, None, map}
+use Rattle.tasks.specs.trees.Tree.{Tree}
 use Rattle.tasks.specs.Task.{TaskTree}
 use Rattle.rule_rows.specs.Trees.{StepTree}
 use Rattle.written_files.specs.name_tables.Tables.{task_names}
 use Rattle.written_files.specs.step_files.Lines.{StepsOf}
-use Rattle.driver_parts.specs.declared.driver.Driver.{Driver}
-use Rattle.stages.specs.declared.transformation.Transformation.{Transformation}
-use Rattle.stages.specs.Listing.{stages_of}
-use Rattle.stages.specs.Lifted.{AreRefuted, HandedHasSequents}
+use Rattle.tasks.specs.Meaning.{tasks_at}
+use Rattle.stages.specs.evidence.Stages.{PartsClose, PartsHeld, parts_at}
+use Rattle.stages.specs.Transformations.{equation_of}
+use Rattle.stages.specs.Levels.{IsCarried}
+use Rattle.stages.specs.Lifted.{HandedHasSequents}
+use Rattle.program.specs.declared.parts.StagedTask.{StagedTask}
+use Rattle.program.specs.declared.derivation.RefutedTask.{RefutedTask}
 
 -- The text is a file of steps that derive the task, and each given step has its sequent among theirs.
 pub record IsLifted (t : TaskTree) (handed : List (List StepTree)) (text : List ℕ) : Type 0 where
@@ -15,8 +19,12 @@ pub record IsLifted (t : TaskTree) (handed : List (List StepTree)) (text : List 
   pub derives : StepsOf t (task_names t) None text steps
   pub sequents : HandedHasSequents steps handed
 
--- refutations of the parts of a task, which is carried through the stages of a driver
-pub record AreRefutedUnder (d : Driver) (t : TaskTree) (handed : List (List StepTree)) : Type 0 where
-  pub stages : List Transformation
-  pub are : stages_of d t ≡ Ok stages
-  pub refuted : AreRefuted stages t handed
+-- the stages of a driver, with the task carried through them
+abbrev pub IsStaged : List Tree → TaskTree → StagedTask → Type 0
+IsStaged s t p = IsCarried (map equation_of p.stages.items) s t p.carried.levels.items p.carried.tasks.items
+
+-- a task carried through stages, with refutations of its parts
+pub record IsRefutedTask (s : List Tree) (t : TaskTree) (r : RefutedTask) : Type 0 where
+  pub staged : IsStaged s t r.staged
+  pub held : PartsHeld s r.handed.items
+  pub close : PartsClose (tasks_at s r.staged.carried.tasks.items) (parts_at s r.handed.items)

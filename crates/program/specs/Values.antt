@@ -2,7 +2,6 @@
 use Rattle.std.specs.Prelude.{List, Result, Ok, Err, Vec}
 use Rattle.std.specs.declared.alloc.Global.{Global}
 use Rattle.tasks.specs.trees.Tree.{Tree}
-use Rattle.tasks.specs.declared.task.Task.{Task}
 use Rattle.tasks.specs.Task.{TaskTree}
 use Rattle.tasks.specs.Meaning.{task_at, tasks_at}
 use Rattle.rule_rows.specs.declared.rule.Step.{Step}
@@ -19,6 +18,8 @@ use Rattle.statuses.specs.fault_order.declared.faults.RunFault.TheVariants as ru
 use Rattle.source_goals.specs.Order.{GoalSettingTree, setting_of}
 use Rattle.source_goals.specs.declared.setting.GoalSetting.{GoalSetting}
 use Rattle.program.specs.declared.parts.PartProblems.{PartProblems}
+use Rattle.program.specs.declared.parts.StagedTask.{StagedTask}
+use Rattle.program.specs.declared.derivation.RefutedTask.{RefutedTask}
 
 abbrev pub steps_in : {E : Type 0} → List Tree → Result (Vec Step Global) E → Result (List StepTree) E
 steps_in s (Ok steps) = Ok (steps_at s steps.items)
@@ -28,16 +29,20 @@ abbrev pub handed_in : {E : Type 0} → List Tree → Result (Vec (List Step) Gl
 handed_in s (Ok handed) = Ok (parts_at s handed.items)
 handed_in s (Err e) = Err e
 
-abbrev pub tasks_in : {E : Type 0} → List Tree → Result (Vec Task Global) E → Result (List TaskTree) E
-tasks_in s (Ok tasks) = Ok (tasks_at s tasks.items)
+abbrev pub tasks_in : {E : Type 0} → List Tree → Result StagedTask E → Result (List TaskTree) E
+tasks_in s (Ok p) = Ok (tasks_at s p.carried.tasks.items)
 tasks_in s (Err e) = Err e
+
+abbrev pub refuted_in : {E : Type 0} → List Tree → Result RefutedTask E → Result (List (List StepTree)) E
+refuted_in s (Ok r) = Ok (parts_at s r.handed.items)
+refuted_in s (Err e) = Err e
 
 -- a goal's task with its driver
 abbrev pub setting_at : List Tree → GoalSetting → GoalSettingTree
 setting_at s g = setting_of g.driver (task_at s g.task)
 
 abbrev pub parts_in : {E : Type 0} → List Tree → Result PartProblems E → Result (List TaskTree) E
-parts_in s (Ok p) = Ok (tasks_at s p.tasks.items)
+parts_in s (Ok p) = Ok (tasks_at s p.staged.carried.tasks.items)
 parts_in s (Err e) = Err e
 
 -- why there is no text, where a task isn't carried through

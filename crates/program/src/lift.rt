@@ -10,11 +10,11 @@ ghost use Rattle.part_texts.specs.Problems.{AreProblems};
 ghost use Rattle.statuses.specs.fault_order.Answers.{Answers, EndsAs, result_bytes};
 ghost use Rattle.program.specs.Order.{Handed, Lifting, LiftText, RefutationsRead};
 ghost use Rattle.program.specs.Only.{IsOnlyStop};
-ghost use Rattle.program.specs.Lifted.{AreRefutedUnder};
-ghost use Rattle.program.specs.Values.{handed_in, setting_at};
+ghost use Rattle.program.specs.Lifted.{IsRefutedTask};
+ghost use Rattle.program.specs.Values.{handed_in, refuted_in, setting_at};
 
-use crate::derivation::lifted_text;
-use crate::parts::find_parts;
+use crate::derivation::{RefutedTask, lifted_text};
+use crate::parts::{PartProblems, find_parts};
 use crate::refutations::read_files;
 use crate::setting::valid_setting;
 use driver_parts::Driver;
@@ -65,35 +65,36 @@ fn read_counted<L: Library>(
     read_files(alloc, lib, store, driver, parts, problems, refs)
 }
 
-// The refutations of the parts of a task.
+// The refutations of the parts of a task, which is carried through the stages of its driver.
 fn read_handed<L: Library>(
     alloc: Global,
     lib: &mut L,
     store: &mut Store,
     setting: &GoalSetting,
     refs: &[String],
-) -> Result<Vec<Seq<Step>>, RunFault>
+) -> Result<RefutedTask, RunFault>
     requires held { TaskHeld store.old setting.now.task }
     requires valid { IsValid (task_at store.old setting.now.task) }
     ensures answers { Answers (RefutationsRead (map string_bytes refs.now) (setting_at store.old
         setting.now)) setting.now.driver.next_file
         (λ _. length refs.now + setting.now.driver.next_file) (L.state lib.old)
-        (L.state lib.new) (handed_in store.new result) }
-    ensures held { IfOk result (λ v. PartsHeld store.new v.items) }
-    ensures refuted { IfOk result (λ v. AreRefutedUnder setting.now.driver (task_at store.old
-        setting.now.task) (parts_at store.new v.items)) }
+        (L.state lib.new) (refuted_in store.new result) }
+    ensures refuted { IfOk result (IsRefutedTask store.new (task_at store.old setting.now.task)) }
     ensures grows { Grows store.old store.new }
 {
     let parts = find_parts(alloc, store, setting)?;
-    read_counted(
+    let handed = read_counted(
         alloc,
         lib,
         store,
         &setting.driver,
-        &parts.tasks,
+        &parts.staged.carried.tasks,
         &parts.problems,
         refs,
-    )
+    )?;
+    let PartProblems { staged, problems } = parts;
+    let _ = problems;
+    Ok(RefutedTask { staged, handed })
 }
 
 // The derivation of a task.
@@ -111,8 +112,8 @@ fn lift_task<L: Library>(
         setting.now.driver.next_file (λ _. length refs.now + setting.now.driver.next_file)
         (L.state lib.old) (L.state lib.new) (result_bytes result) }
 {
-    let handed = read_handed(alloc, lib, &mut store, setting, refs)?;
-    let text = lifted_text(alloc, store, setting, handed)?;
+    let refuted = read_handed(alloc, lib, &mut store, setting, refs)?;
+    let text = lifted_text(alloc, store, &setting.task, refuted)?;
     Ok(text)
 }
 

@@ -7,20 +7,28 @@ ghost use Rattle.tasks.specs.Valid.{IsValid};
 ghost use Rattle.part_texts.specs.Problems.{AreProblems};
 ghost use Rattle.statuses.specs.fault_order.Answers.{IsStageAnswer};
 ghost use Rattle.program.specs.Order.{Carried, PrintableParts, Printable};
+ghost use Rattle.program.specs.Lifted.{IsStaged};
 ghost use Rattle.program.specs.Values.{carry_fault, part_fault, parts_in, setting_at, tasks_in};
 
 use driver_parts::Driver;
 use part_texts::{PartFault, Problem, problems_of};
 use source_goals::GoalSetting;
-use stages::{CarryFault, carry, stages_of};
+use stages::{CarryFault, TaskLevels, Transformation, carry, stages_of};
 use statuses::{Fault, RunFault};
 use std::alloc::Global;
-use tasks::{Store, Task};
+use tasks::Store;
+
+/// The stages of a driver for a task, and the task carried through them.
+#[derive(Drop)]
+pub struct StagedTask {
+    pub stages: Vec<Transformation>,
+    pub carried: TaskLevels,
+}
 
 /// The parts of a task, with their problems.
 #[derive(Drop)]
 pub struct PartProblems {
-    pub tasks: Vec<Task>,
+    pub staged: StagedTask,
     pub problems: Vec<Problem>,
 }
 
@@ -61,12 +69,12 @@ fn carry_task(
     alloc: Global,
     store: &mut Store,
     setting: &GoalSetting,
-) -> Result<Vec<Task>, RunFault>
+) -> Result<StagedTask, RunFault>
     requires held { TaskHeld store.old setting.now.task }
     requires valid { IsValid (task_at store.old setting.now.task) }
     ensures carried { IsStageAnswer (Carried (setting_at store.old setting.now)) (tasks_in store.new
         result) }
-    ensures held { IfOk result (λ ts. TasksHeld store.new ts.items) }
+    ensures staged { IfOk result (IsStaged store.new (task_at store.old setting.now.task)) }
     ensures grows { Grows store.old store.new }
 {
     let stages = match stages_of(alloc, &setting.driver, &setting.task) {
@@ -74,7 +82,7 @@ fn carry_task(
         Err(fault) => return Err(carry_fault(fault)),
     };
     match carry(alloc, store, &stages, &setting.task) {
-        Ok(tasks) => Ok(tasks),
+        Ok(carried) => Ok(StagedTask { stages, carried }),
         Err(fault) => Err(carry_fault(fault)),
     }
 }
@@ -84,17 +92,17 @@ fn with_problems(
     alloc: Global,
     store: &Store,
     driver: &Driver,
-    tasks: Vec<Task>,
+    staged: StagedTask,
 ) -> Result<PartProblems, RunFault>
-    requires held { TasksHeld store.now tasks.items }
-    ensures parts { IsStageAnswer (Printable driver.now (tasks_at store.now tasks.items))
-        (parts_in store.now result) }
-    ensures held { IfOk result (λ p. TasksHeld store.now p.tasks.items) }
-    ensures problems { IfOk result (λ p. AreProblems store.now driver.now (tasks_at store.now
-        p.tasks.items) p.problems.items) }
+    requires held { TasksHeld store.now staged.carried.tasks.items }
+    ensures parts { IsStageAnswer (Printable driver.now
+        (tasks_at store.now staged.carried.tasks.items)) (parts_in store.now result) }
+    ensures staged { IfOk result (λ p. p.staged ≡ staged) }
+    ensures problems { IfOk result (λ p. AreProblems store.now driver.now
+        (tasks_at store.now p.staged.carried.tasks.items) p.problems.items) }
 {
-    match problems_of(alloc, store, driver, &tasks) {
-        Ok(problems) => Ok(PartProblems { tasks, problems }),
+    match problems_of(alloc, store, driver, &staged.carried.tasks) {
+        Ok(problems) => Ok(PartProblems { staged, problems }),
         Err(fault) => Err(part_fault(fault)),
     }
 }
@@ -110,11 +118,12 @@ pub fn find_parts(
     ensures parts { IsStageAnswer (PrintableParts (setting_at store.old setting.now))
         (parts_in store.new
         result) }
-    ensures held { IfOk result (λ p. TasksHeld store.new p.tasks.items) }
+    ensures staged { IfOk result (λ p. IsStaged store.new (task_at store.old setting.now.task)
+        p.staged) }
     ensures problems { IfOk result (λ p. AreProblems store.new setting.now.driver
-        (tasks_at store.new p.tasks.items) p.problems.items) }
+        (tasks_at store.new p.staged.carried.tasks.items) p.problems.items) }
     ensures grows { Grows store.old store.new }
 {
-    let tasks = carry_task(alloc, store, setting)?;
-    with_problems(alloc, store, &setting.driver, tasks)
+    let staged = carry_task(alloc, store, setting)?;
+    with_problems(alloc, store, &setting.driver, staged)
 }

@@ -23,7 +23,13 @@ fn print_task(alloc: Global, store: &mut Store, setting: &GoalSetting) -> Result
         (result_bytes result) }
 {
     let parts = find_parts(alloc, store, setting)?;
-    let text = part_texts(alloc, store, &setting.driver, &parts.tasks, &parts.problems)?;
+    let text = part_texts(
+        alloc,
+        store,
+        &setting.driver,
+        &parts.staged.carried.tasks,
+        &parts.problems,
+    )?;
     Ok(text)
 }
 
@@ -35,7 +41,13 @@ fn name_task(alloc: Global, store: &mut Store, setting: &GoalSetting) -> Result<
         (result_bytes result) }
 {
     let parts = find_parts(alloc, store, setting)?;
-    let text = name_texts(alloc, store, &setting.driver, &parts.tasks, &parts.problems)?;
+    let text = name_texts(
+        alloc,
+        store,
+        &setting.driver,
+        &parts.staged.carried.tasks,
+        &parts.problems,
+    )?;
     Ok(text)
 }
 

@@ -1,15 +1,16 @@
 -- Tasks that are carried through, step by step.
-use Rattle.std.proofs.Common.{◌≡◌, ◌∙◌, ℕ, ◌<◌, ◌≤◌, ◌+◌, List, [], ◌∷◌, ◌++◌, length, map, get_or, drop, All, Result, Ok, Err, refl, ap, sym, subst, arith, append_assoc}
-use Rattle.std.proofs.lemmas.List.{append-nil, length-map, map-append, get_or-map, drop_more, drop_all}
-use Rattle.std.proofs.lemmas.List.Elements.{All-append, All-nil, All-weaker}
+use Rattle.std.proofs.Common.{◌≡◌, ◌∙◌, ℕ, ◌<◌, ◌≤◌, ◌+◌, List, [], ◌∷◌, ◌++◌, length, map, get_or, take, drop, All, Result, Ok, Err, refl, ap, sym, subst, arith, append_assoc}
+use Rattle.std.proofs.lemmas.List.{append-nil, length-map, length-append, map-append, get_or-map, get_or_append_left, take_all, drop_more, drop_all}
+use Rattle.std.proofs.Math.Seq.{get_or-append_seam}
+use Rattle.std.proofs.lemmas.List.Elements.{All-append, All-cons, All-nil, All-push, All-weaker}
 use Rattle.tasks.specs.trees.Tree.{Tree}
 use Rattle.tasks.specs.trees.Node.{Grows}
 use Rattle.tasks.specs.declared.task.Task.{Task}
 use Rattle.tasks.specs.Task.{TaskTree}
 use Rattle.tasks.specs.Meaning.{task_at, tasks_at, TaskHeld, TasksHeld}
 use Rattle.tasks.specs.Valid.{IsValid}
-use Rattle.tasks.proofs.Growth.{task_later, task_held_later, tasks_later, tasks_held_later}
-use Rattle.evidence.specs.Stages.{Refusal, StageEquation, Keeps, no_task}
+use Rattle.tasks.proofs.Growth.{map_agree, task_later, task_held_later, tasks_later, tasks_held_later}
+use Rattle.evidence.specs.Stages.{Refusal, StageEquation, Keeps, no_task, task_or}
 use Rattle.stages.specs.declared.transformation.Transformation.{Transformation}
 use Rattle.stages.specs.Transformations.{equation_of}
 use Rattle.stages.specs.Kept.{keeps_of}
@@ -18,7 +19,11 @@ use Rattle.tr_remove.specs.stage_limits.Limits.{limited}
 use Rattle.stages.specs.Faults.{IsCarryFault}
 use Rattle.stages.specs.declared.fault.CarryFault.{CarryFault}
 use Rattle.stages.specs.declared.fault.CarryFault.TheVariants as fault
-use Rattle.stages.specs.Steps.{AreTasks, ArePushed}
+use Rattle.stages.specs.Steps.{AreTasks, ArePushed, IsAlone}
+use Rattle.stages.specs.declared.task_levels.Level.{Level}
+use Rattle.stages.specs.declared.task_levels.TaskLevels.{TaskLevels}
+use Rattle.stages.specs.Levels.{LevelTree, level_at, levels_at, BecomeEach, next_tasks, AreLevels, IsLevelHeld, IsCarried, carried_from}
+use Rattle.stages.proofs.Levels.{become_more, taken_more, next_more, levels_more, levels_last}
 
 -- in a store that has grown
 pub tasks_kept : (s s' : List Tree) (tasks : List Task) → Grows s s' → AreTasks s tasks → AreTasks s' tasks
@@ -124,7 +129,7 @@ task_there_valid s s' g tasks i t a is l =
 
 -- the tasks that a task becomes, after others
 pub pushed_of : (x : Transformation) (s s' : List Tree) (g : Grows s s') (t : Task) (all made new : List Task) → IsValid (task_at s t) → AreTasks s all → TasksHeld s' made
-    → equation_of x (task_at s t) ≡ Ok (tasks_at s' made) → new ≡ all ++ made → ArePushed (equation_of x (task_at s t)) s all s' new
+    → equation_of x (task_at s t) ≡ Ok (tasks_at s' made) → new ≡ all ++ made → ArePushed (equation_of x (task_at s t)) s all s' new (length made)
 pushed_of x s s' g t all made new v a h e is =
     let kept = tasks_kept s s' all g a in
     let valid : All IsValid (tasks_at s' made) = All-weaker (Keeps (task_at s t)) IsValid (λ u k. k.valid) (tasks_at s' made) (keeps_of x (task_at s t) (tasks_at s' made) v e) in
@@ -134,19 +139,39 @@ pushed_of x s s' g t all made new v a h e is =
       given = tasks_at s' made;
       gives = e;
       is = ap (tasks_at s') is ∙ both ∙ ap (λ (us : List TaskTree). us ++ tasks_at s' made) (tasks_later s s' g all a.held);
+      count = sym (length-map made (task_at s'));
     }
 
 module _ (equation : StageEquation) (s0 : List Tree) (tasks : List Task) where
   abbrev pub SoFar : List Tree → List Task → ℕ → Type 0
   SoFar s all i = after_tasks equation (tasks_at s all) (drop i (tasks_at s0 tasks)) ≡ all_tasks equation (tasks_at s0 tasks)
 
-  pub once_step : (s s' : List Tree) (g : Grows s0 s) (i : ℕ) (t : Task) (all new : List Task) → TasksHeld s0 tasks → t ≡ get_or tasks i t → i < length tasks
-      → ArePushed (equation (task_at s t)) s all s' new → SoFar s all i → SoFar s' new (i + 1)
-  once_step s s' g i t all new held is l p so =
+  pub once_step : (s s' : List Tree) (g : Grows s0 s) (i n : ℕ) (t : Task) (all new : List Task) → TasksHeld s0 tasks → t ≡ get_or tasks i t → i < length tasks
+      → ArePushed (equation (task_at s t)) s all s' new n → SoFar s all i → SoFar s' new (i + 1)
+  once_step s s' g i n t all new held is l p so =
       let rest = drop (i + 1) (tasks_at s0 tasks) in
       let here : drop i (tasks_at s0 tasks) ≡ task_at s t ∷ rest = rest_from s0 s g tasks i t held is l in
       ap (λ (ts : List TaskTree). after_tasks equation ts rest) p.is ∙ after_more equation (tasks_at s all) p.given (task_at s t) rest p.gives
       ∙ ap (after_tasks equation (tasks_at s all)) (sym here) ∙ so
+
+  abbrev pub Each : List Tree → List Task → List ℕ → ℕ → Type 0
+  Each s all counts i = BecomeEach equation (take i (tasks_at s0 tasks)) counts (tasks_at s all)
+
+  pub each_step : (s s' : List Tree) (g : Grows s0 s) (i n : ℕ) (t : Task) (all new : List Task) (counts : List ℕ) → TasksHeld s0 tasks → t ≡ get_or tasks i t → i < length tasks
+      → ArePushed (equation (task_at s t)) s all s' new n → Each s all counts i → Each s' new (counts ++ n ∷ []) (i + 1)
+  each_step s s' g i n t all new counts held is l p h =
+      let ts = tasks_at s0 tasks in
+      let m : i < length ts = omega (arith, length-map tasks (task_at s0), l) in
+      let taken : take (i + 1) ts ≡ take i ts ++ task_at s t ∷ [] = taken_more ts i (task_at s t) m (rest_from s0 s g tasks i t held is l) in
+      subst (λ (us : List TaskTree). BecomeEach equation (take (i + 1) ts) (counts ++ n ∷ []) us) (sym p.is)
+      (subst (λ (us : List TaskTree). BecomeEach equation us (counts ++ n ∷ []) (tasks_at s all ++ p.given)) (sym taken)
+      (become_more equation (take i ts) counts (tasks_at s all) (task_at s t) p.given n h p.gives p.count))
+
+  pub each_done : (s : List Tree) (i : ℕ) (all made : List Task) (counts : List ℕ) → length tasks ≤ i → tasks_at s made ≡ tasks_at s all → Each s all counts i
+      → BecomeEach equation (tasks_at s0 tasks) counts (tasks_at s made)
+  each_done s i all made counts l e h =
+      let taken : take i (tasks_at s0 tasks) ≡ tasks_at s0 tasks = take_all i (tasks_at s0 tasks) (omega (arith, length-map tasks (task_at s0), l)) in
+      subst (λ (us : List TaskTree). BecomeEach equation (tasks_at s0 tasks) counts us) (sym e) (subst (λ (us : List TaskTree). BecomeEach equation us counts (tasks_at s all)) taken h)
 
   pub once_fault : (s : List Tree) (g : Grows s0 s) (i n : ℕ) (t : Task) (all : List Task) (e : CarryFault) → TasksHeld s0 tasks → t ≡ get_or tasks i t → i < length tasks
       → IsCarryFault (at_stage n (equation (task_at s t))) e → SoFar s all i → IsCarryFault (at_stage n (carried_once equation (tasks_at s0 tasks))) e
@@ -166,6 +191,9 @@ module _ (equation : StageEquation) (s0 : List Tree) (tasks : List Task) where
 -- before any task
 pub once_none : (equation : StageEquation) (s : List Tree) (tasks : List Task) → SoFar equation s tasks s [] 0
 once_none equation s tasks = after_none equation (tasks_at s tasks)
+
+pub each_none : (equation : StageEquation) (s0 : List Tree) (tasks : List Task) (s : List Tree) → Each equation s0 tasks s [] [] 0
+each_none equation s0 tasks s = refl
 
 pub none_are : (s : List Tree) → AreTasks s []
 none_are s = record { held = All-nil (TaskHeld s); valid = All-nil IsValid }
@@ -189,3 +217,82 @@ module _ (stages : List Transformation) (said : Result (List TaskTree) StageRefu
 
   pub left_done : (n : ℕ) (ts : List TaskTree) → length stages ≤ n → Left n ts → said ≡ Ok ts
   left_done n ts l so = sym so ∙ ap (λ (xs : List Transformation). carried (map equation_of xs) n ts) (drop_all n stages l)
+
+-- ---- levels
+level_later : (s s' : List Tree) (g : Grows s s') (l : Level) → IsLevelHeld s l → level_at s' l ≡ level_at s l
+level_later s s' g l h = ap (λ (ts : List TaskTree). record { tasks = ts; counts = l.counts.items }) (tasks_later s s' g l.tasks.items h.held)
+
+levels_later : (s s' : List Tree) (g : Grows s s') (levels : List Level) → All (IsLevelHeld s) levels → levels_at s' levels ≡ levels_at s levels
+levels_later s s' g levels h = map_agree (level_at s') (level_at s) levels (λ i z l. level_later s s' g (get_or levels i z) (h i z l))
+
+levels_held_later : (s s' : List Tree) (g : Grows s s') (levels : List Level) → All (IsLevelHeld s) levels → All (IsLevelHeld s') levels
+levels_held_later s s' g levels h i z l =
+    let at : Level = get_or levels i z in
+    tasks_kept s s' at.tasks.items g (h i z l)
+
+-- before any stage
+pub carried_none : (s : List Tree) (t : Task) (tasks : List Task) → TaskHeld s t → IsValid (task_at s t) → IsAlone t tasks → IsCarried [] s (task_at s t) [] tasks
+carried_none s t tasks h v a = record {
+  levels_are = All-nil (IsLevelHeld s);
+  are = record { held = a.held s h; valid = subst (All IsValid) (sym (a.tree s)) (All-cons IsValid (task_at s t) [] v (All-nil IsValid)) };
+  first = a.tree s;
+  become = tt;
+}
+
+-- one stage more
+pub carried_next : (es : List StageEquation) (e : StageEquation) (s s' : List Tree) (g : Grows s s') (t : TaskTree) (levels : List Level) (l : Level) (tasks made : List Task) → l.tasks.items ≡ tasks
+    → IsCarried es s t levels tasks → AreTasks s' made → BecomeEach e (tasks_at s tasks) l.counts.items (tasks_at s' made) → IsCarried (es ++ e ∷ []) s' t (levels ++ l ∷ []) made
+carried_next es e s s' g t levels l tasks made q c a b =
+    let us = tasks_at s' made in
+    let own : tasks_at s' l.tasks.items ≡ tasks_at s tasks = ap (tasks_at s') q ∙ tasks_later s s' g tasks c.are.held in
+    let all : levels_at s' (levels ++ l ∷ []) ≡ levels_at s levels ++ level_at s' l ∷ [] =
+    map-append (level_at s') levels (l ∷ []) ∙ ap (λ (z : List LevelTree). z ++ level_at s' l ∷ []) (levels_later s s' g levels c.levels_are) in
+    let each : BecomeEach e (tasks_at s' l.tasks.items) l.counts.items us = subst (λ (z : List TaskTree). BecomeEach e z l.counts.items us) (sym own) b in
+    record {
+      levels_are = All-push (IsLevelHeld s') levels l (levels_held_later s s' g levels c.levels_are) (tasks_kept s s' l.tasks.items g (subst (AreTasks s) (sym q) c.are));
+      are = a;
+      first = ap (λ (z : List LevelTree). next_tasks z us) all ∙ next_more (levels_at s levels) (level_at s' l) (tasks_at s tasks) us own ∙ c.first;
+      become = subst (λ (z : List LevelTree). AreLevels (es ++ e ∷ []) z us) (sym all) (levels_more es e (levels_at s levels) (level_at s' l) (tasks_at s tasks) us own c.become each);
+    }
+
+-- the last level, and those before it
+module _ (es : List StageEquation) (e : StageEquation) (s : List Tree) (t : TaskTree) (levels : List Level) (l : Level) (tasks : List Task) (n : length es ≡ length levels) (c : IsCarried (es ++ e ∷ []) s t (levels ++ l ∷ []) tasks) where
+  all_levels : levels_at s (levels ++ l ∷ []) ≡ levels_at s levels ++ level_at s l ∷ []
+  all_levels = map-append (level_at s) levels (l ∷ [])
+
+  both : AreLevels es (levels_at s levels) (tasks_at s l.tasks.items) × BecomeEach e (tasks_at s l.tasks.items) l.counts.items (tasks_at s tasks)
+  both = levels_last es e (levels_at s levels) (level_at s l) (tasks_at s tasks) (n ∙ sym (length-map levels (level_at s))) (subst (λ (z : List LevelTree). AreLevels (es ++ e ∷ []) z (tasks_at s tasks)) all_levels c.become)
+
+  pub last_become : BecomeEach e (tasks_at s l.tasks.items) l.counts.items (tasks_at s tasks)
+  last_become = both.1
+
+  pub last_are : AreTasks s l.tasks.items
+  last_are = subst (IsLevelHeld s) (get_or-append_seam levels l [] l) (c.levels_are (length levels) l (omega (arith, length-append levels (l ∷ []))))
+
+  pub carried_before : IsCarried es s t levels l.tasks.items
+  carried_before = record {
+    levels_are = λ i z m. subst (IsLevelHeld s) (get_or_append_left levels (l ∷ []) z i m) (c.levels_are i z (omega (arith, m, length-append levels (l ∷ []))));
+    are = last_are;
+    first = sym (next_more (levels_at s levels) (level_at s l) (tasks_at s l.tasks.items) (tasks_at s tasks) refl) ∙ ap (λ (z : List LevelTree). next_tasks z (tasks_at s tasks)) (sym all_levels) ∙ c.first;
+    become = both.0;
+  }
+
+-- after the last one
+pub carried_alone : (es : List StageEquation) (s : List Tree) (c : TaskLevels) (tasks : List Task) → IsCarried es s (carried_from s c) [] tasks → tasks_at s tasks ≡ carried_from s c ∷ []
+carried_alone es s c tasks h = h.first
+
+-- the task that is carried
+pub carried_is : (es : List StageEquation) (s : List Tree) (t : TaskTree) (c : TaskLevels) → IsCarried es s t c.levels.items c.tasks.items → carried_from s c ≡ t
+carried_is es s t c h = ap (λ (ts : List TaskTree). task_or ts 0) h.first
+
+-- in a store that has grown
+pub carried_later : (es : List StageEquation) (s s' : List Tree) (g : Grows s s') (t : TaskTree) (levels : List Level) (tasks : List Task) → IsCarried es s t levels tasks → IsCarried es s' t levels tasks
+carried_later es s s' g t levels tasks c =
+    let before : levels_at s levels ≡ levels_at s' levels = sym (levels_later s s' g levels c.levels_are) in
+    let last : tasks_at s tasks ≡ tasks_at s' tasks = sym (tasks_later s s' g tasks c.are.held) in
+    record {
+      levels_are = levels_held_later s s' g levels c.levels_are;
+      are = tasks_kept s s' tasks g c.are;
+      first = subst (λ (z : List TaskTree). next_tasks (levels_at s' levels) z ≡ t ∷ []) last (subst (λ (z : List LevelTree). next_tasks z (tasks_at s tasks) ≡ t ∷ []) before c.first);
+      become = subst (λ (z : List TaskTree). AreLevels es (levels_at s' levels) z) last (subst (λ (z : List LevelTree). AreLevels es z (tasks_at s tasks)) before c.become);
+    }

@@ -4,3 +4,4 @@ pub mod Sequents
 pub mod Levels
 pub mod Copies
 pub mod NextTask
+pub mod LiftedLevels

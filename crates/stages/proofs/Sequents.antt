@@ -45,16 +45,16 @@ have_more lists handed used count steps h g =
     let next : All P (take count (drop used handed)) = All-weaker (λ part. All (HasSequent steps) part) P (λ part a. All-weaker (HasSequent steps) (OneHasSequent all) (one_last lists steps) part a) (take count (drop used handed)) g in
     subst (All P) (sym (take-add used count handed)) (All-append P (take used handed) (take count (drop used handed)) before next)
 
-one_through : (steps : List StepTree) (between : List (List StepTree)) (st : StepTree) → HandedHasSequents steps between → OneHasSequent between st → HasSequent steps st
-one_through steps between st h o =
+one_of_lists : (lists between : List (List StepTree)) (st : StepTree) → ListsHaveSequents lists between → OneHasSequent between st → OneHasSequent lists st
+one_of_lists lists between st h o =
     let p = h o.0 [] o.1 o.2.0 no_step o.2.1 in
-    (p.0, p.1, p.2 ∙ o.2.2)
+    (p.0, p.1, (p.2.0, p.2.1, p.2.2 ∙ o.2.2))
 
--- steps that have the sequents of lists that have those of others
-pub have_through : (steps : List StepTree) (between handed : List (List StepTree)) → HandedHasSequents steps between → ListsHaveSequents between handed → HandedHasSequents steps handed
-have_through steps between handed h g =
-    All-weaker (λ part. All (OneHasSequent between) part) (λ part. All (HasSequent steps) part)
-    (λ part a. All-weaker (OneHasSequent between) (HasSequent steps) (λ st o. one_through steps between st h o) part a) handed g
+-- lists that have the sequents of lists that have those of others
+pub lists_through : (lists between handed : List (List StepTree)) → ListsHaveSequents lists between → ListsHaveSequents between handed → ListsHaveSequents lists handed
+lists_through lists between handed h g =
+    All-weaker (λ part. All (OneHasSequent between) part) (λ part. All (OneHasSequent lists) part)
+    (λ part a. All-weaker (OneHasSequent between) (OneHasSequent lists) (λ st o. one_of_lists lists between st h o) part a) handed g
 
 one_alone : (steps : List StepTree) (st : StepTree) → OneHasSequent (steps ∷ []) st → HasSequent steps st
 one_alone steps st o =

@@ -39,8 +39,3 @@ carried (equation ∷ equations) n ts = and_then (at_stage n (carried_once equat
 -- a task carried through stages, the first of which has number 0
 abbrev pub carried_task : List StageEquation → TaskTree → Result (List TaskTree) StageRefusal
 carried_task equations t = carried equations 0 (t ∷ [])
-
--- the tasks that a task becomes by equations in order, however large they are
-abbrev pub carries : List StageEquation → StageEquation
-carries [] t = Ok (t ∷ [])
-carries (equation ∷ equations) t = and_then (equation t) (all_tasks (carries equations))

@@ -1,5 +1,5 @@
--- What is lifted: refutations of the tasks that a task becomes, and the derivation that is made of them.
-use Rattle.std.specs.Prelude.{◌≡◌, ℕ, ◌<◌, List, length, map, All, Ok}
+-- The derivations that are made of refutations of the tasks that a task becomes, and of those that tasks become.
+use Rattle.std.specs.Prelude.{◌≡◌, ℕ, ◌<◌, List, length, All}
 use Rattle.tasks.specs.trees.Tree.{Tree}
 use Rattle.tasks.specs.trees.Node.{Grows}
 use Rattle.tasks.specs.Task.{TaskTree}
@@ -7,11 +7,8 @@ use Rattle.kernel.specs.rule_rows.Trees.{StepTree, step_or}
 use Rattle.kernel.specs.rule_rows.Meaning.{steps_at, StepsHeld}
 use Rattle.kernel.specs.Right.{Closes}
 use Rattle.evidence.specs.Stages.{PartsClose, PartsHeld, parts_at, part_or}
-use Rattle.stages.specs.declared.transformation.Transformation.{Transformation}
 use Rattle.stages.specs.declared.lifting.Derived.{Derived}
 use Rattle.stages.specs.declared.lifting.PartSteps.{PartSteps}
-use Rattle.stages.specs.Transformations.{equation_of}
-use Rattle.stages.specs.Carried.{carried_task}
 
 -- one of the steps has the sequent of this one
 abbrev pub HasSequent : List StepTree → StepTree → Type 0
@@ -27,12 +24,6 @@ OneHasSequent lists st = (i : ℕ) × (i < length lists) × HasSequent (part_or 
 
 abbrev pub ListsHaveSequents : List (List StepTree) → List (List StepTree) → Type 0
 ListsHaveSequents lists handed = All (λ part. All (OneHasSequent lists) part) handed
-
--- the tasks that a task becomes by stages, each refuted by its steps
-pub record AreRefuted (stages : List Transformation) (t : TaskTree) (handed : List (List StepTree)) : Type 0 where
-  pub tasks : List TaskTree
-  pub becomes : carried_task (map equation_of stages) t ≡ Ok tasks
-  pub close : PartsClose tasks handed
 
 -- in a store that has grown, steps derive a task, with the sequents of the given steps
 pub record IsDerived (s : List Tree) (t : TaskTree) (handed : List (List StepTree)) (d : Derived) : Type 0 where

@@ -1,5 +1,5 @@
 -- What the steps of carrying tasks through stages promise.
-use Rattle.std.specs.Prelude.{◌≡◌, List, [], ◌∷◌, ◌++◌, All, Result, Ok}
+use Rattle.std.specs.Prelude.{◌≡◌, ℕ, List, [], ◌∷◌, ◌++◌, All, Result, Ok, length}
 use Rattle.tasks.specs.trees.Tree.{Tree}
 use Rattle.tasks.specs.declared.task.Task.{Task}
 use Rattle.tasks.specs.Task.{TaskTree}
@@ -16,12 +16,13 @@ pub record AreTasksOf {E : Type 0} (said : Result (List TaskTree) E) (s : List T
   pub are : AreTasks s tasks
   pub is : said ≡ Ok (tasks_at s tasks)
 
--- the tasks that something gives were put after others, in a store that has grown
-pub record ArePushed {E : Type 0} (said : Result (List TaskTree) E) (s : List Tree) (old : List Task) (s' : List Tree) (new : List Task) : Type 0 where
+-- the tasks that something gives, so many, were put after others, in a store that has grown
+pub record ArePushed {E : Type 0} (said : Result (List TaskTree) E) (s : List Tree) (old : List Task) (s' : List Tree) (new : List Task) (n : ℕ) : Type 0 where
   pub are : AreTasks s' new
   pub given : List TaskTree
   pub gives : said ≡ Ok given
   pub is : tasks_at s' new ≡ tasks_at s old ++ given
+  pub count : n ≡ length given
 
 -- a task that stands for the same, whatever the store
 pub record IsCopy (task copy : Task) : Type 0 where

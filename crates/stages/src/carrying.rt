@@ -8,16 +8,18 @@ ghost use Rattle.tr_remove.specs.stage_limits.Limits.{limited};
 ghost use Rattle.stages.specs.Transformations.{equation_of};
 ghost use Rattle.stages.specs.Carried.{carried_once, carried_task, at_stage};
 ghost use Rattle.stages.specs.Faults.{IsCarryFault};
+ghost use Rattle.stages.specs.Levels.{BecomeEach, IsCarried};
 ghost use Rattle.stages.specs.Steps.{AreTasks, AreTasksOf, ArePushed, IsAlone};
 
 use crate::fault::{CarryFault, fault_at};
+use crate::task_levels::{Level, TaskLevels};
 use crate::transformation::Transformation;
 use evidence::Transform;
 use std::alloc::{AllocError, Global};
 use tasks::{Store, Task};
 use tr_remove::limit_tasks;
 
-// Puts the tasks that a task becomes after the others.
+// Puts the tasks that a task becomes after the others, and says how many they are.
 fn push_tasks(
     alloc: Global,
     store: &mut Store,
@@ -25,11 +27,11 @@ fn push_tasks(
     number: usize,
     task: &Task,
     all: &mut Vec<Task>,
-) -> Result<(), CarryFault>
+) -> Result<usize, CarryFault>
     requires held { TaskHeld store.old task.now }
     requires valid { IsValid (task_at store.old task.now) }
     requires all { AreTasks store.old all.old.items }
-    ensures pushed { IfOk result (λ u. ArePushed (equation_of stage.now
+    ensures pushed { IfOk result (ArePushed (equation_of stage.now
         (task_at store.old task.now)) store.old all.old.items store.new all.new.items) }
     ensures fault { IfErr result (IsCarryFault (at_stage number (equation_of stage.now
         (task_at store.old task.now)))) }
@@ -38,8 +40,9 @@ fn push_tasks(
     match stage.apply(alloc, store, task) {
         Ok(made) => {
             let mut made = made;
+            let count = made.len();
             all.append(&mut made)?;
-            Ok(())
+            Ok(count)
         }
         Err(fault) => Err(fault_at(number, fault)),
     }
@@ -59,26 +62,31 @@ fn limited_at(store: &Store, number: usize, tasks: Vec<Task>) -> Result<Vec<Task
     }
 }
 
-/// The tasks that tasks become by the stage with this number.
+/// The tasks that tasks become by the stage with this number, and how many each of them becomes.
 pub(crate) fn carry_once(
     alloc: Global,
     store: &mut Store,
     stage: &Transformation,
     number: usize,
     tasks: &[Task],
-) -> Result<Vec<Task>, CarryFault>
+) -> Result<(Vec<Task>, Vec<usize>), CarryFault>
     requires { AreTasks store.old tasks.now }
-    ensures tasks { IfOk result (λ ts. AreTasksOf (carried_once (equation_of stage.now)
-        (tasks_at store.old tasks.now)) store.new ts.items) }
+    ensures tasks { IfOk result (λ r. AreTasksOf (carried_once (equation_of stage.now)
+        (tasks_at store.old tasks.now)) store.new r.0.items) }
+    ensures counts { IfOk result (λ r. BecomeEach (equation_of stage.now)
+        (tasks_at store.old tasks.now) r.1.items (tasks_at store.new r.0.items)) }
     ensures fault { IfErr result (IsCarryFault (at_stage number (carried_once
         (equation_of stage.now) (tasks_at store.old tasks.now)))) }
     ensures grows { Grows store.old store.new }
 {
     let mut all = Vec::new(alloc);
+    let mut counts = Vec::with_capacity(alloc, tasks.len())?;
     for i in 0..tasks.len() {
-        push_tasks(alloc, store, stage, number, &tasks[i], &mut all)?;
+        let count = push_tasks(alloc, store, stage, number, &tasks[i], &mut all)?;
+        counts.push(count)?;
     }
-    limited_at(store, number, all)
+    let made = limited_at(store, number, all)?;
+    Ok((made, counts))
 }
 
 // A copy of a task, alone.
@@ -90,7 +98,8 @@ fn copy_task(alloc: Global, task: &Task) -> Result<Vec<Task>, AllocError>
     Ok(tasks)
 }
 
-/// The tasks that a task becomes by stages in order, the first of which has number 0.
+/// A task carried through stages in order, the first of which has number 0: the tasks that it becomes, and the levels on the way.
+/// Each level is what the stage's equation says of the one before.
 ///
 /// The first refusal is answered: in each stage that of each task in turn, `Misplaced` at a declaration that the
 /// transformation doesn't take, or `TooLarge` where one of its tasks has more than 2^20 tree nodes or a tree that is higher
@@ -101,18 +110,24 @@ pub fn carry(
     store: &mut Store,
     stages: &[Transformation],
     task: &Task,
-) -> Result<Vec<Task>, CarryFault>
+) -> Result<TaskLevels, CarryFault>
     requires held { TaskHeld store.old task.now }
     requires valid { IsValid (task_at store.old task.now) }
-    ensures tasks { IfOk result (λ ts. AreTasksOf (carried_task (map equation_of stages.now)
-        (task_at store.old task.now)) store.new ts.items) }
+    ensures tasks { IfOk result (λ c. AreTasksOf (carried_task (map equation_of stages.now)
+        (task_at store.old task.now)) store.new c.tasks.items) }
+    ensures carried { IfOk result (λ c. IsCarried (map equation_of stages.now) store.new
+        (task_at store.old task.now) c.levels.items c.tasks.items) }
     ensures fault { IfErr result (IsCarryFault (carried_task (map equation_of stages.now)
         (task_at store.old task.now))) }
     ensures grows { Grows store.old store.new }
 {
     let mut tasks = copy_task(alloc, task)?;
+    let mut levels = Vec::with_capacity(alloc, stages.len())?;
     for number in 0..stages.len() {
-        tasks = carry_once(alloc, store, &stages[number], number, &tasks)?;
+        let (made, counts) = carry_once(alloc, store, &stages[number], number, &tasks)?;
+        let level = Level { tasks, counts };
+        tasks = made;
+        levels.push(level)?;
     }
-    Ok(tasks)
+    Ok(TaskLevels { levels, tasks })
 }

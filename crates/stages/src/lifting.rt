@@ -1,21 +1,19 @@
 // Refutations of the tasks that a task becomes, brought back through the stages to a derivation of the task.
 // It depends on the laws of the transformations that are built; the program depends on it.
-ghost use Rattle.std.specs.Prelude.{◌≡◌, ◌∷◌, Ok, IfOk, map};
-ghost use Rattle.tasks.specs.trees.Node.{Grows};
+ghost use Rattle.std.specs.Prelude.{◌≡◌, ◌≤◌, ◌++◌, ◌∷◌, [], length, reverse, IfOk, map};
 ghost use Rattle.tasks.specs.Meaning.{task_at, tasks_at, TaskHeld, TasksHeld};
 ghost use Rattle.tasks.specs.Valid.{IsValid};
 ghost use Rattle.kernel.specs.Right.{last_starts};
 ghost use Rattle.evidence.specs.Drafts.{Extends};
 ghost use Rattle.evidence.specs.Stages.{Gives, IsOwnTask, PartsClose, PartsHeld, parts_at};
 ghost use Rattle.stages.specs.Transformations.{equation_of, task_equation_of};
-ghost use Rattle.stages.specs.Carried.{carries};
-ghost use Rattle.stages.specs.Steps.{AreTasks, IsCopy};
-ghost use Rattle.stages.specs.Lifted.{AreRefuted, HandedHasSequents, IsDerived};
-ghost use Rattle.stages.specs.Levels.{GivesSome, IsFrontClosed, IsRefutedFirst, AreRefutedFirst};
-ghost use Rattle.stages.specs.Levels.{IsDerivedFirst, AreDerivedFirst};
+ghost use Rattle.stages.specs.Steps.{IsCopy};
+ghost use Rattle.stages.specs.Lifted.{AreDerived, HandedHasSequents, IsDerived};
+ghost use Rattle.stages.specs.Levels.{IsCarried, IsRefutedLevel, carried_from};
 
+use crate::task_levels::{Level, TaskLevels};
 use crate::transformation::Transformation;
-use evidence::{Draft, StageFault, Transform, finish, lift_stage};
+use evidence::{Draft, finish, lift_stage};
 use kernel::Step;
 use std::alloc::{AllocError, Global};
 use std::rc::Rc;
@@ -96,146 +94,112 @@ fn lift_one(
     })
 }
 
-// The tasks that a task becomes by a stage, where it becomes some.
-fn tasks_of(
-    alloc: Global,
-    store: &mut Store,
-    stage: &Transformation,
-    task: &Task,
-) -> Result<Vec<Task>, AllocError>
-    requires held { TaskHeld store.old task.now }
-    requires valid { IsValid (task_at store.old task.now) }
-    requires gives { GivesSome (equation_of stage.now) (task_at store.old task.now) }
-    ensures held { IfOk result (λ ts. TasksHeld store.new ts.items) }
-    ensures tasks { IfOk result (λ ts. equation_of stage.now (task_at store.old task.now)
-        ≡ Ok (tasks_at store.new ts.items)) }
-    ensures grows { Grows store.old store.new }
+// The next tasks, so many of them, of a list that is kept in reverse, so that they can be split off.
+fn next_group(left: &mut Vec<Task>, count: usize) -> Result<Vec<Task>, AllocError>
+    requires { count ≤ length left.old.items }
+    ensures count { IfOk result (λ ts. length ts.items ≡ count) }
+    ensures items { IfOk result (λ ts. reverse left.old.items
+        ≡ ts.items ++ reverse left.new.items) }
 {
-    match stage.apply(alloc, store, task) {
-        Ok(to) => Ok(to),
-        Err(StageFault::Memory) => Err(AllocError),
-        Err(StageFault::Misplaced { decl: _ }) => unreachable!(),
-        Err(StageFault::TooLarge) => unreachable!(),
-    }
+    let from = left.len() - count;
+    let mut group = left.split_off(from)?;
+    group.reverse();
+    Ok(group)
 }
 
-// The derivation of a task, from the first of the refutations, those of the tasks that it becomes by a last stage, and how many
-// those are.
-fn lift_last(
+// The derivations of tasks, from refutations of the tasks that they become by a stage, so many each.
+fn lift_level(
     alloc: Global,
     store: Store,
     stage: &Transformation,
-    task: &Task,
-    to: &Vec<Task>,
-    rest: &[Seq<Step>],
-) -> Result<(Derived, usize), AllocError>
-    requires held { TaskHeld store task.now }
-    requires valid { IsValid (task_at store task.now) }
-    requires to_held { TasksHeld store to.now.items }
-    requires gives { equation_of stage.now (task_at store task.now)
-        ≡ Ok (tasks_at store to.now.items) }
-    requires rest_held { PartsHeld store rest.now }
-    requires front { IsFrontClosed (tasks_at store to.now.items) (parts_at store rest.now) }
-    ensures { IfOk result (IsDerivedFirst (equation_of stage.now) store (task_at store task.now)
-        (parts_at store rest.now)) }
-{
-    let count = to.len();
-    let derived = lift_one(alloc, store, stage, task, to, &rest[..count])?;
-    Ok((derived, count))
-}
-
-// The derivation of a task, from the first of the refutations, those of the tasks that it becomes by a stage and later ones, and
-// how many those are.
-#[cycle(lift)]
-fn lift_task(
-    alloc: Global,
-    store: Store,
-    stage: &Transformation,
-    later: &[Transformation],
-    task: &Task,
-    rest: &[Seq<Step>],
-) -> Result<(Derived, usize), AllocError>
-    requires held { TaskHeld store task.now }
-    requires valid { IsValid (task_at store task.now) }
-    requires rest_held { PartsHeld store rest.now }
-    requires refuted { IsRefutedFirst (carries (map equation_of (stage.now ∷ later.now)))
-        (task_at store task.now) (parts_at store rest.now) }
-    ensures { IfOk result (IsDerivedFirst (carries (map equation_of (stage.now ∷ later.now))) store
-        (task_at store task.now) (parts_at store rest.now)) }
-{
-    let mut store = store;
-    let to = tasks_of(alloc, &mut store, stage, task)?;
-    match later.split_first() {
-        None => lift_last(alloc, store, stage, task, &to, rest),
-        Some((next, others)) => {
-            let (lifted, count) = lift_tasks(alloc, store, next, others, &to, rest)?;
-            let PartSteps { store, lists } = lifted;
-            let derived = lift_one(alloc, store, stage, task, &to, &lists)?;
-            Ok((derived, count))
-        }
-    }
-}
-
-// The derivations of tasks, each from the refutations that come next.
-#[cycle(lift)]
-fn lift_tasks(
-    alloc: Global,
-    store: Store,
-    stage: &Transformation,
-    later: &[Transformation],
     tasks: &[Task],
-    rest: &[Seq<Step>],
-) -> Result<(PartSteps, usize), AllocError>
-    requires tasks { AreTasks store tasks.now }
-    requires rest_held { PartsHeld store rest.now }
-    requires refuted { AreRefutedFirst (carries (map equation_of (stage.now ∷ later.now)))
-        (tasks_at store tasks.now) (parts_at store rest.now) }
-    ensures { IfOk result (AreDerivedFirst (carries (map equation_of (stage.now ∷ later.now))) store
-        (tasks_at store tasks.now) (parts_at store rest.now)) }
+    counts: &[usize],
+    made: Vec<Task>,
+    parts: &[Seq<Step>],
+) -> Result<PartSteps, AllocError>
+    requires { IsRefutedLevel (equation_of stage.now) store tasks.now counts.now made.items
+        parts.now }
+    ensures { IfOk result (AreDerived store (tasks_at store tasks.now)
+        (parts_at store parts.now)) }
 {
     let mut store = store;
     let mut lists = Vec::with_capacity(alloc, tasks.len())?;
+    let mut left = made;
+    left.reverse();
     let mut used = 0;
     for i in 0..tasks.len() {
-        let (derived, count) = lift_task(alloc, store, stage, later, &tasks[i], &rest[used..])?;
+        let task = &tasks[i];
+        let count = counts[i];
+        let next = used + count;
+        let to = next_group(&mut left, count)?;
+        let derived = lift_one(alloc, store, stage, task, &to, &parts[used..next])?;
         let Derived {
             store: grown,
             steps,
         } = derived;
         lists.push(steps)?;
         store = grown;
-        used += count;
+        used = next;
     }
-    Ok((PartSteps { store, lists }, used))
+    Ok(PartSteps { store, lists })
 }
 
-/// A derivation of a task, from refutations of the tasks that it becomes by stages, in order. For each step of a refutation it has
-/// a step with the same sequent.
+// The derivation of the task that was carried through stages, alone in a list.
+fn lift_levels(
+    alloc: Global,
+    store: Store,
+    stages: &[Transformation],
+    carried: TaskLevels,
+    parts: Vec<Seq<Step>>,
+) -> Result<PartSteps, AllocError>
+    requires carried { IsCarried (map equation_of stages.now) store (carried_from store carried)
+        carried.levels.items carried.tasks.items }
+    requires parts_held { PartsHeld store parts.items }
+    requires close { PartsClose (tasks_at store carried.tasks.items) (parts_at store parts.items) }
+    ensures { IfOk result (AreDerived store (carried_from store carried ∷ [])
+        (parts_at store parts.items)) }
+{
+    let TaskLevels { levels, tasks } = carried;
+    let mut store = store;
+    let mut levels = levels;
+    let mut made = tasks;
+    let mut lists = parts;
+    while let Some(level) = levels.pop() {
+        let Level { tasks, counts } = level;
+        let stage = &stages[levels.len()];
+        let lifted = lift_level(alloc, store, stage, &tasks, &counts, made, &lists)?;
+        let PartSteps {
+            store: grown,
+            lists: derived,
+        } = lifted;
+        store = grown;
+        made = tasks;
+        lists = derived;
+    }
+    Ok(PartSteps { store, lists })
+}
+
+/// A derivation of a task that was carried through stages, from refutations of the tasks that it became, in order. For each step of
+/// a refutation it has a step with the same sequent.
 ///
 /// Only want of memory refuses.
 pub fn lift(
     alloc: Global,
     store: Store,
     stages: &[Transformation],
-    task: &Task,
+    carried: TaskLevels,
     parts: Vec<Seq<Step>>,
 ) -> Result<Derived, AllocError>
-    requires held { TaskHeld store task.now }
-    requires valid { IsValid (task_at store task.now) }
+    requires carried { IsCarried (map equation_of stages.now) store (carried_from store carried)
+        carried.levels.items carried.tasks.items }
     requires parts_held { PartsHeld store parts.items }
-    requires refuted { AreRefuted stages.now (task_at store task.now) (parts_at store parts.items) }
-    ensures { IfOk result (IsDerived store (task_at store task.now) (parts_at store parts.items)) }
+    requires close { PartsClose (tasks_at store carried.tasks.items) (parts_at store parts.items) }
+    ensures { IfOk result (IsDerived store (carried_from store carried)
+        (parts_at store parts.items)) }
 {
-    match stages.split_first() {
-        None => {
-            let mut parts = parts;
-            let steps = parts.remove(0);
-            Ok(Derived { store, steps })
-        }
-        Some((stage, later)) => {
-            let (derived, count) = lift_task(alloc, store, stage, later, task, &parts)?;
-            let _ = count;
-            Ok(derived)
-        }
-    }
+    let lifted = lift_levels(alloc, store, stages, carried, parts)?;
+    let PartSteps { store, lists } = lifted;
+    let mut lists = lists;
+    let steps = lists.remove(0);
+    Ok(Derived { store, steps })
 }

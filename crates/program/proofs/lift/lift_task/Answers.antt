@@ -5,7 +5,7 @@ use Rattle.tasks.specs.Valid.{IsValid}
 use Rattle.tasks.proofs.Growth.{task_later, task_held_later}
 use Rattle.stages.specs.evidence.Stages.{parts_at}
 use Rattle.tasks.specs.Words.{NamesAreWords}
-use Rattle.program.specs.Lifted.{AreRefutedUnder, IsLifted}
+use Rattle.program.specs.Lifted.{IsLifted, IsRefutedTask}
 use Rattle.source_goals.specs.Order.{setting_of}
 use Rattle.program.proofs.Lifting.{lifted_answers, lifting_stop}
 use Rattle.program.proofs.lift.lift_task.Goals as goal
@@ -21,19 +21,19 @@ lifted_text-requires-clause-names g c = subst NamesAreWords (sym (task_later c.a
 
 pub lifted_text-requires-clause-refuted : goal.lifted_text-requires-clause-refuted
 lifted_text-requires-clause-refuted g c =
-    subst (λ (z : TaskTree). AreRefutedUnder c.args.setting.now.driver z (parts_at c.read_handed.new.store c.in_ok-handed.handed.items))
-    (sym (task_later c.args.store c.read_handed.new.store c.read_handed.ensures.grows c.args.setting.now.task c.requires.held)) c.in_ok-handed.ensures.refuted
+    subst (λ (z : TaskTree). IsRefutedTask c.read_handed.new.store z c.in_ok-refuted.refuted)
+    (sym (task_later c.args.store c.read_handed.new.store c.read_handed.ensures.grows c.args.setting.now.task c.requires.held)) c.in_ok-refuted.ensures.refuted
 
-pub returns-in_err-handed : goal.returns-in_err-handed
-returns-in_err-handed g c =
+pub returns-in_err-refuted : goal.returns-in_err-refuted
+returns-in_err-refuted g c =
     let x = setting_of c.args.setting.now.driver (task_at c.args.store c.args.setting.now.task) in
-    let whole = lifting_stop (map string_bytes c.args.refs.now) x (length c.args.refs.now) c.in_err-handed.ensures.answers in
+    let whole = lifting_stop (map string_bytes c.args.refs.now) x (length c.args.refs.now) c.in_err-refuted.ensures.answers in
     search rules
 
 pub returns : goal.returns
 returns g c =
     let s1 = c.read_handed.new.store in
     let x = setting_of c.args.setting.now.driver (task_at c.args.store c.args.setting.now.task) in
-    let handed = parts_at s1 c.in_ok-handed.handed.items in
+    let handed = parts_at s1 c.in_ok-refuted.refuted.handed.items in
     let lifted = subst (λ (z : TaskTree). IsLifted z handed c.in_ok-text.text.items) (task_later c.args.store s1 c.read_handed.ensures.grows c.args.setting.now.task c.requires.held) c.in_ok-text.ensures in
-    lifted_answers (map string_bytes c.args.refs.now) x (length c.args.refs.now) handed c.in_ok-text.text.items c.in_ok-handed.ensures.answers lifted
+    lifted_answers (map string_bytes c.args.refs.now) x (length c.args.refs.now) handed c.in_ok-text.text.items c.in_ok-refuted.ensures.answers lifted

@@ -9,6 +9,6 @@ pub returns : goal.returns
 returns c =
     let x = setting_at c.args.store.now c.args.setting.now in
     let s = c.find_parts.new.store in
-    let ts = tasks_at s c.in_ok-parts.parts.tasks.items in
+    let ts = tasks_at s c.in_ok-parts.parts.staged.carried.tasks.items in
     let same : c.in_ok-text.text.items ≡ part_texts x.driver ts = c.in_ok-text.ensures ∙ ap (λ (z : List Task). part_texts x.driver (tasks_at s z)) c.deref.ensures.value in
     inr (ts, c.in_ok-parts.ensures.parts, ap (λ (z : List ℕ). Ok z) same)
