@@ -11,7 +11,7 @@ use Rattle.part_texts.specs.printed_problems.Problems.{problem_of}
 use Rattle.part_texts.specs.declared.fault.PartFault.{PartFault}
 use Rattle.part_texts.specs.declared.fault.PartFault.TheVariants as part_fault
 use Rattle.part_texts.specs.Problems.{first_fault}
-use Rattle.stages.specs.Transformations.{equation_of}
+use Rattle.stages.specs.transformations.Transformations.{equation_of}
 use Rattle.stages.specs.Carried.{carried_task}
 use Rattle.stages.specs.Listing.{stages_of}
 use Rattle.part_texts.specs.Texts.{part_texts}

@@ -4,8 +4,8 @@ use Rattle.tasks.specs.Task.{TaskTree}
 use Rattle.driver_parts.specs.declared.driver.Driver.{Driver}
 use Rattle.stages.specs.declared.fault.CarryFault.{CarryFault}
 use Rattle.stages.specs.declared.fault.CarryFault.TheVariants as of_carry
-use Rattle.stages.specs.declared.transformation.Transformation.{Transformation}
-use Rattle.stages.specs.Transformations.{equation_of}
+use Rattle.stages.specs.transformations.declared.transformation.Transformation.{Transformation}
+use Rattle.stages.specs.transformations.Transformations.{equation_of}
 use Rattle.stages.specs.Carried.{StageRefusal, carried_task}
 use Rattle.stages.specs.Faults.{IsCarryFault, IsListFault}
 use Rattle.stages.specs.Listing.{stages_of}

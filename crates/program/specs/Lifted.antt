@@ -7,7 +7,7 @@ use Rattle.written_files.specs.name_tables.Tables.{task_names}
 use Rattle.written_files.specs.step_files.Lines.{StepsOf}
 use Rattle.tasks.specs.Meaning.{tasks_at}
 use Rattle.stages.specs.evidence.Stages.{PartsClose, PartsHeld, parts_at}
-use Rattle.stages.specs.Transformations.{equation_of}
+use Rattle.stages.specs.transformations.Transformations.{equation_of}
 use Rattle.stages.specs.Levels.{IsCarried}
 use Rattle.stages.specs.Lifted.{HandedHasSequents}
 use Rattle.program.specs.declared.parts.StagedTask.{StagedTask}

@@ -14,8 +14,8 @@ use Rattle.evidence.specs.Stages.{StageEquation, PartsClose, PartsHeld, parts_at
 use Rattle.stages.specs.declared.task_levels.Level.{Level}
 use Rattle.stages.specs.declared.task_levels.TaskLevels.{TaskLevels}
 use Rattle.stages.specs.declared.lifting.PartSteps.{PartSteps}
-use Rattle.stages.specs.declared.transformation.Transformation.{Transformation}
-use Rattle.stages.specs.Transformations.{equation_of}
+use Rattle.transformations.specs.declared.transformation.Transformation.{Transformation}
+use Rattle.transformations.specs.Transformations.{equation_of}
 use Rattle.stages.specs.Steps.{AreTasks}
 use Rattle.stages.specs.Lifted.{ListsHaveSequents, AreDerived}
 use Rattle.stages.specs.Levels.{BecomeEach, IsCarried, IsRefutedLevel, carried_from, level_at, levels_at}

@@ -7,7 +7,7 @@ use Rattle.tasks.specs.Meaning.{declaration_at, declarations_at}
 use Rattle.driver_items.specs.declared.kinds.Trans.{Trans}
 use Rattle.stages.specs.declared.fault.CarryFault.{CarryFault}
 use Rattle.stages.specs.declared.fault.CarryFault.TheVariants as fault
-use Rattle.stages.specs.declared.transformation.Transformation.{Transformation}
+use Rattle.transformations.specs.declared.transformation.Transformation.{Transformation}
 use Rattle.stages.specs.Listing.{name_if, removed_of, with_built_stage, built_from, after_stages, AreStagesPushed, IsPushedOne}
 use Rattle.tasks.proofs.plain_laws.Lists.{drop_at as left_at}
 

@@ -6,7 +6,7 @@ use Rattle.evidence.specs.declared.stage.StageFault.{StageFault}
 use Rattle.evidence.specs.declared.stage.StageFault.TheVariants as stage_fault
 use Rattle.stages.specs.declared.fault.CarryFault.{CarryFault}
 use Rattle.stages.specs.declared.fault.CarryFault.TheVariants as fault
-use Rattle.stages.specs.declared.transformation.Transformation.{Transformation}
+use Rattle.transformations.specs.declared.transformation.Transformation.{Transformation}
 use Rattle.stages.specs.Carried.{StageRefusal}
 
 -- the fault of a transformation that is the stage with this number

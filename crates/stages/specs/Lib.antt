@@ -1,6 +1,5 @@
 pub use Rattle.evidence.specs as evidence
-pub mod Transformations
-pub mod Kept
+pub use Rattle.transformations.specs as transformations
 pub mod Carried
 pub mod Steps
 pub mod Faults

@@ -4,19 +4,13 @@ use Rattle.std.specs.List.{list_any}
 use Rattle.std.specs.Str.{bytes_eq}
 use Rattle.tasks.specs.Task.{TaskTree, DeclarationTree}
 use Rattle.driver_items.specs.declared.kinds.Trans.{Trans}
-use Rattle.driver_items.specs.declared.kinds.Trans.TheVariants.{SplitGoalRight, IntroducePremises}
 use Rattle.driver_parts.specs.declared.driver.Driver.{Driver}
-use Rattle.tr_remove.specs.Remove.{is_proposition}
+use Rattle.transformations.specs.tr_remove.Remove.{is_proposition}
 use Rattle.stages.specs.declared.fault.CarryFault.{CarryFault}
 use Rattle.stages.specs.declared.fault.CarryFault.TheVariants as fault
-use Rattle.stages.specs.declared.transformation.Transformation.{Transformation}
-use Rattle.stages.specs.declared.transformation.Transformation.TheVariants.{Remove, Split, Introduce}
-
--- the transformation of a name, where it is built
-abbrev pub built_stage : Trans → Option Transformation
-built_stage SplitGoalRight = Some (Split (record {}))
-built_stage IntroducePremises = Some (Introduce (record {}))
-built_stage _ = None
+use Rattle.transformations.specs.declared.transformation.Transformation.{Transformation}
+use Rattle.transformations.specs.declared.transformation.Transformation.TheVariants.{Remove}
+use Rattle.transformations.specs.Words.{transformation_of}
 
 -- a proposition of one of these theories
 abbrev pub is_removed_of : List (List ℕ) → DeclarationTree → Bool
@@ -43,7 +37,7 @@ with_built_stage n (Some stage) (Err m) = Err m
 -- the transformations of names, the first of which is a stage with this number; or the number of the first that isn't built
 abbrev pub built_from : ℕ → List Trans → Result (List Transformation) ℕ
 built_from n [] = Ok []
-built_from n (x ∷ xs) = with_built_stage n (built_stage x) (built_from (n + 1) xs)
+built_from n (x ∷ xs) = with_built_stage n (transformation_of x) (built_from (n + 1) xs)
 
 abbrev pub after_stages : List Transformation → Result (List Transformation) ℕ → Result (List Transformation) ℕ
 after_stages before (Ok stages) = Ok (before ++ stages)
@@ -63,8 +57,8 @@ AreStagesPushed old names new (Err (fault.TooLarge stage)) = ⊥
 
 -- the transformation of a name was put after others, as the stage with this number
 abbrev pub IsPushedOne : List Transformation → Trans → ℕ → List Transformation → Result Unit CarryFault → Type 0
-IsPushedOne old name n new (Ok u) = (stage : Transformation) × (built_stage name ≡ Some stage) × (new ≡ old ++ stage ∷ [])
+IsPushedOne old name n new (Ok u) = (stage : Transformation) × (transformation_of name ≡ Some stage) × (new ≡ old ++ stage ∷ [])
 IsPushedOne old name n new (Err fault.Memory) = Unit {0}
-IsPushedOne old name n new (Err (fault.NotBuilt stage)) = (built_stage name ≡ None) × (stage ≡ n)
+IsPushedOne old name n new (Err (fault.NotBuilt stage)) = (transformation_of name ≡ None) × (stage ≡ n)
 IsPushedOne old name n new (Err (fault.Misplaced stage decl)) = ⊥
 IsPushedOne old name n new (Err (fault.TooLarge stage)) = ⊥

@@ -9,11 +9,10 @@ mod fault;
 mod lifting;
 mod listing;
 mod task_levels;
-mod transformation;
 
 pub use carrying::carry;
 pub use fault::CarryFault;
 pub use lifting::{Derived, lift};
 pub use listing::stages_of;
 pub use task_levels::{Level, TaskLevels};
-pub use transformation::Transformation;
+pub use transformations::Transformation;

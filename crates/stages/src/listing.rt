@@ -5,40 +5,15 @@ ghost use Rattle.std.specs.Str.{bytes_eq};
 ghost use Rattle.std.specs.Prelude.{◌≡◌, ◌+◌, ◌++◌, List, Ok, Err, IfOk, MatchResult, OnOk};
 ghost use Rattle.tasks.specs.trees.Tree.{Tree};
 ghost use Rattle.tasks.specs.Meaning.{declaration_at, declarations_at, task_at};
-ghost use Rattle.stages.specs.Listing.{AreStagesPushed, IsPushedOne, built_stage, is_removed_of, name_if, removed_names, removed_of, stages_of};
+ghost use Rattle.stages.specs.Listing.{AreStagesPushed, IsPushedOne, is_removed_of, name_if, removed_names, removed_of, stages_of};
 ghost use Rattle.stages.specs.Faults.{IsListFault};
 
 use crate::fault::CarryFault;
-use crate::transformation::Transformation;
 use driver_items::Trans;
 use driver_parts::Driver;
 use std::alloc::{AllocError, Global};
 use tasks::{Body, Decl, Seq, Task, Text};
-use tr_introduce::Introduce;
-use tr_remove::Remove;
-use tr_split_goals::Split;
-
-// The transformation of this name, if it is built.
-fn transformation_of(name: Trans) -> Option<Transformation>
-    ensures { result ≡ built_stage name }
-{
-    match name {
-        Trans::SplitGoalRight => Some(Transformation::Split(Split)),
-        Trans::IntroducePremises => Some(Transformation::Introduce(Introduce)),
-        Trans::Discriminate
-        | Trans::EliminateAlgebraic
-        | Trans::EliminateDefinition
-        | Trans::EliminateIf
-        | Trans::EliminateInductive
-        | Trans::EliminateLet
-        | Trans::EliminateMatch
-        | Trans::EliminateRecursion
-        | Trans::InlineAll
-        | Trans::InlineGoal
-        | Trans::InlineTrivial
-        | Trans::SimplifyFormula => None,
-    }
-}
+use transformations::{Remove, Transformation, transformation_of};
 
 // Whether a path is among these.
 fn is_among(paths: &[Text], its: &[u8]) -> bool
@@ -153,8 +128,8 @@ fn push_built(stages: &mut Vec<Transformation>, names: &[Trans]) -> Result<(), C
 /// The stages of a driver for a task: the removal of the propositions that the driver removes from it, then the driver's
 /// transformations in order.
 ///
-/// `NotBuilt` is the first transformation that isn't one of `split_goal_right` and `introduce_premises`, counted from 1;
-/// else only want of memory refuses.
+/// `NotBuilt` is the first transformation that isn't built (`transformation_of`), counted from 1; else only want of memory
+/// refuses.
 pub fn stages_of(
     alloc: Global,
     driver: &Driver,

@@ -8,8 +8,8 @@ use Rattle.rule_rows.specs.declared.rule.Step.{Step}
 use Rattle.rule_rows.specs.Meaning.{steps_at, StepsHeld}
 use Rattle.written_files.specs.kernel.Right.{Closes}
 use Rattle.stages.specs.evidence.Stages.{parts_at}
-use Rattle.stages.specs.declared.transformation.Transformation.{Transformation}
-use Rattle.stages.specs.Transformations.{equation_of}
+use Rattle.stages.specs.transformations.declared.transformation.Transformation.{Transformation}
+use Rattle.stages.specs.transformations.Transformations.{equation_of}
 use Rattle.stages.specs.Levels.{IsCarried, carried_from}
 use Rattle.stages.specs.Lifted.{HandedHasSequents}
 use Rattle.stages.proofs.CarriedTasks.{carried_is}

@@ -4,7 +4,7 @@ use Rattle.tasks.specs.Task.{TaskTree}
 use Rattle.tasks.specs.Meaning.{task_at, tasks_at}
 use Rattle.tasks.proofs.Growth.{tasks_later}
 use Rattle.stages.specs.evidence.Stages.{parts_at, PartsClose}
-use Rattle.stages.specs.Transformations.{equation_of}
+use Rattle.stages.specs.transformations.Transformations.{equation_of}
 use Rattle.stages.proofs.CarriedTasks.{carried_later}
 use Rattle.statuses.specs.fault_order.Answers.{Answers}
 use Rattle.program.specs.Order.{Handed}

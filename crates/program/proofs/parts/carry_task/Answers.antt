@@ -1,7 +1,7 @@
 use Rattle.std.proofs.Common.{List, map, Err, sym, subst}
 use Rattle.tasks.specs.Meaning.{task_at, tasks_at}
-use Rattle.stages.specs.declared.transformation.Transformation.{Transformation}
-use Rattle.stages.specs.Transformations.{equation_of}
+use Rattle.stages.specs.transformations.declared.transformation.Transformation.{Transformation}
+use Rattle.stages.specs.transformations.Transformations.{equation_of}
 use Rattle.stages.specs.Carried.{carried_task}
 use Rattle.stages.specs.Faults.{IsCarryFault}
 use Rattle.stages.specs.Levels.{IsCarried}

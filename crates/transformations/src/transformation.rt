@@ -1,7 +1,6 @@
 // The transformations that are built, as one type.
-// Each is a crate of its own; the list of a driver's stages is made of them.
-ghost use Rattle.stages.specs.Transformations.{task_equation_of};
-ghost use Rattle.stages.specs.Kept.{keeps_of};
+// Each is a crate of its own; the words of drivers depend on them.
+ghost use Rattle.transformations.specs.Transformations.{keeps_of, task_equation_of};
 
 use evidence::{Draft, StageFault, Transform};
 use std::alloc::{AllocError, Global};

@@ -1,0 +1,33 @@
+-- The transformations that are built, one line each: its equation, and that its tasks keep what is declared.
+use Rattle.std.specs.Prelude.{List, All}
+use Rattle.tasks.specs.Task.{TaskTree}
+use Rattle.tasks.specs.Valid.{IsValid}
+use Rattle.evidence.specs.Stages.{Gives, Keeps, TaskEquation, StageEquation, stage_equation}
+use Rattle.tr_introduce.specs.Introduce.{introduce_equation}
+use Rattle.tr_introduce.specs.Kept.{introduce_keeps}
+use Rattle.tr_remove.specs.Kept.{remove_keeps}
+use Rattle.tr_remove.specs.Remove.{remove_equation}
+use Rattle.tr_split_goals.specs.Goals.{split_equation}
+use Rattle.tr_split_goals.specs.Kept.{split_keeps}
+use Rattle.transformations.specs.declared.transformation.Transformation.{Transformation}
+use Rattle.transformations.specs.declared.transformation.Transformation.TheVariants.{Remove, Split, Introduce}
+
+-- what is known of a transformation by itself
+pub record TransformationLaw : Type 0 where
+  pub equation : TaskEquation
+  pub keeps : (t : TaskTree) (ts : List TaskTree) → IsValid t → Gives equation t ts → All (Keeps t) ts
+
+abbrev pub law_of : Transformation → TransformationLaw
+law_of (Remove its) = record { equation = remove_equation its.props; keeps = remove_keeps its.props }
+law_of (Split its) = record { equation = split_equation; keeps = split_keeps }
+law_of (Introduce its) = record { equation = introduce_equation; keeps = introduce_keeps }
+
+abbrev pub task_equation_of : Transformation → TaskEquation
+task_equation_of x = (law_of x).equation
+
+-- of a stage, whose tasks aren't too large
+abbrev pub equation_of : Transformation → StageEquation
+equation_of x t = stage_equation (task_equation_of x) t
+
+pub keeps_of : (x : Transformation) (t : TaskTree) (ts : List TaskTree) → IsValid t → Gives (task_equation_of x) t ts → All (Keeps t) ts
+keeps_of x t ts valid gives = (law_of x).keeps t ts valid gives
