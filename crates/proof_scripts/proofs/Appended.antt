@@ -1,5 +1,5 @@
 -- Scripts one after the other: what the first refutes, and then what the second refutes.
-use Rattle.std.proofs.Common.{◌≡◌, List, [], ◌∷◌, ◌++◌, slice_get, subst, append_assoc, ◌∙◌, ap}
+use Rattle.std.proofs.Common.{◌≡◌, List, [], ◌∷◌, ◌++◌, slice_get, subst, append_assoc}
 use Rattle.std.proofs.lemmas.List.{map-append}
 use Rattle.trees.specs.Tree.{Tree}
 use Rattle.tasks.specs.Task.{neg}
@@ -8,7 +8,7 @@ use Rattle.rule_rows.specs.Rows.{where_true, where_false}
 use Rattle.evidence.specs.Drafts.{DraftTree}
 use Rattle.evidence.proofs.Rules.{some_map}
 use Rattle.proof_scripts.specs.declared.line.Line.{Line}
-use Rattle.proof_scripts.specs.Scripts.{LineTree, GivenLine, KeptLine, RuleLine, HoldingLine, FailingLine, CutLine, TailLine, script_line_at, lines_at, sequents_under, adds, Follows}
+use Rattle.proof_scripts.specs.Scripts.{LineTree, GivenLine, KeptLine, HoldingLine, FailingLine, CutLine, TailLine, MadeLine, script_line_at, lines_at, sequents_under, adds, Follows}
 
 module _ (d : DraftTree) (f : List Tree) where
   -- what is opened before other sequents
@@ -20,18 +20,14 @@ module _ (d : DraftTree) (f : List Tree) where
   follows_append [] ks (t ∷ ts) us h g = absurd h
   follows_append (GivenLine k n ∷ ls) ks [] us h g = absurd h
   follows_append (KeptLine k ps ∷ ls) ks [] us h g = absurd h
-  follows_append (RuleLine r a b ∷ ls) ks [] us h g = absurd h
+  follows_append (MadeLine r a ∷ ls) ks [] us h g = absurd h
   follows_append (HoldingLine op i ∷ ls) ks [] us h g = absurd h
   follows_append (FailingLine op i ∷ ls) ks [] us h g = absurd h
   follows_append (CutLine a ∷ ls) ks [] us h g = absurd h
   follows_append (TailLine r ∷ ls) ks [] us h g = absurd h
   follows_append (GivenLine k n ∷ ls) ks (t ∷ ts) us h g = (h.0, follows_append ls ks ts us h.1 g)
   follows_append (KeptLine k ps ∷ ls) ks (t ∷ ts) us h g = (h.0, follows_append ls ks ts us h.1 g)
-  follows_append (RuleLine r a b ∷ ls) ks (t ∷ ts) us h g =
-      let both = sequents_under t a ++ (sequents_under t b ++ ts) in
-      let e : both ++ us ≡ sequents_under t a ++ (sequents_under t b ++ (ts ++ us)) =
-      append_assoc (sequents_under t a) (sequents_under t b ++ ts) us ∙ ap (λ (z : List (List Tree)). sequents_under t a ++ z) (append_assoc (sequents_under t b) ts us) in
-      (h.0, subst (Follows d f (ls ++ ks)) e (follows_append ls ks both us h.1 g))
+  follows_append (MadeLine r a ∷ ls) ks (t ∷ ts) us h g = (h.0, follows_append ls ks ((t ++ a ∷ []) ∷ ts) us h.1 g)
   follows_append (HoldingLine op i ∷ ls) ks (t ∷ ts) us h g =
       some_map (connected (slice_get t i)) _ _
       (λ p z. (z.0, opened_before (ls ++ ks) (sequents_under t (where_true op p.1 p.2)) ts us (follows_append ls ks (sequents_under t (where_true op p.1 p.2) ++ ts) us z.1 g))) h

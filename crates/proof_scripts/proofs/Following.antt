@@ -1,7 +1,7 @@
 -- How scripts are followed: line by line, over drafts that grow.
-use Rattle.std.proofs.Common.{◌≡◌, ℕ, zero, suc, ◌+◌, ◌<◌, ◌≤◌, List, [], ◌∷◌, ◌++◌, map, length, slice_get, take, drop, All, Option, Some, None, refl, sym, ap, subst, ◌∙◌, append_assoc, arith}
+use Rattle.std.proofs.Common.{◌≡◌, ℕ, zero, suc, ◌+◌, ◌<◌, ◌≤◌, List, [], ◌∷◌, ◌++◌, map, length, slice_get, take, drop, All, Option, Some, refl, sym, ap, subst, ◌∙◌, append_assoc, arith}
 use Rattle.std.proofs.lemmas.List.{map-append, length-map, length-append, append-nil}
-use Rattle.std.proofs.lemmas.List.Elements.{All-append, All-cons, All-nil}
+use Rattle.std.proofs.lemmas.List.Elements.{All-append}
 use Rattle.std.proofs.lemmas.Option.{slice_get_within}
 use Rattle.tasks.specs.Valid.{IsGroundFormula}
 use Rattle.trees.specs.declared.TermId.{TermId}
@@ -23,8 +23,9 @@ use Rattle.proof_scripts.specs.declared.line.Places.{Places}
 use Rattle.proof_scripts.specs.declared.line.Places.TheVariants as places
 use Rattle.proof_scripts.specs.declared.line.Line.{Line}
 use Rattle.proof_scripts.specs.declared.line.Line.TheVariants as line
-use Rattle.proof_scripts.specs.Scripts.{LineTree, GivenLine, KeptLine, RuleLine, HoldingLine, FailingLine, CutLine, TailLine, word_rule, WordHeld, ids_of, added_ids, added_at, script_line_at, lines_at, LineHeld, LinesHeld, sequents_under, adds, IsOfTail, IsGiven, places_of, PlacesFit, IsByRule, Follows, CanFollow}
+use Rattle.proof_scripts.specs.Scripts.{LineTree, GivenLine, KeptLine, HoldingLine, FailingLine, CutLine, TailLine, MadeLine, branch_line, branches_line, field_line, word_rule, WordHeld, ids_of, added_ids, added_at, script_line_at, lines_at, LineHeld, LinesHeld, sequents_under, adds, IsOfTail, IsGiven, places_of, PlacesFit, IsByRule, Follows, CanFollow}
 use Rattle.proof_scripts.specs.Derived.{AreAdded, all_added, Consumes, RefuteUnder, AreByLines}
+use Rattle.proof_scripts.proofs.Later.{comparable_later}
 use Rattle.plain_laws.proofs.Lists.{All-left, All-right}
 
 abbrev cut_line : Tree → LineTree
@@ -108,14 +109,14 @@ module _ (d d1 : DraftTree) (x : Extends d d1) where
   follows_later f [] (t ∷ ts) h = h
   follows_later f (GivenLine k n ∷ ls) [] h = h
   follows_later f (KeptLine k ps ∷ ls) [] h = h
-  follows_later f (RuleLine r a b ∷ ls) [] h = h
+  follows_later f (MadeLine r a ∷ ls) [] h = h
   follows_later f (HoldingLine op i ∷ ls) [] h = h
   follows_later f (FailingLine op i ∷ ls) [] h = h
   follows_later f (CutLine a ∷ ls) [] h = h
   follows_later f (TailLine r ∷ ls) [] h = h
   follows_later f (GivenLine k n ∷ ls) (t ∷ ts) h = (given_later f t k n h.0, follows_later f ls ts h.1)
   follows_later f (KeptLine k ps ∷ ls) (t ∷ ts) h = (kept_later t ps k h.0, follows_later f ls ts h.1)
-  follows_later f (RuleLine r a b ∷ ls) (t ∷ ts) h = (by_rule_later (f ++ t) r (a ++ b) h.0, follows_later f ls (sequents_under t a ++ (sequents_under t b ++ ts)) h.1)
+  follows_later f (MadeLine r a ∷ ls) (t ∷ ts) h = (by_rule_later (f ++ t) r ((a ∷ []) ∷ []) h.0, follows_later f ls ((t ++ a ∷ []) ∷ ts) h.1)
   follows_later f (TailLine r ∷ ls) (t ∷ ts) h = (of_tail_later t r h.0, h.1, follows_later f ls (sequents_under t (adds t r) ++ ts) h.2)
   follows_later f (HoldingLine op i ∷ ls) (t ∷ ts) h =
       some_map (connected (slice_get t i)) _ _ (λ p z. (z.0, follows_later f ls (sequents_under t (where_true op p.1 p.2) ++ ts) z.1)) h
@@ -168,14 +169,6 @@ module _ (d d1 : DraftTree) (x : Extends d d1) where
   word_same (word.Distinct i) h = refl
   word_same (word.Project e) h = ap (λ z. word_rule_project z) (x.trees.same e.0 h)
 
-  pub added_later : (fs : Option Formulas) → All (AreFormulas d) (added_ids fs) → All (AreFormulas d1) (added_ids fs)
-  added_later None a = All-nil (AreFormulas d1)
-  added_later (Some fs) a = All-cons (AreFormulas d1) (ids_of fs) [] (formulas_later d d1 x (ids_of fs) (a 0 [] (omega arith))) (All-nil (AreFormulas d1))
-
-  pub added_same : (fs : Option Formulas) → All (AreFormulas d) (added_ids fs) → added_at d1.trees fs ≡ added_at d.trees fs
-  added_same None a = refl
-  added_same (Some fs) a = ap (λ (z : List Tree). z ∷ []) (same d d1 x (ids_of fs) (a 0 [] (omega arith)))
-
   pub all_later : (fs : List Formulas) → AreAdded d fs → AreAdded d1 fs
   all_later fs a = λ k z l. formulas_later d d1 x _ (a k z l)
 
@@ -190,7 +183,9 @@ module _ (d d1 : DraftTree) (x : Extends d d1) where
   line_later (line.Failing op i) h = tt
   line_later (line.Cut a) h = formula_later d d1 x a h
   line_later (line.Rule w) h = (word_later w h.0, h.1)
-  line_later (line.By w a b) h = (word_later w h.0, added_later a h.1, added_later b h.2)
+  line_later (line.Branch w a) h = comparable_later d d1 x w a h
+  line_later (line.Branches w c a b) h = (formula_later d d1 x c h.0, comparable_later d d1 x w a h.1, comparable_later d d1 x w b h.2)
+  line_later (line.Field w a) h = comparable_later d d1 x w a h
 
   line_same : (l : Line) → LineHeld d l → script_line_at d1.trees l ≡ script_line_at d.trees l
   line_same (line.Given k n) h = refl
@@ -199,7 +194,12 @@ module _ (d d1 : DraftTree) (x : Extends d d1) where
   line_same (line.Failing op i) h = refl
   line_same (line.Cut a) h = ap cut_line (x.trees.same a.0 h.held)
   line_same (line.Rule w) h = ap tail_line (word_same w h.0)
-  line_same (line.By w a b) h = cc (word_same w h.0, added_same a h.1, added_same b h.2)
+  line_same (line.Branch w a) h = ap (λ z. branch_line z (tree_at d1.trees a)) (x.trees.same w.0 h.left.held) ∙ ap (branch_line (tree_at d.trees w)) (x.trees.same a.0 h.right.held)
+  line_same (line.Branches w c a b) h =
+      ap (λ z. branches_line z (tree_at d1.trees c) (tree_at d1.trees a) (tree_at d1.trees b)) (x.trees.same w.0 h.1.left.held)
+      ∙ ap (λ z. branches_line (tree_at d.trees w) z (tree_at d1.trees a) (tree_at d1.trees b)) (x.trees.same c.0 h.0.held)
+      ∙ ap (λ z. branches_line (tree_at d.trees w) (tree_at d.trees c) z (tree_at d1.trees b)) (x.trees.same a.0 h.1.right.held) ∙ ap (branches_line (tree_at d.trees w) (tree_at d.trees c) (tree_at d.trees a)) (x.trees.same b.0 h.2.right.held)
+  line_same (line.Field w a) h = ap (λ z. field_line z (tree_at d1.trees a)) (x.trees.same w.0 h.left.held) ∙ ap (field_line (tree_at d.trees w)) (x.trees.same a.0 h.right.held)
 
   pub lines_later : (ls : List Line) → LinesHeld d ls → LinesHeld d1 ls
   lines_later ls h = λ k z l. line_later _ (h k z l)

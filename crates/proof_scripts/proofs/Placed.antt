@@ -12,7 +12,7 @@ use Rattle.trees.specs.Sorts.{type_of}
 use Rattle.tasks.specs.Task.{TaskTree, neg}
 use Rattle.tasks.specs.Valid.{IsTypeOver}
 use Rattle.kernel.specs.Right.{IsGroundExpression}
-use Rattle.rule_rows.specs.Trees.{RFalse, RNotTrue, RIrrefl, RDistinct, RNotNot, RForall, RNotForall, RExists, RNotExists, RReplace, rule_trees, rule_types}
+use Rattle.rule_rows.specs.Trees.{RNotNot, RForall, RNotForall, RExists, RNotExists, RReplace, rule_trees, rule_types}
 use Rattle.rule_rows.specs.Forms.{negated, connected, universal, existential, equation_sides, let_of, if_of, application_parts, alike, by_cases}
 use Rattle.rule_rows.specs.Rows.{IsRuleRow, Adds, AtTerm, AtNew, Constructors, IsNew, IsTemplate}
 use Rattle.evidence.specs.Rules.{NamesOwn, holding_rule, failing_rule}
@@ -40,31 +40,6 @@ failing_behind n i Or = refl
 failing_behind n i OrElse = refl
 failing_behind n i Imp = refl
 failing_behind n i Iff = refl
-
-none_before : (n i : ℕ) → n ≡ 0 → n + i ≡ i
-none_before n i e = omega (arith, e)
-
--- with no formulas before them the places are the same
-pub word_zero : (s : List Tree) (w : Word) → rule_behind 0 (word_rule s w) ≡ word_rule s w
-word_zero s (word.NotTrue i) = ap RNotTrue (none_before 0 i refl)
-word_zero s (word.Clash i j) = let a = none_before 0 i refl in let b = none_before 0 j refl in cc (a, b)
-word_zero s (word.Holding op i) = holding_behind 0 i op ∙ ap (holding_rule op) (none_before 0 i refl)
-word_zero s (word.Failing op i) = failing_behind 0 i op ∙ ap (failing_rule op) (none_before 0 i refl)
-word_zero s (word.Cut a) = refl
-word_zero s (word.Forall i t) = let a = none_before 0 i refl in cc a
-word_zero s (word.NotForall i m) = let a = none_before 0 i refl in cc a
-word_zero s (word.LetDef e) = refl
-word_zero s (word.IfDef e) = refl
-word_zero s (word.MatchDef e) = refl
-word_zero s (word.NotNot i) = ap RNotNot (none_before 0 i refl)
-word_zero s (word.Irrefl i) = ap RIrrefl (none_before 0 i refl)
-word_zero s (word.Exists i m) = let a = none_before 0 i refl in cc a
-word_zero s (word.NotExists i t) = let a = none_before 0 i refl in cc a
-word_zero s (word.Replace i j e) = let a = none_before 0 i refl in let b = none_before 0 j refl in cc (a, b)
-word_zero s (word.False i) = ap RFalse (none_before 0 i refl)
-word_zero s (word.Refl e) = refl
-word_zero s (word.Distinct i) = ap RDistinct (none_before 0 i refl)
-word_zero s (word.Project e) = refl
 
 -- ---- what is found at a place is within
 module _ (xs : List Tree) where

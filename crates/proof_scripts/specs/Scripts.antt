@@ -11,8 +11,9 @@ use Rattle.tasks.specs.Meaning.{trees_at}
 use Rattle.rule_rows.specs.Trees.{RuleTree, RNotTrue, RClash, RCut, RForall, RNotForall, RLetDef, RIfDef, RMatchDef, RNotNot, RIrrefl, RExists, RNotExists, RReplace, RFalse, RRefl, RDistinct, RProject}
 use Rattle.rule_rows.specs.Forms.{negated, connected, universal, existential, equation_sides, let_of, if_of, equal, alike, by_cases}
 use Rattle.rule_rows.specs.Rows.{IsRuleRow, IsNew, where_true, where_false}
-use Rattle.evidence.specs.Drafts.{DraftTree, Refutes, AreFormulas, IsFormulaAt, RefutesAt}
+use Rattle.evidence.specs.Drafts.{DraftTree, Refutes, IsFormulaAt, RefutesAt}
 use Rattle.evidence.specs.Rules.{NamesOwn, holding_rule, failing_rule}
+use Rattle.proof_scripts.specs.Added.{AreComparable}
 use Rattle.proof_scripts.specs.declared.line.Word.{Word}
 use Rattle.proof_scripts.specs.declared.line.Word.TheVariants as word
 use Rattle.proof_scripts.specs.declared.line.Formulas.{Formulas}
@@ -23,16 +24,16 @@ use Rattle.proof_scripts.specs.declared.line.Line.{Line}
 use Rattle.proof_scripts.specs.declared.line.Line.TheVariants as line
 
 -- a line in trees: an earlier step that refutes the front and so many formulas at the end; one that refutes the formulas at some places
--- of the tail; a rule, with the formulas that each premise adds, in two lists of at most one premise; the rule on a connective, or on
--- its negation, at a place of the tail; a cut; a rule with its places in the tail, whose premises add what the rule says
+-- of the tail; the rule on a connective, or on its negation, at a place of the tail; a cut; a rule with its places in the tail, whose
+-- premises add what the rule says; a rule without places, with the formula that its only premise adds
 pub data LineTree : Type 0 where
   GivenLine : (step count : ℕ) → LineTree
   KeptLine : (step : ℕ) → (places : List ℕ) → LineTree
-  RuleLine : (rule : RuleTree) → (first second : List (List Tree)) → LineTree
   HoldingLine : (op : Op) → (place : ℕ) → LineTree
   FailingLine : (op : Op) → (place : ℕ) → LineTree
   CutLine : (formula : Tree) → LineTree
   TailLine : (rule : RuleTree) → LineTree
+  MadeLine : (rule : RuleTree) → (added : Tree) → LineTree
 
 -- the rule that a word names
 abbrev pub word_rule : List Tree → Word → RuleTree
@@ -68,7 +69,7 @@ WordHeld s (word.Refl e) = Holds s e
 WordHeld s (word.Project e) = Holds s e
 WordHeld s _ = Unit {0}
 
--- the words of the rules for which a line makes what their premises add
+-- the words of the rules that a line names by its places and trees alone
 abbrev pub IsMaker : Word → Type 0
 IsMaker (word.Holding op i) = ⊥
 IsMaker (word.Failing op i) = ⊥
@@ -113,14 +114,26 @@ PlacesFit n (places.One i) = n + i ≤ 18446744073709551615
 PlacesFit n (places.Two i j) = (n + i ≤ 18446744073709551615) × (n + j ≤ 18446744073709551615)
 PlacesFit n (places.Three i j k) = (n + i ≤ 18446744073709551615) × (n + j ≤ 18446744073709551615) × (n + k ≤ 18446744073709551615)
 
+-- a `match` by its parts, and a projection by the field
+abbrev pub branch_line : (whole body : Tree) → LineTree
+branch_line w x = MadeLine (RMatchDef w) (alike w x)
+
+abbrev pub branches_line : (whole test body rest : Tree) → LineTree
+branches_line w c x y = MadeLine (RMatchDef w) (by_cases c w x y)
+
+abbrev pub field_line : (whole field : Tree) → LineTree
+field_line w x = MadeLine (RProject w) (alike w x)
+
 abbrev pub script_line_at : List Tree → Line → LineTree
 script_line_at s (line.Given k n) = GivenLine k n
 script_line_at s (line.Kept k ps) = KeptLine k (places_of ps)
-script_line_at s (line.By w a b) = RuleLine (word_rule s w) (added_at s a) (added_at s b)
 script_line_at s (line.Holding op i) = HoldingLine op i
 script_line_at s (line.Failing op i) = FailingLine op i
 script_line_at s (line.Cut a) = CutLine (tree_at s a)
 script_line_at s (line.Rule w) = TailLine (word_rule s w)
+script_line_at s (line.Branch w x) = branch_line (tree_at s w) (tree_at s x)
+script_line_at s (line.Branches w c x y) = branches_line (tree_at s w) (tree_at s c) (tree_at s x) (tree_at s y)
+script_line_at s (line.Field w x) = field_line (tree_at s w) (tree_at s x)
 
 abbrev pub lines_at : List Tree → List Line → List LineTree
 lines_at s ls = map (script_line_at s) ls
@@ -129,11 +142,13 @@ lines_at s ls = map (script_line_at s) ls
 abbrev pub LineHeld : DraftTree → Line → Type 0
 LineHeld d (line.Given k n) = Unit {0}
 LineHeld d (line.Kept k ps) = Unit {0}
-LineHeld d (line.By w a b) = WordHeld d.trees w × All (AreFormulas d) (added_ids a) × All (AreFormulas d) (added_ids b)
 LineHeld d (line.Holding op i) = Unit {0}
 LineHeld d (line.Failing op i) = Unit {0}
 LineHeld d (line.Cut a) = IsFormulaAt d a
 LineHeld d (line.Rule w) = WordHeld d.trees w × IsMaker w
+LineHeld d (line.Branch w x) = AreComparable d w x
+LineHeld d (line.Branches w c x y) = IsFormulaAt d c × AreComparable d w x × AreComparable d w y
+LineHeld d (line.Field w x) = AreComparable d w x
 
 abbrev pub LinesHeld : DraftTree → List Line → Type 0
 LinesHeld d ls = All (LineHeld d) ls
@@ -191,10 +206,10 @@ Follows d f [] (t ∷ ts) = ⊥
 Follows d f (l ∷ ls) [] = ⊥
 Follows d f (GivenLine k n ∷ ls) (t ∷ ts) = IsGiven d f t k n × Follows d f ls ts
 Follows d f (KeptLine k ps ∷ ls) (t ∷ ts) = RefutesAt d t ps k × Follows d f ls ts
-Follows d f (RuleLine r a b ∷ ls) (t ∷ ts) = IsByRule d.task (f ++ t) r (a ++ b) × Follows d f ls (sequents_under t a ++ (sequents_under t b ++ ts))
 Follows d f (HoldingLine op i ∷ ls) (t ∷ ts) = IsSomeAnd (connected (slice_get t i)) (λ p. (p.0 ≡ op) × Follows d f ls (sequents_under t (where_true op p.1 p.2) ++ ts))
 Follows d f (FailingLine op i ∷ ls) (t ∷ ts) = IsSomeAnd (connected (negated (slice_get t i))) (λ p. (p.0 ≡ op) × Follows d f ls (sequents_under t (where_false op p.1 p.2) ++ ts))
 Follows d f (TailLine r ∷ ls) (t ∷ ts) = IsOfTail d.task t r × IsNewTo f r × Follows d f ls (sequents_under t (adds t r) ++ ts)
+Follows d f (MadeLine r a ∷ ls) (t ∷ ts) = IsByRule d.task (f ++ t) r ((a ∷ []) ∷ []) × Follows d f ls ((t ++ a ∷ []) ∷ ts)
 Follows d f (CutLine a ∷ ls) (t ∷ ts) = Follows d f ls (sequents_under t ((a ∷ []) ∷ (neg a ∷ []) ∷ []) ++ ts)
 
 -- they refute these, and others after them

@@ -1,8 +1,10 @@
 -- Rules whose places are counted after some formulas.
-use Rattle.std.specs.Prelude.{ℕ, ◌+◌, ◌≤◌, map}
+use Rattle.std.specs.Prelude.{◌≡◌, ℕ, ◌+◌, ◌≤◌, List, map}
+use Rattle.trees.specs.Tree.{Tree}
 use Rattle.rule_rows.specs.Trees.{RuleTree, RFalse, RNotTrue, RClash, RIrrefl, RDistinct, RLinear, RNotNot, RAnd, RNotAnd, RAndThen, RNotAndThen, ROr, RNotOr, ROrElse, RNotOrElse, RImp, RNotImp, RIff, RNotIff, RForall, RNotForall, RExists, RNotExists, RKeep, RReplace, RInject}
 use Rattle.proof_scripts.specs.declared.line.Word.{Word}
 use Rattle.proof_scripts.specs.declared.line.Word.TheVariants as word
+use Rattle.proof_scripts.specs.Scripts.{word_rule}
 
 -- the rule with so many formulas before those in which its places were counted
 abbrev pub rule_behind : ℕ → RuleTree → RuleTree
@@ -50,3 +52,8 @@ WordFits n (word.Replace i j e) = (n + i ≤ 18446744073709551615) × (n + j ≤
 WordFits n (word.False i) = n + i ≤ 18446744073709551615
 WordFits n (word.Distinct i) = n + i ≤ 18446744073709551615
 WordFits n _ = Unit {0}
+
+-- the word's rule has no place
+pub record HasNoPlace (w : Word) : Type 0 where
+  pub fits : WordFits 0 w
+  pub same : (s : List Tree) → rule_behind 0 (word_rule s w) ≡ word_rule s w

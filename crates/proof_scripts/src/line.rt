@@ -44,24 +44,28 @@ pub enum Places {
 
 /// The formulas that a premise adds.
 #[derive(Clone, Copy)]
-pub enum Formulas {
+pub(crate) enum Formulas {
     One(TermId),
     Two(TermId, TermId),
 }
 
 /// A line: an earlier step that refutes the front and so many formulas at the end of the tail; one that refutes the formulas at some
-/// places of the tail, without the front; a rule with its places in the whole sequent and with what each of its premises adds, of
-/// which it has at most two; or a rule on a connective, or on its negation, at a place of the tail, a cut, or a rule with its places
-/// in the tail, whose premises add what the rule says, which is made.
+/// places of the tail, without the front; a rule on a connective, or on its negation, at a place of the tail; a cut; or a rule with
+/// its places in the tail. What the premises of a rule add is made by the line. Three rules are told by the parts of an expression:
+/// a `match` with one branch is alike the branch's body at the terms for its pattern's variables (`Branch`); one with more, first
+/// comes the test of the first pattern, then that body, and then the `match` with the other branches (`Branches`); a projection of a
+/// constructor's application is alike the field (`Field`).
 #[derive(Clone, Copy)]
 pub enum Line {
     Given(usize, usize),
     Kept(usize, Places),
-    By(Word, Option<Formulas>, Option<Formulas>),
     Holding(Op, usize),
     Failing(Op, usize),
     Cut(TermId),
     Rule(Word),
+    Branch(TermId, TermId),
+    Branches(TermId, TermId, TermId, TermId),
+    Field(TermId, TermId),
 }
 
 /// What the premises of a rule add.

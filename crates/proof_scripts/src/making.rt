@@ -127,7 +127,7 @@ fn make_negated_new_body(
 }
 
 // `=` of two terms, or `<->` of two formulas.
-fn make_alike(draft: &mut Draft, a: TermId, b: TermId) -> Result<TermId, AllocError>
+pub(crate) fn make_alike(draft: &mut Draft, a: TermId, b: TermId) -> Result<TermId, AllocError>
     requires alike { AreComparable draft.old a b }
     ensures formula { IfOk result (IsFormulaAt draft.new) }
     ensures tree { IfOk result (λ id. tree_at draft.new.trees id
@@ -179,7 +179,7 @@ fn make_guarded(
 }
 
 // What an expression is alike where a condition holds, and where it doesn't.
-fn make_cases(
+pub(crate) fn make_cases(
     draft: &mut Draft,
     cond: TermId,
     whole: TermId,

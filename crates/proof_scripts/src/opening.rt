@@ -1,12 +1,17 @@
 // The rule that a line means, with what its premises add.
 ghost use Rattle.std.specs.Prelude.{IfOk};
+ghost use Rattle.trees.specs.Node.{tree_at};
 ghost use Rattle.tasks.specs.Meaning.{trees_at};
-ghost use Rattle.evidence.specs.Drafts.{AddsTrees, AreFormulas};
-ghost use Rattle.proof_scripts.specs.Scripts.{script_line_at, LineHeld, HoldingLine, FailingLine};
+ghost use Rattle.rule_rows.specs.Trees.{RMatchDef};
+ghost use Rattle.rule_rows.specs.Forms.{alike, by_cases};
+ghost use Rattle.evidence.specs.Drafts.{AddsTrees, AreFormulas, IsFormulaAt};
+ghost use Rattle.proof_scripts.specs.Added.{AreComparable};
+ghost use Rattle.proof_scripts.specs.Scripts.{script_line_at, word_rule, WordHeld, LineHeld, HoldingLine, FailingLine, MadeLine};
+ghost use Rattle.proof_scripts.specs.Words.{HasNoPlace};
 ghost use Rattle.proof_scripts.specs.Derived.{CanOpen, HasRule, IsLineOpened};
 
 use crate::line::{Formulas, Line, Opened, Sides, Word};
-use crate::making::make_sides;
+use crate::making::{make_alike, make_cases, make_sides};
 use crate::sides::{negate_both, where_false, where_true};
 use evidence::{Draft, negation};
 use std::alloc::AllocError;
@@ -32,11 +37,6 @@ pub(crate) fn open_line(
     match line {
         Line::Given(_, _) => unreachable!(),
         Line::Kept(_, _) => unreachable!(),
-        Line::By(word, first, second) => Ok(Opened {
-            before: 0,
-            word,
-            sides: Sides { first, second },
-        }),
         Line::Holding(op, place) => open_holding(draft, front, tail, op, place),
         Line::Failing(op, place) => open_failing(draft, front, tail, op, place),
         Line::Cut(formula) => {
@@ -57,7 +57,87 @@ pub(crate) fn open_line(
                 sides,
             })
         }
+        Line::Branch(whole, part) => {
+            open_alike(draft, front, tail, Word::MatchDef(whole), whole, part)
+        }
+        Line::Branches(whole, test, part, rest) => {
+            open_branches(draft, front, tail, whole, test, part, rest)
+        }
+        Line::Field(whole, part) => {
+            open_alike(draft, front, tail, Word::Project(whole), whole, part)
+        }
     }
+}
+
+// A rule without places, by which an expression is alike a part.
+fn open_alike(
+    draft: &mut Draft,
+    front: &[TermId],
+    tail: &[TermId],
+    word: Word,
+    whole: TermId,
+    part: TermId,
+) -> Result<Opened, AllocError>
+    requires word { WordHeld draft.old.trees word }
+    requires no_place { HasNoPlace word }
+    requires alike { AreComparable draft.old whole part }
+    requires opens { CanOpen draft.old (trees_at draft.old.trees front.now)
+        (trees_at draft.old.trees tail.now) (MadeLine (word_rule draft.old.trees word)
+        (alike (tree_at draft.old.trees whole) (tree_at draft.old.trees part))) }
+    ensures opened { IfOk result (λ r. IsLineOpened draft.new (trees_at draft.old.trees front.now)
+        (trees_at draft.old.trees tail.now) (MadeLine (word_rule draft.old.trees word)
+        (alike (tree_at draft.old.trees whole) (tree_at draft.old.trees part))) r) }
+    ensures grows { AddsTrees draft.old draft.new }
+{
+    let _ = front;
+    let _ = tail;
+    let made = make_alike(draft, whole, part)?;
+    let first = Some(Formulas::One(made));
+    Ok(Opened {
+        before: 0,
+        word,
+        sides: Sides {
+            first,
+            second: None,
+        },
+    })
+}
+
+// The equation of a `match` with more branches than one.
+fn open_branches(
+    draft: &mut Draft,
+    front: &[TermId],
+    tail: &[TermId],
+    whole: TermId,
+    test: TermId,
+    part: TermId,
+    rest: TermId,
+) -> Result<Opened, AllocError>
+    requires test { IsFormulaAt draft.old test }
+    requires part { AreComparable draft.old whole part }
+    requires rest { AreComparable draft.old whole rest }
+    requires opens { CanOpen draft.old (trees_at draft.old.trees front.now)
+        (trees_at draft.old.trees tail.now) (MadeLine (RMatchDef (tree_at draft.old.trees whole))
+        (by_cases (tree_at draft.old.trees test) (tree_at draft.old.trees whole)
+        (tree_at draft.old.trees part) (tree_at draft.old.trees rest))) }
+    ensures opened { IfOk result (λ r. IsLineOpened draft.new (trees_at draft.old.trees front.now)
+        (trees_at draft.old.trees tail.now) (MadeLine (RMatchDef (tree_at draft.old.trees whole))
+        (by_cases (tree_at draft.old.trees test) (tree_at draft.old.trees whole)
+        (tree_at draft.old.trees part) (tree_at draft.old.trees rest))) r) }
+    ensures grows { AddsTrees draft.old draft.new }
+{
+    let _ = front;
+    let _ = tail;
+    let made = make_cases(draft, test, whole, part, rest)?;
+    let first = Some(Formulas::One(made));
+    Ok(Opened {
+        before: 0,
+        word: Word::MatchDef(whole),
+        sides: Sides {
+            first,
+            second: None,
+        },
+    })
 }
 
 // The rule on a connective of the tail, at a place.
