@@ -6,23 +6,25 @@ use Rattle.trees.specs.declared.Op.TheVariants.{Iff}
 use Rattle.trees.specs.declared.Sort.TheVariants.{Formula}
 use Rattle.trees.specs.Tree.{Tree, Leaf, One, Two, Three, HNum, HBound, HParam, HPatAny, HPatVar, HPatAlias, HCell, HLet, HCase, HArm, HFun, HIf, HPatCon, HJoin}
 use Rattle.trees.specs.Node.{tree_at, Holds}
+use Rattle.trees.specs.Binding.{inst_many}
 use Rattle.trees.specs.Sorts.{sort_of, type_of, yield, yield_type, IsExpression}
-use Rattle.tasks.specs.Task.{neg}
+use Rattle.tasks.specs.Task.{TaskTree, neg}
+use Rattle.tasks.specs.MatchTests.{test, bind}
 use Rattle.tasks.specs.Valid.{IsGround}
 use Rattle.tasks.specs.Typing.{TypedUnder}
 use Rattle.tasks.specs.Vocabulary.{of_task}
 use Rattle.rule_rows.specs.Forms.{alike}
 use Rattle.evidence.specs.Drafts.{DraftTree, Extends, Refutes, IsFormulaAt}
+use Rattle.evidence.specs.Laws.{Extends_trans}
 use Rattle.evidence.proofs.Rules.{refutes_later}
 use Rattle.evidence.proofs.Formulas.{formula_later}
 use Rattle.images.proofs.Images.{expression_sort, expression_type}
 use Rattle.congruence.specs.Alike.{IsClosedAt, ArePair, HasHalves}
 use Rattle.congruence.specs.declared.conditionals.Conditional.{Conditional}
 use Rattle.congruence.specs.declared.conditionals.CaseValues.{CaseValues}
-use Rattle.congruence.specs.declared.conditionals.Claims.{Claims}
 use Rattle.congruence.specs.declared.cases.Case.{Case}
 use Rattle.congruence.specs.declared.cases.CaseLinks.{CaseLinks}
-use Rattle.congruence.specs.Conditionals.{IsConditional, HasValues, AreClaims, IsCase, AreLinked, HasCaseHalves, IsIfAt}
+use Rattle.congruence.specs.Conditionals.{IsConditional, HasValues, IsCase, AreLinked, HasCaseHalves, IsIfAt, IsMatchAt, IsLastBranch}
 use Rattle.congruence.proofs.Later.{tree_later, closed_later, pair_later, shows_at}
 
 -- ---- a formula has no type
@@ -145,17 +147,49 @@ module _ (d d1 : DraftTree) (x : Extends d d1) where
     else_part = shows_at d d1 x w.else_part l.else_part r.else_part p.else_part.right.held q.else_part.right.held h.else_part;
   }
 
-  -- values from steps for the claims
-  pub values_made : (k : Conditional) (c : Claims) (m n : ℕ) → IsConditional d k → AreClaims d k c → Refutes d1 m (tree_at d.trees k.condition ∷ neg (tree_at d.trees c.then_claim) ∷ []) → Refutes d1 n (tree_at d.trees c.negated ∷ neg (tree_at d.trees c.else_claim) ∷ [])
-      → HasValues d1 k (record { then_value = m; else_value = n })
-  values_made k c m n p h u v =
-      let q = tree_later d d1 x k.condition p.condition.held in
-      record {
-        then_value = subst (λ (z : Tree). Refutes d1 m (z ∷ neg (alike (tree_at d1.trees k.whole) (tree_at d1.trees k.then_part)) ∷ [])) (sym q)
-            (subst (λ (z : Tree). Refutes d1 m (tree_at d.trees k.condition ∷ neg z ∷ [])) (h.then_is ∙ same_alike k.whole k.then_part p.whole.held p.then_part.right.held) u);
-        else_value = subst (λ (z : Tree). Refutes d1 n (z ∷ neg (alike (tree_at d1.trees k.whole) (tree_at d1.trees k.else_part)) ∷ [])) (h.negated_is ∙ ap neg (sym q))
-            (subst (λ (z : Tree). Refutes d1 n (tree_at d.trees c.negated ∷ neg z ∷ [])) (h.else_is ∙ same_alike k.whole k.else_part p.whole.held p.else_part.right.held) v);
-      }
+  -- the negation of a claim
+  pub denied : (goal l r : TermId) → Holds d.trees l → Holds d.trees r → tree_at d1.trees goal ≡ neg (alike (tree_at d.trees l) (tree_at d.trees r)) → tree_at d1.trees goal ≡ neg (alike (tree_at d1.trees l) (tree_at d1.trees r))
+  denied goal l r hl hr q = q ∙ ap neg (same_alike l r hl hr)
+
+  pub denied_step : (e : DraftTree) (k : ℕ) (l r : TermId) → Holds d.trees l → Holds d.trees r → Refutes e k (neg (alike (tree_at d.trees l) (tree_at d.trees r)) ∷ []) → Refutes e k (neg (alike (tree_at d1.trees l) (tree_at d1.trees r)) ∷ [])
+  denied_step e k l r hl hr h = subst (λ (z : Tree). Refutes e k (neg z ∷ [])) (same_alike l r hl hr) h
+
+  -- an `if`, and a `match`, by their parts
+  pub if_later : (k : Conditional) → IsConditional d k → IsIfAt d k → IsIfAt d1 k
+  if_later k p q = tree_later d d1 x k.whole p.whole.held ∙ q ∙ cc (sym (tree_later d d1 x k.condition p.condition.held), sym (tree_later d d1 x k.then_part p.then_part.right.held), sym (tree_later d d1 x k.else_part p.else_part.right.held))
+
+  pub cases_later : (k : Conditional) → IsConditional d k → IsMatchAt d k → IsMatchAt d1 k
+  cases_later k p q = record {
+    scrutinee = q.scrutinee;
+    pattern = q.pattern;
+    body = q.body;
+    rest = q.rest;
+    is = tree_later d d1 x k.whole p.whole.held ∙ q.is;
+    more = q.more;
+    condition = tree_later d d1 x k.condition p.condition.held ∙ q.condition ∙ ap (λ (t : TaskTree). test t q.pattern q.scrutinee) (sym x.task);
+    first = tree_later d d1 x k.then_part p.then_part.right.held ∙ q.first ∙ ap (λ (t : TaskTree). inst_many q.body (bind t q.pattern q.scrutinee)) (sym x.task);
+    others = tree_later d d1 x k.else_part p.else_part.right.held ∙ q.others;
+  }
+
+  pub last_later : (whole inner : TermId) → Holds d.trees whole → Holds d.trees inner → IsLastBranch d.task (tree_at d.trees whole) (tree_at d.trees inner) → IsLastBranch d1.task (tree_at d1.trees whole) (tree_at d1.trees inner)
+  last_later whole inner hw hi q = record {
+    scrutinee = q.scrutinee;
+    pattern = q.pattern;
+    body = q.body;
+    is = tree_later d d1 x whole hw ∙ q.is;
+    first = tree_later d d1 x inner hi ∙ q.first ∙ ap (λ (t : TaskTree). inst_many q.body (bind t q.pattern q.scrutinee)) (sym x.task);
+  }
+
+  -- what a conditional is under its condition, in trees of the later draft
+  then_moved : (e : DraftTree) (k : Conditional) (m : ℕ) → IsConditional d k → Refutes e m (tree_at d.trees k.condition ∷ neg (alike (tree_at d.trees k.whole) (tree_at d.trees k.then_part)) ∷ []) → Refutes e m (tree_at d1.trees k.condition ∷ neg (alike (tree_at d1.trees k.whole) (tree_at d1.trees k.then_part)) ∷ [])
+  then_moved e k m p u =
+      subst (λ (z : Tree). Refutes e m (z ∷ neg (alike (tree_at d1.trees k.whole) (tree_at d1.trees k.then_part)) ∷ [])) (sym (tree_later d d1 x k.condition p.condition.held))
+      (subst (λ (z : Tree). Refutes e m (tree_at d.trees k.condition ∷ neg z ∷ [])) (same_alike k.whole k.then_part p.whole.held p.then_part.right.held) u)
+
+  else_moved : (e : DraftTree) (k : Conditional) (m : ℕ) → IsConditional d k → Refutes e m (neg (tree_at d.trees k.condition) ∷ neg (alike (tree_at d.trees k.whole) (tree_at d.trees k.else_part)) ∷ []) → Refutes e m (neg (tree_at d1.trees k.condition) ∷ neg (alike (tree_at d1.trees k.whole) (tree_at d1.trees k.else_part)) ∷ [])
+  else_moved e k m p u =
+      subst (λ (z : Tree). Refutes e m (neg z ∷ neg (alike (tree_at d1.trees k.whole) (tree_at d1.trees k.else_part)) ∷ [])) (sym (tree_later d d1 x k.condition p.condition.held))
+      (subst (λ (z : Tree). Refutes e m (neg (tree_at d.trees k.condition) ∷ neg z ∷ [])) (same_alike k.whole k.else_part p.whole.held p.else_part.right.held) u)
 
   pub same_steps : (k : ℕ) (a b c : TermId) → Holds d.trees a → Holds d.trees b → Holds d.trees c → Refutes d1 k (tree_at d.trees a ∷ tree_at d.trees b ∷ neg (tree_at d.trees c) ∷ []) → Refutes d1 k (tree_at d1.trees a ∷ tree_at d1.trees b ∷ neg (tree_at d1.trees c) ∷ [])
   same_steps k a b c ha hb hc r =
@@ -198,3 +232,8 @@ module _ (d d1 : DraftTree) (x : Extends d d1) where
   -- the negation of an equivalence
   pub no_iff_later : (id a b : TermId) → Holds d.trees id → Holds d.trees a → Holds d.trees b → tree_at d.trees id ≡ neg (Two (HJoin Iff) (tree_at d.trees a) (tree_at d.trees b)) → tree_at d1.trees id ≡ neg (Two (HJoin Iff) (tree_at d1.trees a) (tree_at d1.trees b))
   no_iff_later id a b hi ha hb q = tree_later d d1 x id hi ∙ q ∙ cc (tree_later d d1 x a ha, tree_later d d1 x b hb)
+
+-- values from the two steps
+pub values_made : (d d1 d2 : DraftTree) (x : Extends d d1) (y : Extends d1 d2) (k : Conditional) (m n : ℕ) → IsConditional d k → Refutes d2 m (tree_at d.trees k.condition ∷ neg (alike (tree_at d.trees k.whole) (tree_at d.trees k.then_part)) ∷ [])
+    → Refutes d2 n (neg (tree_at d1.trees k.condition) ∷ neg (alike (tree_at d1.trees k.whole) (tree_at d1.trees k.else_part)) ∷ []) → HasValues d2 k (record { then_value = m; else_value = n })
+values_made d d1 d2 x y k m n p u v = record { then_value = then_moved d d2 (Extends_trans d d1 d2 x y) d2 k m p u; else_value = else_moved d1 d2 y d2 k n (parts_later d d1 x k p) v }

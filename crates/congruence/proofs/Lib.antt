@@ -1,5 +1,6 @@
 pub use Rattle.instances.proofs as instances
 pub mod Later
+pub mod Scripts
 pub mod NewParameters
 pub mod HoleTemplates
 pub mod EquationHoles

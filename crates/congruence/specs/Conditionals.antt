@@ -2,17 +2,15 @@
 -- `match` with more branches than one, by the test of its first pattern.
 use Rattle.std.specs.Prelude.{◌≡◌, ℕ, [], ◌∷◌}
 use Rattle.trees.specs.declared.TermId.{TermId}
-use Rattle.trees.specs.declared.Op.TheVariants.{And, Imp}
 use Rattle.trees.specs.Tree.{Tree, Leaf, Two, Three, HEnd, HCell, HArm, HCase, HIf, head_of}
 use Rattle.trees.specs.Node.{tree_at}
 use Rattle.trees.specs.Binding.{inst_many}
 use Rattle.tasks.specs.Task.{TaskTree, neg}
 use Rattle.tasks.specs.MatchTests.{test, bind}
-use Rattle.rule_rows.specs.Forms.{alike, join}
+use Rattle.rule_rows.specs.Forms.{alike}
 use Rattle.evidence.specs.Drafts.{DraftTree, Refutes, IsFormulaAt}
 use Rattle.congruence.specs.declared.conditionals.Conditional.{Conditional}
 use Rattle.congruence.specs.declared.conditionals.CaseValues.{CaseValues}
-use Rattle.congruence.specs.declared.conditionals.Claims.{Claims}
 use Rattle.congruence.specs.declared.cases.Case.{Case}
 use Rattle.congruence.specs.declared.cases.CaseLinks.{CaseLinks}
 use Rattle.congruence.specs.Alike.{IsClosedAt, ArePair, Shows}
@@ -63,19 +61,6 @@ pub record AreLinked (d : DraftTree) (l r : Conditional) (w : CaseLinks) : Type 
   pub condition : Shows d w.condition (tree_at d.trees l.condition) (tree_at d.trees r.condition)
   pub then_part : Shows d w.then_part (tree_at d.trees l.then_part) (tree_at d.trees r.then_part)
   pub else_part : Shows d w.else_part (tree_at d.trees l.else_part) (tree_at d.trees r.else_part)
-
--- numbers of the claims of which the equation of a conditional is made
-pub record AreClaims (d : DraftTree) (k : Conditional) (c : Claims) : Type 0 where
-  pub then_claim : IsFormulaAt d c.then_claim
-  pub else_claim : IsFormulaAt d c.else_claim
-  pub negated : IsFormulaAt d c.negated
-  pub then_is : tree_at d.trees c.then_claim ≡ alike (tree_at d.trees k.whole) (tree_at d.trees k.then_part)
-  pub else_is : tree_at d.trees c.else_claim ≡ alike (tree_at d.trees k.whole) (tree_at d.trees k.else_part)
-  pub negated_is : tree_at d.trees c.negated ≡ neg (tree_at d.trees k.condition)
-
--- the equation of a conditional, from its claims
-abbrev pub claimed : DraftTree → Conditional → Claims → Tree
-claimed d k c = join And (join Imp (tree_at d.trees k.condition) (tree_at d.trees c.then_claim)) (join Imp (tree_at d.trees c.negated) (tree_at d.trees c.else_claim))
 
 -- an expression is alike a part under a hypothesis, by a step
 pub record IsCase (d : DraftTree) (k : Case) : Type 0 where

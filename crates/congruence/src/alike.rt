@@ -10,7 +10,7 @@ ghost use Rattle.evidence.specs.Drafts.{DraftTree, Extends, AddsTrees, Refutes, 
 ghost use Rattle.congruence.specs.Alike.{IsClosedAt, HasHalves, Shows, ArePair, TemplateFor, IsIrreflexive};
 
 use evidence::{Draft, negation};
-use proof_scripts::{Formulas, Line, Places, Word, derive};
+use proof_scripts::{Line, Places, Word, derive};
 use std::alloc::AllocError;
 use tasks::Grow;
 use trees::{Node, Op, Sort, TermId};
@@ -74,12 +74,7 @@ pub fn make_halves(
         AlikeBy::Formulas(there, back) => Ok(Halves { there, back }),
         _ => {
             let negated = negation(draft, l)?;
-            let step = derive(
-                draft,
-                &[],
-                &[l, negated],
-                &[Line::By(Word::Clash(0, 1), None, None)],
-            )?;
+            let step = derive(draft, &[], &[l, negated], &[Line::Rule(Word::Clash(0, 1))])?;
             Ok(Halves {
                 there: step,
                 back: step,
@@ -110,23 +105,20 @@ pub(crate) fn by_replacing(
     a: TermId,
     b: TermId,
     lemma: usize,
-    made: TermId,
     step: usize,
 ) -> Result<usize, AllocError>
     requires pair { ArePair draft.old a b }
     requires term { sort_of (tree_at draft.old.trees a) ≡ Sort.Term }
     requires goal { IsFormulaAt draft.old goal }
-    requires made { IsFormulaAt draft.old made }
     requires template_held { Holds draft.old.trees template }
     requires template { TemplateFor draft.old.task (tree_at draft.old.trees a)
         (tree_at draft.old.trees template) }
     requires before { tree_at draft.old.trees goal
         ≡ inst (tree_at draft.old.trees template) (tree_at draft.old.trees a) }
-    requires after { tree_at draft.old.trees made
-        ≡ inst (tree_at draft.old.trees template) (tree_at draft.old.trees b) }
     requires lemma { Refutes draft.old lemma
         (neg (equal (tree_at draft.old.trees a) (tree_at draft.old.trees b)) ∷ []) }
-    requires step { Refutes draft.old step (tree_at draft.old.trees made ∷ []) }
+    requires step { Refutes draft.old step
+        (inst (tree_at draft.old.trees template) (tree_at draft.old.trees b) ∷ []) }
     ensures refutes { IfOk result (λ k. Refutes draft.new k
         (tree_at draft.old.trees goal ∷ [])) }
     ensures grows { Extends draft.old draft.new }
@@ -138,11 +130,7 @@ pub(crate) fn by_replacing(
         &[goal],
         &[
             Line::Cut(link),
-            Line::By(
-                Word::Replace(1, 0, template),
-                Some(Formulas::One(made)),
-                None,
-            ),
+            Line::Rule(Word::Replace(1, 0, template)),
             Line::Kept(step, Places::One(2)),
             Line::Kept(lemma, Places::One(1)),
         ],
@@ -157,12 +145,7 @@ pub(crate) fn irreflexive(draft: &mut Draft, formula: TermId) -> Result<usize, A
         (tree_at draft.old.trees formula ∷ [])) }
     ensures grows { Extends draft.old draft.new }
 {
-    derive(
-        draft,
-        &[],
-        &[formula],
-        &[Line::By(Word::Irrefl(0), None, None)],
-    )
+    derive(draft, &[], &[formula], &[Line::Rule(Word::Irrefl(0))])
 }
 
 /// Evidence of formulas through a middle.

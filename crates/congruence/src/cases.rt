@@ -12,11 +12,11 @@ ghost use Rattle.congruence.specs.Conditionals.{IsConditional, HasValues, IsCase
 ghost use Rattle.congruence.specs.Conditionals.{IsIfAt, IsMatchAt, IsLastBranch};
 
 use crate::alike::{AlikeBy, Halves, equation, make_halves};
-use crate::claims::{alike_claimed, claim, equal_step};
+use crate::claims::{alike_by_step, denial, equal_step};
 use crate::conditionals::{CaseValues, Conditional, if_values, match_values};
 use crate::replacing::{apart, open_hole, template_left};
 use evidence::{Draft, negation};
-use proof_scripts::{Formulas, Line, Places, Word, derive};
+use proof_scripts::{Line, Places, Word, derive};
 use std::alloc::AllocError;
 use tasks::Grow;
 use trees::{Node, Op, Sort, TermId};
@@ -86,7 +86,6 @@ fn replaced_second(
     ensures grows { Extends draft.old draft.new }
 {
     let link = equation(draft, right.whole, right.part)?;
-    let made = apart(draft, other, right.part)?;
     let template = template_beside(draft, right.whole, right.part, other)?;
     derive(
         draft,
@@ -94,11 +93,7 @@ fn replaced_second(
         &[goal, right.hypothesis],
         &[
             Line::Cut(link),
-            Line::By(
-                Word::Replace(2, 0, template),
-                Some(Formulas::One(made)),
-                None,
-            ),
+            Line::Rule(Word::Replace(2, 0, template)),
             Line::Kept(lemma, Places::One(3)),
             Line::Kept(right.value, Places::Two(1, 2)),
         ],
@@ -111,7 +106,6 @@ fn replaced_first(
     left: Case,
     right: Case,
     goal: TermId,
-    between: TermId,
     step: usize,
 ) -> Result<usize, AllocError>
     requires left { IsCase draft.old left }
@@ -121,11 +115,8 @@ fn replaced_first(
     requires goal { IsFormulaAt draft.old goal }
     requires goal_is { tree_at draft.old.trees goal ≡ neg (equal
         (tree_at draft.old.trees left.whole) (tree_at draft.old.trees right.whole)) }
-    requires between { IsFormulaAt draft.old between }
-    requires between_is { tree_at draft.old.trees between ≡ neg (equal
-        (tree_at draft.old.trees left.part) (tree_at draft.old.trees right.whole)) }
-    requires step { Refutes draft.old step (tree_at draft.old.trees between
-        ∷ tree_at draft.old.trees right.hypothesis ∷ []) }
+    requires step { Refutes draft.old step (neg (equal (tree_at draft.old.trees left.part)
+        (tree_at draft.old.trees right.whole)) ∷ tree_at draft.old.trees right.hypothesis ∷ []) }
     ensures refutes { IfOk result (λ k. Refutes draft.new k (tree_at draft.old.trees goal
         ∷ tree_at draft.old.trees left.hypothesis
         ∷ tree_at draft.old.trees right.hypothesis ∷ [])) }
@@ -148,11 +139,7 @@ fn replaced_first(
         &[goal, left.hypothesis, right.hypothesis],
         &[
             Line::Cut(link),
-            Line::By(
-                Word::Replace(3, 0, template),
-                Some(Formulas::One(between)),
-                None,
-            ),
+            Line::Rule(Word::Replace(3, 0, template)),
             Line::Kept(step, Places::Two(4, 2)),
             Line::Kept(left.value, Places::Two(1, 3)),
         ],
@@ -183,7 +170,7 @@ fn under_terms(
 {
     let between = apart(draft, left.part, right.whole)?;
     let step = replaced_second(draft, left.part, right, between, lemma)?;
-    let made = replaced_first(draft, left, right, goal, between, step)?;
+    let made = replaced_first(draft, left, right, goal, step)?;
     Ok(made)
 }
 
@@ -214,7 +201,7 @@ fn case_there(
             Line::Cut(claimed),
             Line::Holding(Op::Iff, 3),
             Line::Kept(step, Places::Two(5, 2)),
-            Line::By(Word::Clash(1, 4), None, None),
+            Line::Rule(Word::Clash(1, 4)),
             Line::Kept(case.value, Places::Two(0, 3)),
         ],
     )
@@ -238,8 +225,8 @@ fn case_back(draft: &mut Draft, case: Case) -> Result<usize, AllocError>
         &[
             Line::Cut(claimed),
             Line::Holding(Op::Iff, 3),
-            Line::By(Word::Clash(4, 2), None, None),
-            Line::By(Word::Clash(1, 5), None, None),
+            Line::Rule(Word::Clash(4, 2)),
+            Line::Rule(Word::Clash(1, 5)),
             Line::Kept(case.value, Places::Two(0, 3)),
         ],
     )
@@ -595,10 +582,9 @@ pub fn alike_cases(
         (tree_at draft.old.trees right.whole)) }
     ensures grows { Extends draft.old draft.new }
 {
-    let claimed = claim(draft, left.whole, right.whole)?;
-    let goal = negation(draft, claimed)?;
+    let goal = denial(draft, left.whole, right.whole)?;
     let step = decided(draft, left, left_values, right, right_values, goal, links)?;
-    let made = alike_claimed(draft, left.whole, right.whole, claimed, step)?;
+    let made = alike_by_step(draft, left.whole, right.whole, step)?;
     Ok(made)
 }
 
@@ -650,32 +636,20 @@ pub fn alike_matches(
 }
 
 // [not (E ~ a)], where E is a `match` with one branch, and `a` its body at the pattern's terms.
-fn unfold_branch(
-    draft: &mut Draft,
-    whole: TermId,
-    inner: TermId,
-    claimed: TermId,
-) -> Result<usize, AllocError>
+fn unfold_branch(draft: &mut Draft, whole: TermId, inner: TermId) -> Result<usize, AllocError>
     requires pair { ArePair draft.old whole inner }
     requires is { IsLastBranch draft.old.task (tree_at draft.old.trees whole)
         (tree_at draft.old.trees inner) }
-    requires claimed { IsFormulaAt draft.old claimed }
-    requires claimed_is { tree_at draft.old.trees claimed
-        ≡ alike (tree_at draft.old.trees whole) (tree_at draft.old.trees inner) }
     ensures refutes { IfOk result (λ n. Refutes draft.new n
-        (neg (tree_at draft.old.trees claimed) ∷ [])) }
+        (neg (alike (tree_at draft.old.trees whole) (tree_at draft.old.trees inner)) ∷ [])) }
     ensures grows { Extends draft.old draft.new }
 {
-    let _ = inner;
-    let goal = negation(draft, claimed)?;
+    let goal = denial(draft, whole, inner)?;
     derive(
         draft,
         &[],
         &[goal],
-        &[
-            Line::By(Word::MatchDef(whole), Some(Formulas::One(claimed)), None),
-            Line::By(Word::Clash(1, 0), None, None),
-        ],
+        &[Line::Branch(whole, inner), Line::Rule(Word::Clash(1, 0))],
     )
 }
 
@@ -688,8 +662,7 @@ pub fn alike_branch(draft: &mut Draft, whole: TermId, inner: TermId) -> Result<A
         (tree_at draft.old.trees inner)) }
     ensures grows { Extends draft.old draft.new }
 {
-    let claimed = claim(draft, whole, inner)?;
-    let step = unfold_branch(draft, whole, inner, claimed)?;
-    let made = alike_claimed(draft, whole, inner, claimed, step)?;
+    let step = unfold_branch(draft, whole, inner)?;
+    let made = alike_by_step(draft, whole, inner, step)?;
     Ok(made)
 }

@@ -11,7 +11,7 @@ ghost use Rattle.congruence.specs.Alike.{HasHalves, Shows, ArePair};
 use crate::alike::{AlikeBy, Halves, irreflexive, make_halves};
 use crate::replacing::apart;
 use evidence::{Draft, negation};
-use proof_scripts::{Formulas, Line, Places, Word, derive};
+use proof_scripts::{Line, Places, Word, derive};
 use std::alloc::AllocError;
 use tasks::Grow;
 use trees::{Node, Op, Sort, TermId};
@@ -28,6 +28,19 @@ pub(crate) fn claim(draft: &mut Draft, l: TermId, r: TermId) -> Result<TermId, A
         Sort::Term => draft.add(Node::Eq(l, r)),
         _ => draft.add(Node::Join(Op::Iff, l, r)),
     }
+}
+
+// The negation of the claim.
+pub(crate) fn denial(draft: &mut Draft, l: TermId, r: TermId) -> Result<TermId, AllocError>
+    requires pair { ArePair draft.old l r }
+    ensures formula { IfOk result (IsFormulaAt draft.new) }
+    ensures tree { IfOk result (λ id. tree_at draft.new.trees id
+        ≡ neg (alike (tree_at draft.old.trees l) (tree_at draft.old.trees r))) }
+    ensures grows { AddsTrees draft.old draft.new }
+{
+    let claimed = claim(draft, l, r)?;
+    let made = negation(draft, claimed)?;
+    Ok(made)
 }
 
 // [l; not r], from `l <-> r`.
@@ -56,8 +69,8 @@ fn claim_there(
         &[
             Line::Cut(claimed),
             Line::Holding(Op::Iff, 2),
-            Line::By(Word::Clash(4, 1), None, None),
-            Line::By(Word::Clash(0, 3), None, None),
+            Line::Rule(Word::Clash(4, 1)),
+            Line::Rule(Word::Clash(0, 3)),
             Line::Kept(lemma, Places::One(2)),
         ],
     )
@@ -89,8 +102,8 @@ fn claim_back(
         &[
             Line::Cut(claimed),
             Line::Holding(Op::Iff, 2),
-            Line::By(Word::Clash(3, 1), None, None),
-            Line::By(Word::Clash(0, 4), None, None),
+            Line::Rule(Word::Clash(3, 1)),
+            Line::Rule(Word::Clash(0, 4)),
             Line::Kept(lemma, Places::One(2)),
         ],
     )
@@ -121,7 +134,7 @@ fn claim_halves(
 }
 
 // Evidence by a step for the claim.
-pub(crate) fn alike_claimed(
+fn alike_claimed(
     draft: &mut Draft,
     l: TermId,
     r: TermId,

@@ -13,7 +13,7 @@ ghost use Rattle.congruence.specs.Lines.{kept_pair, join_lines};
 
 use crate::alike::{AlikeBy, Halves, make_halves};
 use evidence::{Draft, negation};
-use proof_scripts::{Formulas, Line, Places, Word, derive};
+use proof_scripts::{Line, Places, Word, derive};
 use std::alloc::{AllocError, Global};
 use trees::{Op, Sort, TermId};
 
@@ -44,7 +44,7 @@ pub(crate) fn half_not(
         &[],
         &[no_a, whole],
         &[
-            Line::By(Word::NotNot(1), Some(Formulas::One(b)), None),
+            Line::Rule(Word::NotNot(1)),
             Line::Kept(back, Places::Two(2, 0)),
         ],
     )
@@ -273,28 +273,22 @@ pub(crate) fn half_forall(
     b: TermId,
     number: usize,
     term: TermId,
-    at_a: TermId,
-    no_at_b: TermId,
     step: usize,
 ) -> Result<usize, AllocError>
     requires left { IsFormulaAt draft.old left }
     requires right { IsFormulaAt draft.old right }
-    requires at_a { IsFormulaAt draft.old at_a }
-    requires no_at_b { IsFormulaAt draft.old no_at_b }
     requires term { IsClosedAt draft.old term }
     requires term_is { tree_at draft.old.trees term ≡ Param number (tree_at draft.old.trees ty) }
     requires left_is { tree_at draft.old.trees left
         ≡ Two HForall (tree_at draft.old.trees ty) (tree_at draft.old.trees a) }
     requires right_is { tree_at draft.old.trees right
         ≡ Two HForall (tree_at draft.old.trees ty) (tree_at draft.old.trees b) }
-    requires at_a_is { tree_at draft.old.trees at_a
-        ≡ inst (tree_at draft.old.trees a) (Param number (tree_at draft.old.trees ty)) }
-    requires no_at_b_is { tree_at draft.old.trees no_at_b
-        ≡ neg (inst (tree_at draft.old.trees b) (Param number (tree_at draft.old.trees ty))) }
     requires new { IsNew number (tree_at draft.old.trees left
         ∷ neg (tree_at draft.old.trees right) ∷ []) }
     requires step { Refutes draft.old step
-        (tree_at draft.old.trees at_a ∷ tree_at draft.old.trees no_at_b ∷ []) }
+        (inst (tree_at draft.old.trees a) (Param number (tree_at draft.old.trees ty))
+        ∷ neg (inst (tree_at draft.old.trees b) (Param number (tree_at draft.old.trees ty)))
+        ∷ []) }
     ensures refutes { IfOk result (λ k. Refutes draft.new k
         (tree_at draft.old.trees left ∷ neg (tree_at draft.old.trees right) ∷ [])) }
     ensures grows { Extends draft.old draft.new }
@@ -308,12 +302,8 @@ pub(crate) fn half_forall(
         &[],
         &[left, negated],
         &[
-            Line::By(
-                Word::NotForall(1, number),
-                Some(Formulas::One(no_at_b)),
-                None,
-            ),
-            Line::By(Word::Forall(0, term), Some(Formulas::One(at_a)), None),
+            Line::Rule(Word::NotForall(1, number)),
+            Line::Rule(Word::Forall(0, term)),
             Line::Kept(step, Places::Two(3, 2)),
         ],
     )
@@ -329,28 +319,22 @@ pub(crate) fn half_exists(
     b: TermId,
     number: usize,
     term: TermId,
-    at_a: TermId,
-    no_at_b: TermId,
     step: usize,
 ) -> Result<usize, AllocError>
     requires left { IsFormulaAt draft.old left }
     requires right { IsFormulaAt draft.old right }
-    requires at_a { IsFormulaAt draft.old at_a }
-    requires no_at_b { IsFormulaAt draft.old no_at_b }
     requires term { IsClosedAt draft.old term }
     requires term_is { tree_at draft.old.trees term ≡ Param number (tree_at draft.old.trees ty) }
     requires left_is { tree_at draft.old.trees left
         ≡ Two HExists (tree_at draft.old.trees ty) (tree_at draft.old.trees a) }
     requires right_is { tree_at draft.old.trees right
         ≡ Two HExists (tree_at draft.old.trees ty) (tree_at draft.old.trees b) }
-    requires at_a_is { tree_at draft.old.trees at_a
-        ≡ inst (tree_at draft.old.trees a) (Param number (tree_at draft.old.trees ty)) }
-    requires no_at_b_is { tree_at draft.old.trees no_at_b
-        ≡ neg (inst (tree_at draft.old.trees b) (Param number (tree_at draft.old.trees ty))) }
     requires new { IsNew number (tree_at draft.old.trees left
         ∷ neg (tree_at draft.old.trees right) ∷ []) }
     requires step { Refutes draft.old step
-        (tree_at draft.old.trees at_a ∷ tree_at draft.old.trees no_at_b ∷ []) }
+        (inst (tree_at draft.old.trees a) (Param number (tree_at draft.old.trees ty))
+        ∷ neg (inst (tree_at draft.old.trees b) (Param number (tree_at draft.old.trees ty)))
+        ∷ []) }
     ensures refutes { IfOk result (λ k. Refutes draft.new k
         (tree_at draft.old.trees left ∷ neg (tree_at draft.old.trees right) ∷ [])) }
     ensures grows { Extends draft.old draft.new }
@@ -364,8 +348,8 @@ pub(crate) fn half_exists(
         &[],
         &[left, negated],
         &[
-            Line::By(Word::Exists(0, number), Some(Formulas::One(at_a)), None),
-            Line::By(Word::NotExists(1, term), Some(Formulas::One(no_at_b)), None),
+            Line::Rule(Word::Exists(0, number)),
+            Line::Rule(Word::NotExists(1, term)),
             Line::Kept(step, Places::Two(2, 3)),
         ],
     )

@@ -11,7 +11,7 @@ ghost use Rattle.congruence.specs.Quantifiers.{quantifier_head};
 
 use crate::alike::{AlikeBy, Halves, make_halves};
 use crate::joins::{half_exists, half_forall};
-use evidence::{Draft, negation};
+use evidence::Draft;
 use std::alloc::AllocError;
 use trees::TermId;
 
@@ -32,12 +32,7 @@ fn half_under(
 ) -> Result<usize, AllocError>
     requires left { IsFormulaAt draft.old left }
     requires right { IsFormulaAt draft.old right }
-    requires at_a { IsFormulaAt draft.old at_a }
-    requires at_b { IsFormulaAt draft.old at_b }
     requires term { IsClosedAt draft.old term }
-    requires ty_held { Holds draft.old.trees ty }
-    requires a_held { Holds draft.old.trees a }
-    requires b_held { Holds draft.old.trees b }
     requires term_is { tree_at draft.old.trees term ≡ Param number (tree_at draft.old.trees ty) }
     requires left_is { tree_at draft.old.trees left
         ≡ Two (quantifier_head universal) (tree_at draft.old.trees ty) (tree_at draft.old.trees a) }
@@ -55,15 +50,12 @@ fn half_under(
         (tree_at draft.old.trees left ∷ neg (tree_at draft.old.trees right) ∷ [])) }
     ensures grows { Extends draft.old draft.new }
 {
-    let no_at_b = negation(draft, at_b)?;
+    let _ = at_a;
+    let _ = at_b;
     if universal {
-        half_forall(
-            draft, left, right, ty, a, b, number, term, at_a, no_at_b, step,
-        )
+        half_forall(draft, left, right, ty, a, b, number, term, step)
     } else {
-        half_exists(
-            draft, left, right, ty, a, b, number, term, at_a, no_at_b, step,
-        )
+        half_exists(draft, left, right, ty, a, b, number, term, step)
     }
 }
 

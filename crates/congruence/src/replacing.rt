@@ -13,7 +13,7 @@ use crate::alike::{
     AlikeBy, Halves, by_replacing, chain_formulas, equation, irreflexive, type_of_term,
 };
 use evidence::{Draft, negation};
-use proof_scripts::{Formulas, Line, Places, Word, derive};
+use proof_scripts::{Line, Places, Word, derive};
 use std::alloc::AllocError;
 use tasks::Grow;
 use trees::{Node, Sort, TermId};
@@ -96,9 +96,8 @@ fn by_hole(
     ensures grows { Extends draft.old draft.new }
 {
     let goal = apart(draft, left, right)?;
-    let made = apart(draft, middle, right)?;
     let template = template_left(draft, hole, left, middle, right, a, b)?;
-    by_replacing(draft, goal, template, a, b, lemma, made, step)
+    by_replacing(draft, goal, template, a, b, lemma, step)
 }
 
 /// [not (l = r)], from `l = m` and `m = r`.
@@ -198,8 +197,8 @@ fn replaced_there(
         &[left, negated],
         &[
             Line::Cut(link),
-            Line::By(Word::Replace(2, 0, hole), Some(Formulas::One(right)), None),
-            Line::By(Word::Clash(3, 1), None, None),
+            Line::Rule(Word::Replace(2, 0, hole)),
+            Line::Rule(Word::Clash(3, 1)),
             Line::Kept(lemma, Places::One(2)),
         ],
     )
@@ -213,7 +212,6 @@ fn replaced_back(
     left: TermId,
     right: TermId,
     no_left: TermId,
-    no_right: TermId,
     a: TermId,
     b: TermId,
     lemma: usize,
@@ -228,9 +226,7 @@ fn replaced_back(
     requires left { IsFormulaAt draft.old left }
     requires right { IsFormulaAt draft.old right }
     requires no_left { IsFormulaAt draft.old no_left }
-    requires no_right { IsFormulaAt draft.old no_right }
     requires no_left_is { tree_at draft.old.trees no_left ≡ neg (tree_at draft.old.trees left) }
-    requires no_right_is { tree_at draft.old.trees no_right ≡ neg (tree_at draft.old.trees right) }
     requires lemma { Refutes draft.old lemma
         (neg (equal (tree_at draft.old.trees a) (tree_at draft.old.trees b)) ∷ []) }
     ensures refutes { IfOk result (λ k. Refutes draft.new k
@@ -246,12 +242,8 @@ fn replaced_back(
         &[right, no_left],
         &[
             Line::Cut(link),
-            Line::By(
-                Word::Replace(2, 1, template),
-                Some(Formulas::One(no_right)),
-                None,
-            ),
-            Line::By(Word::Clash(0, 3), None, None),
+            Line::Rule(Word::Replace(2, 1, template)),
+            Line::Rule(Word::Clash(0, 3)),
             Line::Kept(lemma, Places::One(2)),
         ],
     )
@@ -279,11 +271,8 @@ fn replaced_home(
     ensures grows { Extends draft.old draft.new }
 {
     let no_left = negation(draft, left)?;
-    let no_right = negation(draft, right)?;
     let template = not_hole(draft, hole, left, right, a, b)?;
-    replaced_back(
-        draft, hole, template, left, right, no_left, no_right, a, b, lemma,
-    )
+    replaced_back(draft, hole, template, left, right, no_left, a, b, lemma)
 }
 
 // The negation of a formula with a hole.
@@ -414,36 +403,34 @@ pub(crate) fn flip_terms(
     let goal = apart(draft, r, l)?;
     let same = apart(draft, r, r)?;
     let step = irreflexive(draft, same)?;
-    turn(draft, l, r, goal, same, lemma, step)
+    turn(draft, l, r, goal, lemma, step)
 }
 
+// The same, from a step for `r = r`.
 fn turn(
     draft: &mut Draft,
     l: TermId,
     r: TermId,
     goal: TermId,
-    same: TermId,
     lemma: usize,
     step: usize,
 ) -> Result<usize, AllocError>
     requires pair { ArePair draft.old l r }
     requires term { sort_of (tree_at draft.old.trees l) ≡ Sort.Term }
     requires goal { IsFormulaAt draft.old goal }
-    requires same { IsFormulaAt draft.old same }
     requires goal_is { tree_at draft.old.trees goal ≡ neg (equal (tree_at draft.old.trees r)
         (tree_at draft.old.trees l)) }
-    requires same_is { tree_at draft.old.trees same ≡ neg (equal (tree_at draft.old.trees r)
-        (tree_at draft.old.trees r)) }
     requires lemma { Refutes draft.old lemma
         (neg (equal (tree_at draft.old.trees l) (tree_at draft.old.trees r)) ∷ []) }
-    requires step { Refutes draft.old step (tree_at draft.old.trees same ∷ []) }
+    requires step { Refutes draft.old step
+        (neg (equal (tree_at draft.old.trees r) (tree_at draft.old.trees r)) ∷ []) }
     ensures refutes { IfOk result (λ k. Refutes draft.new k
         (tree_at draft.old.trees goal ∷ [])) }
     ensures grows { Extends draft.old draft.new }
 {
     let hole = open_hole(draft, l, r)?;
     let template = template_right(draft, hole, l, r)?;
-    by_replacing(draft, goal, template, l, r, lemma, same, step)
+    by_replacing(draft, goal, template, l, r, lemma, step)
 }
 
 /// The evidence turned round.
