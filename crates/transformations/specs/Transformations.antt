@@ -3,6 +3,7 @@ use Rattle.std.specs.Prelude.{List, All}
 use Rattle.tasks.specs.Task.{TaskTree}
 use Rattle.tasks.specs.Valid.{IsValid}
 use Rattle.evidence.specs.Stages.{Gives, Keeps, TaskEquation, StageEquation, stage_equation}
+use Rattle.tr_define.specs.Kept.{definitions_equation, definitions_keep, inductives_equation, inductives_keep}
 use Rattle.tr_introduce.specs.Introduce.{introduce_equation}
 use Rattle.tr_introduce.specs.Kept.{introduce_keeps}
 use Rattle.tr_remove.specs.Kept.{remove_keeps}
@@ -10,7 +11,7 @@ use Rattle.tr_remove.specs.Remove.{remove_equation}
 use Rattle.tr_split_goals.specs.Goals.{split_equation}
 use Rattle.tr_split_goals.specs.Kept.{split_keeps}
 use Rattle.transformations.specs.declared.transformation.Transformation.{Transformation}
-use Rattle.transformations.specs.declared.transformation.Transformation.TheVariants.{Remove, Split, Introduce}
+use Rattle.transformations.specs.declared.transformation.Transformation.TheVariants.{Remove, Split, Introduce, Definitions, InductiveGroups}
 
 -- what is known of a transformation by itself
 pub record TransformationLaw : Type 0 where
@@ -21,6 +22,8 @@ abbrev pub law_of : Transformation → TransformationLaw
 law_of (Remove its) = record { equation = remove_equation its.props; keeps = remove_keeps its.props }
 law_of (Split its) = record { equation = split_equation; keeps = split_keeps }
 law_of (Introduce its) = record { equation = introduce_equation; keeps = introduce_keeps }
+law_of (Definitions its) = record { equation = definitions_equation; keeps = definitions_keep }
+law_of (InductiveGroups its) = record { equation = inductives_equation; keeps = inductives_keep }
 
 abbrev pub task_equation_of : Transformation → TaskEquation
 task_equation_of x = (law_of x).equation

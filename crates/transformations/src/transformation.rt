@@ -5,6 +5,7 @@ ghost use Rattle.transformations.specs.Transformations.{keeps_of, task_equation_
 use evidence::{Draft, StageFault, Transform};
 use std::alloc::{AllocError, Global};
 use tasks::{Fact, Store, Task, TermId};
+use tr_define::{Definitions, InductiveGroups};
 use tr_introduce::Introduce;
 use tr_remove::Remove;
 use tr_split_goals::Split;
@@ -15,6 +16,8 @@ pub enum Transformation {
     Remove(Remove),
     Split(Split),
     Introduce(Introduce),
+    Definitions(Definitions),
+    InductiveGroups(InductiveGroups),
 }
 
 impl Transform for Transformation {
@@ -25,6 +28,8 @@ impl Transform for Transformation {
             Transformation::Remove(its) => its.make(alloc, store, task),
             Transformation::Split(its) => its.make(alloc, store, task),
             Transformation::Introduce(its) => its.make(alloc, store, task),
+            Transformation::Definitions(its) => its.make(alloc, store, task),
+            Transformation::InductiveGroups(its) => its.make(alloc, store, task),
         }
     }
 
@@ -41,6 +46,8 @@ impl Transform for Transformation {
             Transformation::Remove(its) => its.fact(from, to, name, types, formula, draft),
             Transformation::Split(its) => its.fact(from, to, name, types, formula, draft),
             Transformation::Introduce(its) => its.fact(from, to, name, types, formula, draft),
+            Transformation::Definitions(its) => its.fact(from, to, name, types, formula, draft),
+            Transformation::InductiveGroups(its) => its.fact(from, to, name, types, formula, draft),
         }
     }
 
@@ -55,6 +62,8 @@ impl Transform for Transformation {
             Transformation::Remove(its) => its.glue(from, to, ends, draft),
             Transformation::Split(its) => its.glue(from, to, ends, draft),
             Transformation::Introduce(its) => its.glue(from, to, ends, draft),
+            Transformation::Definitions(its) => its.glue(from, to, ends, draft),
+            Transformation::InductiveGroups(its) => its.glue(from, to, ends, draft),
         }
     }
 

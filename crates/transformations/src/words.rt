@@ -5,6 +5,7 @@ ghost use Rattle.transformations.specs.Words.{transformation_of};
 
 use crate::transformation::Transformation;
 use driver_items::Trans;
+use tr_define::{Definitions, InductiveGroups};
 use tr_introduce::Introduce;
 use tr_split_goals::Split;
 
@@ -15,11 +16,11 @@ pub fn transformation_of(name: Trans) -> Option<Transformation>
     match name {
         Trans::SplitGoalRight => Some(Transformation::Split(Split)),
         Trans::IntroducePremises => Some(Transformation::Introduce(Introduce)),
+        Trans::EliminateDefinition => Some(Transformation::Definitions(Definitions)),
+        Trans::EliminateInductive => Some(Transformation::InductiveGroups(InductiveGroups)),
         Trans::Discriminate
         | Trans::EliminateAlgebraic
-        | Trans::EliminateDefinition
         | Trans::EliminateIf
-        | Trans::EliminateInductive
         | Trans::EliminateLet
         | Trans::EliminateMatch
         | Trans::EliminateRecursion
