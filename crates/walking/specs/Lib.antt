@@ -1,0 +1,4 @@
+pub mod Places
+pub mod Arguments
+pub mod Opened
+pub mod Remembered
