@@ -1,0 +1,9 @@
+pub mod Faults
+pub mod Mapped
+pub mod Facts
+pub mod Starts
+pub mod Cuts
+pub mod Halves
+pub mod Ends
+pub mod Loops
+pub mod Tasks
