@@ -1,3 +1,5 @@
+pub use Rattle.images.proofs as images
+pub use Rattle.typing_laws.proofs as typing_laws
 pub mod Cases
 pub mod Typed
 pub mod AtTypes
@@ -7,4 +9,5 @@ pub mod PlacedNodes
 pub mod Growing
 pub mod ByFirst
 pub mod EliminatedParts
+pub mod Implied
 pub mod Rows

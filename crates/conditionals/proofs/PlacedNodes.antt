@@ -1,104 +1,108 @@
--- A tree with another expression in the place of its first conditional, made in a store from its children.
-use Rattle.std.proofs.Common.{◌≡◌, ℕ, List, Option, Some, None, IfSome, subst, refl, sym, ap, ◌∙◌, arith}
+-- Where the first conditional of a node of a store is, and the node with another child there.
+use Rattle.std.proofs.Common.{◌≡◌, ℕ, ◌<◌, List, Option, Some, None, IfSome, subst, refl, sym, ap, ◌∙◌}
 use Rattle.trees.specs.declared.TermId.{TermId}
-use Rattle.trees.specs.Tree.{Tree, Two, Three, Head, HCell, HFun, HPred, HEq}
-use Rattle.trees.specs.Node.{tree_at, Holds, Grows}
-use Rattle.trees.specs.Sorts.{WellSorted, Fits, sort_of}
-use Rattle.conditionals.specs.Conditionals.{earlier, first_if, replace_first}
+use Rattle.trees.specs.declared.Node.{Node}
+use Rattle.trees.specs.declared.Node.TheVariants as node
+use Rattle.trees.specs.Tree.{Tree, Two, Three, HCell, HFun, HPred, HEq, HIf}
+use Rattle.trees.specs.Node.{tree_at, node_tree, Holds, Grows}
+use Rattle.trees.specs.Sorts.{Fits, sort_of}
+use Rattle.conditionals.specs.Conditionals.{earlier, first_if, one_changed, replace_first}
 use Rattle.conditionals.specs.Held.{CanPlace, IsMadeInPlace}
+use Rattle.conditionals.specs.Places.{with_first, HasFirstBelow}
 use Rattle.conditionals.proofs.Placing.{place_sorts, function_fits, predicate_fits, equation_fits, cell_fits}
 
-module _ (s : List Tree) (e x : TermId) (can : CanPlace s e x) where
-  -- the same of a tree that has the first conditional
-  pub can_there : (a : TermId) → Holds s a → first_if (tree_at s e) ≡ first_if (tree_at s a) → CanPlace s a x
-  can_there a h q = record { held = h; other_held = can.other_held; expression = can.expression; sort = subst (λ (o : Option Tree). IfSome o (λ w. sort_of w ≡ sort_of (tree_at s x))) q can.sort }
+-- ---- the place
+module _ (s : List Tree) (e : TermId) where
+  pub here : (c a b : Tree) → tree_at s e ≡ Three HIf c a b → (x : Tree) → replace_first (tree_at s e) x ≡ x
+  here c a b q x = ap (λ (z : Tree). replace_first z x) q
 
-  pub can_later : (s1 : List Tree) → Grows s s1 → CanPlace s1 e x
-  can_later s1 w = record {
-    held = omega (arith, can.held, w.longer);
-    other_held = omega (arith, can.other_held, w.longer);
-    expression = rw (w.same x.0 can.other_held) can.expression;
-    sort = rw (w.same e.0 can.held, w.same x.0 can.other_held) can.sort;
+  pub below_function : (f : ℕ) (types args ty : TermId) → tree_at s e ≡ Three (HFun f) (tree_at s types) (tree_at s args) (tree_at s ty) → Fits (tree_at s e) → Holds s args → args.0 < e.0 → HasFirstBelow s e args
+  below_function f types args ty q w h l = record {
+    held = h;
+    below = l;
+    first = ap first_if q;
+    placed = λ x. ap (λ (z : Tree). replace_first z x) q ∙ ap (λ (z : Tree). with_first z (replace_first (tree_at s args) x)) (sym q);
+    fits = λ m k r. subst (λ (z : Tree). Fits (with_first z m)) (sym q) (function_fits f (tree_at s types) (tree_at s args) m (tree_at s ty) k r (subst Fits q w));
   }
 
-  module _ (s1 : List Tree) (w : Grows s s1) (made : TermId) where
-    -- ---- a function or a predicate
-    pub function_made : (f : ℕ) (types args ty : TermId) → tree_at s e ≡ Three (HFun f) (tree_at s types) (tree_at s args) (tree_at s ty) → Holds s types → Holds s args → Holds s ty → WellSorted (tree_at s e)
-        → IsMadeInPlace (tree_at s args) (tree_at s x) s1 made → Fits (Three (HFun f) (tree_at s1 types) (tree_at s1 made) (tree_at s1 ty))
-    function_made f types args ty q ht ha hy d p =
-        let g = subst WellSorted q d in
-        let c = can_there args ha (ap first_if q) in
-        let k = place_sorts (tree_at s x) can.expression (tree_at s args) c.sort in
-        let n : Fits (Three (HFun f) (tree_at s types) (replace_first (tree_at s args) (tree_at s x)) (tree_at s ty)) = function_fits f (tree_at s types) (tree_at s args) (replace_first (tree_at s args) (tree_at s x)) (tree_at s ty) k.sort k.first g.0 in
-        rw (w.same types.0 ht, w.same ty.0 hy, p.is) n
+  pub below_predicate : (p : ℕ) (types args : TermId) → tree_at s e ≡ Two (HPred p) (tree_at s types) (tree_at s args) → Fits (tree_at s e) → Holds s args → args.0 < e.0 → HasFirstBelow s e args
+  below_predicate p types args q w h l = record {
+    held = h;
+    below = l;
+    first = ap first_if q;
+    placed = λ x. ap (λ (z : Tree). replace_first z x) q ∙ ap (λ (z : Tree). with_first z (replace_first (tree_at s args) x)) (sym q);
+    fits = λ m k r. subst (λ (z : Tree). Fits (with_first z m)) (sym q) (predicate_fits p (tree_at s types) (tree_at s args) m k r (subst Fits q w));
+  }
 
-    pub function_placed : (f : ℕ) (types args ty : TermId) → tree_at s e ≡ Three (HFun f) (tree_at s types) (tree_at s args) (tree_at s ty) → Holds s types → Holds s ty
-        → IsMadeInPlace (tree_at s args) (tree_at s x) s1 made → Three (HFun f) (tree_at s1 types) (tree_at s1 made) (tree_at s1 ty) ≡ replace_first (tree_at s e) (tree_at s x)
-    function_placed f types args ty q ht hy p = rw (w.same types.0 ht, w.same ty.0 hy, p.is, q) refl
+  -- of two children
+  module _ (a b : TermId) (w : Fits (tree_at s e)) where
+    abbrev A : Tree
+    A = tree_at s a
 
-    pub predicate_made : (p : ℕ) (types args : TermId) → tree_at s e ≡ Two (HPred p) (tree_at s types) (tree_at s args) → Holds s types → Holds s args → WellSorted (tree_at s e)
-        → IsMadeInPlace (tree_at s args) (tree_at s x) s1 made → Fits (Two (HPred p) (tree_at s1 types) (tree_at s1 made))
-    predicate_made p types args q ht ha d m =
-        let g = subst WellSorted q d in
-        let c = can_there args ha (ap first_if q) in
-        let k = place_sorts (tree_at s x) can.expression (tree_at s args) c.sort in
-        let n : Fits (Two (HPred p) (tree_at s types) (replace_first (tree_at s args) (tree_at s x))) = predicate_fits p (tree_at s types) (tree_at s args) (replace_first (tree_at s args) (tree_at s x)) k.sort k.first g.0 in
-        rw (w.same types.0 ht, m.is) n
+    abbrev B : Tree
+    B = tree_at s b
 
-    pub predicate_placed : (p : ℕ) (types args : TermId) → tree_at s e ≡ Two (HPred p) (tree_at s types) (tree_at s args) → Holds s types
-        → IsMadeInPlace (tree_at s args) (tree_at s x) s1 made → Two (HPred p) (tree_at s1 types) (tree_at s1 made) ≡ replace_first (tree_at s e) (tree_at s x)
-    predicate_placed p types args q ht m = rw (w.same types.0 ht, m.is, q) refl
+    pub below_left : tree_at s e ≡ Two HEq A B → Holds s a → a.0 < e.0 → (v : Tree) → first_if A ≡ Some v → HasFirstBelow s e a
+    below_left q h l v k = record {
+      held = h;
+      below = l;
+      first = ap first_if q ∙ ap (λ (o : Option Tree). earlier o (first_if B)) k ∙ sym k;
+      placed = λ x. ap (λ (z : Tree). replace_first z x) q ∙ ap (λ (o : Option Tree). one_changed o HEq A B (replace_first A x) (replace_first B x)) k ∙ ap (λ (o : Option Tree). one_changed o HEq A B (replace_first A x) (replace_first A x)) (sym k)
+          ∙ ap (λ (z : Tree). with_first z (replace_first A x)) (sym q);
+      fits = λ m t r. subst (λ (z : Tree). Fits (with_first z m)) (sym q) (subst (λ (o : Option Tree). Fits (one_changed o HEq A B m m)) (sym k) (equation_fits A B m B t refl (subst Fits q w)));
+    }
 
-  -- ---- two children: in the first
-  pub first_there : (a b : TermId) (h : Head) (v : Tree) → first_if (Two h (tree_at s a) (tree_at s b)) ≡ earlier (first_if (tree_at s a)) (first_if (tree_at s b)) → tree_at s e ≡ Two h (tree_at s a) (tree_at s b)
-      → first_if (tree_at s a) ≡ Some v → first_if (tree_at s e) ≡ first_if (tree_at s a)
-  first_there a b h v o q r = ap first_if q ∙ o ∙ ap (λ (z : Option Tree). earlier z (first_if (tree_at s b))) r ∙ sym r
+    pub below_right : tree_at s e ≡ Two HEq A B → Holds s b → b.0 < e.0 → first_if A ≡ None → HasFirstBelow s e b
+    below_right q h l k = record {
+      held = h;
+      below = l;
+      first = ap first_if q ∙ ap (λ (o : Option Tree). earlier o (first_if B)) k;
+      placed = λ x. ap (λ (z : Tree). replace_first z x) q ∙ ap (λ (o : Option Tree). one_changed o HEq A B (replace_first A x) (replace_first B x)) k ∙ ap (λ (o : Option Tree). one_changed o HEq A B (replace_first B x) (replace_first B x)) (sym k)
+          ∙ ap (λ (z : Tree). with_first z (replace_first B x)) (sym q);
+      fits = λ m t r. subst (λ (z : Tree). Fits (with_first z m)) (sym q) (subst (λ (o : Option Tree). Fits (one_changed o HEq A B m m)) (sym k) (equation_fits A B A m refl t (subst Fits q w)));
+    }
 
-  pub second_there : (a b : TermId) (h : Head) → first_if (Two h (tree_at s a) (tree_at s b)) ≡ earlier (first_if (tree_at s a)) (first_if (tree_at s b)) → tree_at s e ≡ Two h (tree_at s a) (tree_at s b)
-      → first_if (tree_at s a) ≡ None → first_if (tree_at s e) ≡ first_if (tree_at s b)
-  second_there a b h o q r = ap first_if q ∙ o ∙ ap (λ (z : Option Tree). earlier z (first_if (tree_at s b))) r
+    pub below_head : tree_at s e ≡ Two HCell A B → Holds s a → a.0 < e.0 → (v : Tree) → first_if A ≡ Some v → HasFirstBelow s e a
+    below_head q h l v k = record {
+      held = h;
+      below = l;
+      first = ap first_if q ∙ ap (λ (o : Option Tree). earlier o (first_if B)) k ∙ sym k;
+      placed = λ x. ap (λ (z : Tree). replace_first z x) q ∙ ap (λ (o : Option Tree). one_changed o HCell A B (replace_first A x) (replace_first B x)) k ∙ ap (λ (o : Option Tree). one_changed o HCell A B (replace_first A x) (replace_first A x)) (sym k)
+          ∙ ap (λ (z : Tree). with_first z (replace_first A x)) (sym q);
+      fits = λ m t r. subst (λ (z : Tree). Fits (with_first z m)) (sym q) (subst (λ (o : Option Tree). Fits (one_changed o HCell A B m m)) (sym k) (cell_fits A B m B t refl refl (subst Fits q w)));
+    }
 
-  module _ (s1 : List Tree) (w : Grows s s1) (made a b : TermId) (ha : Holds s a) (hb : Holds s b) where
-    module _ (q : tree_at s e ≡ Two HEq (tree_at s a) (tree_at s b)) (d : WellSorted (tree_at s e)) where
-      equation_sorted : WellSorted (Two HEq (tree_at s a) (tree_at s b))
-      equation_sorted = subst WellSorted q d
+    pub below_rest : tree_at s e ≡ Two HCell A B → Holds s b → b.0 < e.0 → first_if A ≡ None → HasFirstBelow s e b
+    below_rest q h l k = record {
+      held = h;
+      below = l;
+      first = ap first_if q ∙ ap (λ (o : Option Tree). earlier o (first_if B)) k;
+      placed = λ x. ap (λ (z : Tree). replace_first z x) q ∙ ap (λ (o : Option Tree). one_changed o HCell A B (replace_first A x) (replace_first B x)) k ∙ ap (λ (o : Option Tree). one_changed o HCell A B (replace_first B x) (replace_first B x)) (sym k)
+          ∙ ap (λ (z : Tree). with_first z (replace_first B x)) (sym q);
+      fits = λ m t r. subst (λ (z : Tree). Fits (with_first z m)) (sym q) (subst (λ (o : Option Tree). Fits (one_changed o HCell A B m m)) (sym k) (cell_fits A B A m refl t r (subst Fits q w)));
+    }
 
-      pub left_made : (v : Tree) → first_if (tree_at s a) ≡ Some v → IsMadeInPlace (tree_at s a) (tree_at s x) s1 made → Fits (Two HEq (tree_at s1 made) (tree_at s1 b))
-      left_made v r p =
-          let k = place_sorts (tree_at s x) can.expression (tree_at s a) (can_there a ha (first_there a b HEq v refl q r)).sort in
-          let n : Fits (Two HEq (replace_first (tree_at s a) (tree_at s x)) (tree_at s b)) = equation_fits (tree_at s a) (tree_at s b) (replace_first (tree_at s a) (tree_at s x)) (tree_at s b) k.sort refl equation_sorted.0 in
-          rw (w.same b.0 hb, p.is) n
+-- ---- the node with another child there
+-- any other node has none
+pub others_nowhere : (s : List Tree) (n : Node) → ((a b c : TermId) → n ≡ node.If a b c → ⊥) → ((f : ℕ) (a b c : TermId) → n ≡ node.Fun f a b c → ⊥) → ((p : ℕ) (a b : TermId) → n ≡ node.Pred p a b → ⊥) → ((a b : TermId) → n ≡ node.Eq a b → ⊥) → ((a b : TermId) → n ≡ node.Cell a b → ⊥)
+    → (x : Tree) → (replace_first (node_tree s n) x ≡ node_tree s n) × (with_first (node_tree s n) x ≡ node_tree s n)
+others_nowhere s (node.If a b c) i f p e l x = absurd (i a b c refl)
+others_nowhere s (node.Fun k a b c) i f p e l x = absurd (f k a b c refl)
+others_nowhere s (node.Pred k a b) i f p e l x = absurd (p k a b refl)
+others_nowhere s (node.Eq a b) i f p e l x = absurd (e a b refl)
+others_nowhere s (node.Cell a b) i f p e l x = absurd (l a b refl)
+others_nowhere s _ i f p e l x = (refl, refl)
 
-      pub left_placed : (v : Tree) → first_if (tree_at s a) ≡ Some v → IsMadeInPlace (tree_at s a) (tree_at s x) s1 made → Two HEq (tree_at s1 made) (tree_at s1 b) ≡ replace_first (tree_at s e) (tree_at s x)
-      left_placed v r p = rw (w.same b.0 hb, p.is, q, r) refl
+module _ (s : List Tree) (e x : TermId) (can : CanPlace s e x) (child : TermId) (h : HasFirstBelow s e child) where
+  pub can_there : CanPlace s child x
+  can_there = record { held = h.held; other_held = can.other_held; expression = can.expression; sort = subst (λ (o : Option Tree). IfSome o (λ w. sort_of w ≡ sort_of (tree_at s x))) h.first can.sort }
 
-      pub right_made : first_if (tree_at s a) ≡ None → IsMadeInPlace (tree_at s b) (tree_at s x) s1 made → Fits (Two HEq (tree_at s1 a) (tree_at s1 made))
-      right_made r p =
-          let k = place_sorts (tree_at s x) can.expression (tree_at s b) (can_there b hb (second_there a b HEq refl q r)).sort in
-          let n : Fits (Two HEq (tree_at s a) (replace_first (tree_at s b) (tree_at s x))) = equation_fits (tree_at s a) (tree_at s b) (tree_at s a) (replace_first (tree_at s b) (tree_at s x)) refl k.sort equation_sorted.0 in
-          rw (w.same a.0 ha, p.is) n
+  module _ (s1 : List Tree) (w : Grows s s1) (made : TermId) (p : IsMadeInPlace (tree_at s child) (tree_at s x) s1 made) (n : Node) (q : node_tree s1 n ≡ with_first (tree_at s1 e) (tree_at s1 made)) where
+    made_is : node_tree s1 n ≡ with_first (tree_at s e) (replace_first (tree_at s child) (tree_at s x))
+    made_is = q ∙ ap (λ (z : Tree). with_first z (tree_at s1 made)) (w.same e.0 can.held) ∙ ap (with_first (tree_at s e)) p.is
 
-      pub right_placed : first_if (tree_at s a) ≡ None → IsMadeInPlace (tree_at s b) (tree_at s x) s1 made → Two HEq (tree_at s1 a) (tree_at s1 made) ≡ replace_first (tree_at s e) (tree_at s x)
-      right_placed r p = rw (w.same a.0 ha, p.is, q, r) refl
+    pub made_fits : Fits (node_tree s1 n)
+    made_fits = let k = place_sorts (tree_at s x) can.expression (tree_at s child) can_there.sort in subst Fits (sym made_is) (h.fits (replace_first (tree_at s child) (tree_at s x)) k.sort k.first)
 
-    module _ (q : tree_at s e ≡ Two HCell (tree_at s a) (tree_at s b)) (d : WellSorted (tree_at s e)) where
-      cell_sorted : WellSorted (Two HCell (tree_at s a) (tree_at s b))
-      cell_sorted = subst WellSorted q d
-
-      pub head_made : (v : Tree) → first_if (tree_at s a) ≡ Some v → IsMadeInPlace (tree_at s a) (tree_at s x) s1 made → Fits (Two HCell (tree_at s1 made) (tree_at s1 b))
-      head_made v r p =
-          let k = place_sorts (tree_at s x) can.expression (tree_at s a) (can_there a ha (first_there a b HCell v refl q r)).sort in
-          let n : Fits (Two HCell (replace_first (tree_at s a) (tree_at s x)) (tree_at s b)) = cell_fits (tree_at s a) (tree_at s b) (replace_first (tree_at s a) (tree_at s x)) (tree_at s b) k.sort refl refl cell_sorted.0 in
-          rw (w.same b.0 hb, p.is) n
-
-      pub head_placed : (v : Tree) → first_if (tree_at s a) ≡ Some v → IsMadeInPlace (tree_at s a) (tree_at s x) s1 made → Two HCell (tree_at s1 made) (tree_at s1 b) ≡ replace_first (tree_at s e) (tree_at s x)
-      head_placed v r p = rw (w.same b.0 hb, p.is, q, r) refl
-
-      pub rest_made : first_if (tree_at s a) ≡ None → IsMadeInPlace (tree_at s b) (tree_at s x) s1 made → Fits (Two HCell (tree_at s1 a) (tree_at s1 made))
-      rest_made r p =
-          let k = place_sorts (tree_at s x) can.expression (tree_at s b) (can_there b hb (second_there a b HCell refl q r)).sort in
-          let n : Fits (Two HCell (tree_at s a) (replace_first (tree_at s b) (tree_at s x))) = cell_fits (tree_at s a) (tree_at s b) (tree_at s a) (replace_first (tree_at s b) (tree_at s x)) refl k.sort k.first cell_sorted.0 in
-          rw (w.same a.0 ha, p.is) n
-
-      pub rest_placed : first_if (tree_at s a) ≡ None → IsMadeInPlace (tree_at s b) (tree_at s x) s1 made → Two HCell (tree_at s1 a) (tree_at s1 made) ≡ replace_first (tree_at s e) (tree_at s x)
-      rest_placed r p = rw (w.same a.0 ha, p.is, q, r) refl
+    pub made_placed : node_tree s1 n ≡ replace_first (tree_at s e) (tree_at s x)
+    made_placed = made_is ∙ sym (h.placed (tree_at s x))

@@ -119,7 +119,7 @@ module _ (v : Vocabulary) (types : List Tree) where
   atom_typed e s x = cases_typed e (λ u. u) x (λ u w. (w.sort ∙ s, w.typed))
 
 -- ---- type variables and parameters
-variables_by_parts : (n : ℕ) → IsByParts (VariablesBelow n)
+pub variables_by_parts : (n : ℕ) → IsByParts (VariablesBelow n)
 variables_by_parts n = record {
   one = λ a q. q;
   two = λ h a b p q. (p, q);
@@ -128,7 +128,7 @@ variables_by_parts n = record {
   of_three = λ h a b c q. (q.0, (q.1, q.2));
 }
 
-above_by_parts : (m : ℕ) → IsByParts (λ e. above_params e ≤ m)
+pub above_by_parts : (m : ℕ) → IsByParts (λ e. above_params e ≤ m)
 above_by_parts m = record {
   one = λ a q. omega (arith, q);
   two = λ h a b p q. omega (arith, p, q);

@@ -29,24 +29,25 @@ pub(crate) fn bounded(store: &Store, e: TermId) -> Result<TermId, GrowthFault>
 /// `(c -> a) /\ (not c -> b)`.
 ///
 /// Only want of memory refuses.
-pub fn implications(
-    store: &mut Store,
+pub fn implications<G: Grow>(
+    g: &mut G,
     condition: TermId,
     a: TermId,
     b: TermId,
 ) -> Result<TermId, AllocError>
-    requires condition { IsFormulaNumber store.old condition }
-    requires a { IsFormulaNumber store.old a }
-    requires b { IsFormulaNumber store.old b }
-    ensures formula { IfOk result (IsFormulaNumber store.new) }
-    ensures tree { IfOk result (λ id. tree_at store.new id ≡ implications
-        (tree_at store.old condition) (tree_at store.old a) (tree_at store.old b)) }
-    ensures grows { Grows store.old store.new }
+    requires condition { IsFormulaNumber (G.trees g.old) condition }
+    requires a { IsFormulaNumber (G.trees g.old) a }
+    requires b { IsFormulaNumber (G.trees g.old) b }
+    ensures formula { IfOk result (IsFormulaNumber (G.trees g.new)) }
+    ensures tree { IfOk result (λ id. tree_at (G.trees g.new) id ≡ implications
+        (tree_at (G.trees g.old) condition) (tree_at (G.trees g.old) a)
+        (tree_at (G.trees g.old) b)) }
+    ensures grows { G.grows g.old g.new }
 {
-    let negated = store.add(Node::Not(condition))?;
-    let then_claim = store.add(Node::Join(Op::Imp, condition, a))?;
-    let else_claim = store.add(Node::Join(Op::Imp, negated, b))?;
-    let made = store.add(Node::Join(Op::And, then_claim, else_claim))?;
+    let negated = g.add(Node::Not(condition))?;
+    let then_claim = g.add(Node::Join(Op::Imp, condition, a))?;
+    let else_claim = g.add(Node::Join(Op::Imp, negated, b))?;
+    let made = g.add(Node::Join(Op::And, then_claim, else_claim))?;
     Ok(made)
 }
 

@@ -26,7 +26,7 @@ fn by_rule(store: &mut Store, e: TermId) -> Result<TermId, GrowthFault>
         Node::If(condition, a, b) => match store.sort(a) {
             Sort::Formula => {
                 let made = implications(store, condition, a, b)?;
-                bounded(store, made)
+                Ok(made)
             }
             _ => Ok(e),
         },
@@ -43,7 +43,8 @@ pub fn eliminate_ifs(store: &mut Store, e: TermId) -> Result<TermId, GrowthFault
     ensures grows { Grows store.old store.new }
 {
     let over = eliminate_in_parts(store, e)?;
-    by_rule(store, over)
+    let made = by_rule(store, over)?;
+    bounded(store, made)
 }
 
 // The node over its parts without their conditionals.

@@ -1,10 +1,10 @@
 // The first conditional term of an atom, and another term in its place.
-ghost use Rattle.std.specs.Prelude.{◌≡◌, ◌<◌, IfOk};
-ghost use Rattle.trees.specs.Tree.{Two, HCell, HEq, HIf, head_of};
-ghost use Rattle.trees.specs.Node.{tree_at, Holds, Grows};
-ghost use Rattle.trees.specs.Sorts.{WellSorted};
+ghost use Rattle.std.specs.Prelude.{◌≡◌, length, IfOk};
+ghost use Rattle.trees.specs.Tree.{HIf, head_of};
+ghost use Rattle.trees.specs.Node.{tree_at, node_tree, parts_of, AreBelow, Holds};
 ghost use Rattle.conditionals.specs.Conditionals.{first_if};
 ghost use Rattle.conditionals.specs.Held.{IsNumberOf, AreIfParts, CanPlace, IsMadeInPlace};
+ghost use Rattle.conditionals.specs.Places.{with_first, IsFirstPlace};
 
 use std::alloc::AllocError;
 use term_store::{Grow, Store};
@@ -50,92 +50,75 @@ pub fn first_if(store: &Store, e: TermId) -> Option<TermId>
     }
 }
 
+/// Where the first conditional of a tree is, if it has one: it is the tree, or it is in this child.
+#[derive(Clone, Copy)]
+enum FirstPlace {
+    Here,
+    Below(TermId),
+    Nowhere,
+}
+
+// Where the first conditional of a tree is; of two children the second one where the first has none.
+fn place_of_first(store: &Store, e: TermId) -> FirstPlace
+    requires { Holds store.now e }
+    ensures { IsFirstPlace store.now e result }
+{
+    match store.node(e) {
+        Node::If(_, _, _) => FirstPlace::Here,
+        Node::Fun(_, _, args, _) => FirstPlace::Below(args),
+        Node::Pred(_, _, args) => FirstPlace::Below(args),
+        Node::Eq(a, b) => match first_if(store, a) {
+            Some(_) => FirstPlace::Below(a),
+            None => FirstPlace::Below(b),
+        },
+        Node::Cell(a, b) => match first_if(store, a) {
+            Some(_) => FirstPlace::Below(a),
+            None => FirstPlace::Below(b),
+        },
+        _ => FirstPlace::Nowhere,
+    }
+}
+
+// The node with another child in the place of that.
+fn with_child(store: &Store, e: TermId, made: TermId) -> Node
+    requires held { Holds store.now e }
+    requires made_held { Holds store.now made }
+    ensures tree { node_tree store.now result
+        ≡ with_first (tree_at store.now e) (tree_at store.now made) }
+    ensures below { AreBelow (length store.now) (parts_of result) }
+{
+    match store.node(e) {
+        Node::Fun(f, types, _, ty) => Node::Fun(f, types, made, ty),
+        Node::Pred(p, types, _) => Node::Pred(p, types, made),
+        Node::Eq(a, b) => match first_if(store, a) {
+            Some(_) => Node::Eq(made, b),
+            None => Node::Eq(a, made),
+        },
+        Node::Cell(a, b) => match first_if(store, a) {
+            Some(_) => Node::Cell(made, b),
+            None => Node::Cell(a, made),
+        },
+        node => node,
+    }
+}
+
 /// The tree with another expression in the place of its first conditional, and there alone.
 ///
 /// Only want of memory refuses.
-#[cycle(placing)]
-pub fn replace_first(store: &mut Store, e: TermId, x: TermId) -> Result<TermId, AllocError>
-    requires { CanPlace store.old e x }
-    ensures placed { IfOk result (IsMadeInPlace (tree_at store.old e) (tree_at store.old x)
-        store.new) }
-    ensures grows { Grows store.old store.new }
+pub fn replace_first<G: Grow>(g: &mut G, e: TermId, x: TermId) -> Result<TermId, AllocError>
+    requires { CanPlace (G.trees g.old) e x }
+    ensures placed { IfOk result (IsMadeInPlace (tree_at (G.trees g.old) e)
+        (tree_at (G.trees g.old) x) (G.trees g.new)) }
+    ensures grows { G.grows g.old g.new }
 {
-    match store.node(e) {
-        Node::If(_, _, _) => Ok(x),
-        Node::Fun(f, types, args, ty) => {
-            let made = replace_first(store, args, x)?;
-            let whole = store.add(Node::Fun(f, types, made, ty))?;
+    match place_of_first(g.store(), e) {
+        FirstPlace::Here => Ok(x),
+        FirstPlace::Below(child) => {
+            let made = replace_first(g, child, x)?;
+            let node = with_child(g.store(), e, made);
+            let whole = g.add(node)?;
             Ok(whole)
         }
-        Node::Pred(p, types, args) => {
-            let made = replace_first(store, args, x)?;
-            let whole = store.add(Node::Pred(p, types, made))?;
-            Ok(whole)
-        }
-        Node::Eq(a, b) => in_equation(store, e, a, b, x),
-        Node::Cell(a, b) => in_cell(store, e, a, b, x),
-        _ => Ok(e),
-    }
-}
-
-// The same of an equation.
-#[cycle(placing)]
-fn in_equation(
-    store: &mut Store,
-    e: TermId,
-    a: TermId,
-    b: TermId,
-    x: TermId,
-) -> Result<TermId, AllocError>
-    requires can { CanPlace store.old e x }
-    requires sorted { WellSorted (tree_at store.old e) }
-    requires is { tree_at store.old e ≡ Two HEq (tree_at store.old a) (tree_at store.old b) }
-    requires below { (a.0 < e.0) × (b.0 < e.0) }
-    ensures placed { IfOk result (IsMadeInPlace (tree_at store.old e) (tree_at store.old x)
-        store.new) }
-    ensures grows { Grows store.old store.new }
-{
-    match first_if(store, a) {
-        Some(_) => {
-            let made = replace_first(store, a, x)?;
-            let whole = store.add(Node::Eq(made, b))?;
-            Ok(whole)
-        }
-        None => {
-            let made = replace_first(store, b, x)?;
-            let whole = store.add(Node::Eq(a, made))?;
-            Ok(whole)
-        }
-    }
-}
-
-// The same of a list with a first member.
-#[cycle(placing)]
-fn in_cell(
-    store: &mut Store,
-    e: TermId,
-    a: TermId,
-    b: TermId,
-    x: TermId,
-) -> Result<TermId, AllocError>
-    requires can { CanPlace store.old e x }
-    requires sorted { WellSorted (tree_at store.old e) }
-    requires is { tree_at store.old e ≡ Two HCell (tree_at store.old a) (tree_at store.old b) }
-    requires below { (a.0 < e.0) × (b.0 < e.0) }
-    ensures placed { IfOk result (IsMadeInPlace (tree_at store.old e) (tree_at store.old x)
-        store.new) }
-    ensures grows { Grows store.old store.new }
-{
-    match first_if(store, a) {
-        Some(_) => {
-            let made = replace_first(store, a, x)?;
-            let whole = store.add(Node::Cell(made, b))?;
-            Ok(whole)
-        }
-        None => {
-            let made = replace_first(store, b, x)?;
-            let whole = store.add(Node::Cell(a, made))?;
-            Ok(whole)
-        }
+        FirstPlace::Nowhere => Ok(e),
     }
 }

@@ -1,11 +1,13 @@
-use Rattle.std.proofs.Common.{◌≡◌, ◌<◌, subst, sym, ap, ◌∙◌, arith}
-use Rattle.trees.specs.Tree.{One, Two, Three}
+use Rattle.std.proofs.Common.{◌≡◌, ◌<◌, IfErr, subst, sym, ap, ◌∙◌, arith}
+use Rattle.std.proofs.lemmas.Result.{IfOk-weaker}
+use Rattle.trees.specs.Tree.{One, Two, Three, size}
 use Rattle.trees.specs.Node.{tree_at, node_tree, assemble, head_of_node, parts_of, Holds, Grows}
 use Rattle.trees.specs.Sorts.{Fits}
 use Rattle.trees.proofs.Nodes.{Grows_trans}
 use Rattle.conditionals.specs.Conditionals.{without_ifs}
+use Rattle.conditionals.specs.Held.{IsEliminated, IsGrowthFault}
 use Rattle.conditionals.proofs.ByFirst.{growth_passed}
-use Rattle.conditionals.proofs.EliminatedParts.{over_large, over_fit, part_later, one_is, two_is, three_is}
+use Rattle.conditionals.proofs.EliminatedParts.{over_large, whole_is, whole_large, over_fit, part_later, one_is, two_is, three_is}
 use Rattle.conditionals.proofs.eliminating.+eliminating.Goals as goal
 
 pub eliminate_ifs-returns-in_err-over-clause-fault : goal.eliminate_ifs-returns-in_err-over-clause-fault
@@ -68,3 +70,25 @@ eliminate_in_parts-add-requires-in-Three-clause-fits t c =
     let u : tree_at s3 z ≡ without_ifs (tree_at s d) = c.in_ok-z-in-Three.ensures.eliminated.is ∙ ap without_ifs ((Grows_trans s s1 s2 w1 w2).same d.0 hd) in
     let n : node_tree s3 c.with_parts-in-Three.result ≡ Three h (tree_at s3 x) (tree_at s3 y) (tree_at s3 z) = ap (λ k. assemble s3 k (parts_of c.with_parts-in-Three.result)) c.with_parts-in-Three.ensures.head ∙ ap (assemble s3 h) c.with_parts-in-Three.ensures.parts in
     subst Fits (sym (n ∙ three_is (tree_at s e) (tree_at s a) (tree_at s b) (tree_at s d) (tree_at s3 x) (tree_at s3 y) (tree_at s3 z) h q m o u)) (over_fit s e c.requires c.node-node.ensures.fits)
+
+pub eliminate_ifs-returns-in_err-made-clause-fault : goal.eliminate_ifs-returns-in_err-made-clause-fault
+eliminate_ifs-returns-in_err-made-clause-fault t c =
+    let s = c.args.store.now in
+    let s1 = c.eliminate_in_parts.new.store in
+    growth_passed c.from_residual-in_err-made.result _ _ c.from_residual-in_err-made.ensures.1 (whole_large (tree_at s c.args.e) (tree_at s1 c.in_ok-over.over) _ c.in_ok-over.ensures.over.is c.in_err-made.ensures.fault)
+
+pub eliminate_ifs-returns-clause-eliminated : goal.eliminate_ifs-returns-clause-eliminated
+eliminate_ifs-returns-clause-eliminated t c =
+    let s = c.args.store.now in
+    let s1 = c.eliminate_in_parts.new.store in
+    let s2 = c.by_rule.new.store in
+    let m : tree_at s2 c.in_ok-made.made ≡ without_ifs (tree_at s c.args.e) = whole_is (tree_at s c.args.e) (tree_at s1 c.in_ok-over.over) (tree_at s2 c.in_ok-made.made) c.in_ok-over.ensures.over.is c.in_ok-made.ensures.ruled.is in
+    IfOk-weaker c.bounded.result _ _ (λ id q. subst (IsEliminated (tree_at s c.args.e) s2) (sym q) (record { held = c.in_ok-made.ensures.ruled.held; is = m })) c.bounded.ensures.ok
+
+pub eliminate_ifs-returns-clause-fault : goal.eliminate_ifs-returns-clause-fault
+eliminate_ifs-returns-clause-fault t c =
+    let s = c.args.store.now in
+    let s1 = c.eliminate_in_parts.new.store in
+    let s2 = c.by_rule.new.store in
+    let m : tree_at s2 c.in_ok-made.made ≡ without_ifs (tree_at s c.args.e) = whole_is (tree_at s c.args.e) (tree_at s1 c.in_ok-over.over) (tree_at s2 c.in_ok-made.made) c.in_ok-over.ensures.over.is c.in_ok-made.ensures.ruled.is in
+    subst (λ n. IfErr c.bounded.result (IsGrowthFault n)) (ap size m) c.bounded.ensures.fault
