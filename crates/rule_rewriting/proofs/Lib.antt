@@ -1,0 +1,2 @@
+pub use Rattle.images.proofs as images
+pub mod OneTerm
