@@ -1,0 +1,3 @@
+pub mod LetRule
+pub mod LetKept
+pub mod Kept
