@@ -1,0 +1,21 @@
+use Rattle.std.proofs.Common.{List, [], ◌∷◌, sym, subst, ◌∙◌}
+use Rattle.trees.specs.Node.{tree_at}
+use Rattle.tasks.specs.Task.{neg}
+use Rattle.rule_rows.specs.Forms.{alike}
+use Rattle.proof_scripts.specs.declared.line.Line.{Line}
+use Rattle.proof_scripts.specs.Scripts.{LinesHeld, Follows, lines_at}
+use Rattle.tr_simplify.proofs.Evidence.{not_law, not_held, not_stays}
+use Rattle.tr_simplify.proofs.evidence_of_laws.alike_not.Goals as goal
+
+pub alike_by_lines-requires : goal.alike_by_lines-requires
+alike_by_lines-requires c =
+    let d0 = c.args.draft.now in
+    let k = c.constant_of-known.result in
+    let left = tree_at d0.trees c.args.left in
+    let right = tree_at d0.trees c.args.right in
+    let items = c.deref.ensures.value ∙ c.in_ok-lines.ensures in
+    record {
+      pair = c.requires.pair;
+      held = λ d x. subst (λ (ls : List Line). LinesHeld d ls) (sym items) (not_held d k);
+      follow = λ d x. subst (λ (ls : List Line). Follows d [] (lines_at d.trees ls) ((neg (alike left right) ∷ []) ∷ [])) (sym items) (not_law d k (tree_at d0.trees c.args.a) left right c.requires.node c.requires.is c.constant_of-known.ensures c.in_default.not-Other);
+    }
