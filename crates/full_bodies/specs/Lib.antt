@@ -1,0 +1,12 @@
+pub mod Least
+pub mod Arguments
+pub mod Faults
+pub mod FullBodies
+pub mod Inlined
+pub mod Chosen
+pub mod Listed
+pub mod Made
+pub mod Kept
+pub use Rattle.binders.specs as binders
+pub use Rattle.inlining.specs as inlining
+pub use Rattle.recursive_groups.specs as recursive_groups
