@@ -1,0 +1,9 @@
+pub mod Members
+pub mod Equations
+pub mod Scripts
+pub mod Unfolded
+pub mod Claims
+pub mod Named
+pub mod ByBodies
+pub mod Limits
+pub mod PartlyInlined

@@ -1,0 +1,15 @@
+//! The transformations that inline definitions: those with trivial bodies, all in the goal alone, or all everywhere. Evidence goes
+//! from the last definition to the first: each use of a symbol equals, or is equivalent to, its body, by the definition's equation.
+//!
+//! Contract: the task of the equation, and the laws of a transformation.
+#![tactic(auto)]
+
+mod formulas;
+mod inline;
+mod lemmas;
+mod passes;
+mod unfolding;
+mod uses;
+
+pub use full_bodies::InlineMode;
+pub use inline::Inline;
