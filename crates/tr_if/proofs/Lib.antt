@@ -1,0 +1,14 @@
+pub mod Parts
+pub mod Placed
+pub mod Typed
+pub mod Atoms
+pub mod Placing
+pub mod Holes
+pub mod ByFirst
+pub mod Cases
+pub mod PlacedTerms
+pub mod Implications
+pub mod Links
+pub mod Rules
+pub mod TaskRows
+pub mod Scripts
