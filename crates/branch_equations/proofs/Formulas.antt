@@ -4,6 +4,8 @@ use Rattle.std.specs.List.{flat_map}
 use Rattle.std.proofs.lemmas.List.Elements.{All-cons, All-nil, All-append, All-weaker}
 use Rattle.tasks.proofs.plain_laws.Lists.{All-left, All-right}
 use Rattle.trees.specs.declared.Op.TheVariants.{Iff}
+use Rattle.trees.specs.declared.Sort.{Sort}
+use Rattle.trees.specs.Sorts.{sort_of}
 use Rattle.trees.specs.Tree.{Tree, Two, Three, Head, HFun, HPred, HEq, HJoin, size}
 use Rattle.tasks.specs.declared.signature.SymbolKind.{SymbolKind}
 use Rattle.tasks.specs.declared.signature.SymbolKind.TheVariants.{Function, Predicate}
@@ -20,7 +22,7 @@ use Rattle.inlining.proofs.Bodies.{onto, under_typed, under_variables, under_par
 use Rattle.spelled_groups.specs.declarations.Rewritten.{AreUsable}
 use Rattle.spelled_groups.specs.Spelled.{IsSpellable, IsSayable, PatternsAreUsable, IsSpelling}
 use Rattle.spelled_groups.specs.Inductives.{IsSmallTree}
-use Rattle.branch_equations.specs.Branches.{ConstructorBranch, matched_parameter, below_quantifiers, branch_types, branch_sides, branch_equation, branch_fact, facts_by, member_facts, recursion_facts, branch_parameters}
+use Rattle.branch_equations.specs.Branches.{ConstructorBranch, matched_parameter, quantifiers, below_quantifiers, HasSides, branch_types, branch_sides, branch_equation, branch_fact, facts_by, member_facts, recursion_facts, branch_parameters}
 use Rattle.branch_equations.proofs.Terms.{IsBinderType}
 use Rattle.branch_equations.proofs.Matches.{IsMatch, matched_is, IsTypedBranch, IsTypedMatch, match_typed}
 use Rattle.branch_equations.proofs.Fields.{binder_type}
@@ -48,6 +50,15 @@ below_all : (args : List Tree) (e : Tree) → below_quantifiers (for_all args e)
 below_all [] e = refl
 below_all (ty ∷ args) e = below_all args e
 
+-- a definition's equation has a quantifier for each argument
+none_counted : (left body : Tree) (h : Head) → (h ≡ HEq) ⊎ (h ≡ HJoin Iff) → quantifiers (Two h left body) ≡ 0
+none_counted left body h (inl e) = ap (λ (g : Head). quantifiers (Two g left body)) e
+none_counted left body h (inr e) = ap (λ (g : Head). quantifiers (Two g left body)) e
+
+all_counted : (args : List Tree) (e : Tree) → quantifiers e ≡ 0 → quantifiers (for_all args e) ≡ length args
+all_counted [] e q = q
+all_counted (ty ∷ args) e q = ap suc (all_counted args e q)
+
 below_sided : (left body : Tree) (h : Head) → (h ≡ HEq) ⊎ (h ≡ HJoin Iff) → (below_quantifiers (Two h left body) ≡ Two h left body) × (defining_body (Two h left body) ≡ body)
 below_sided left body h (inl e) = subst (λ (g : Head). (below_quantifiers (Two g left body) ≡ Two g left body) × (defining_body (Two g left body) ≡ body)) (sym e) (refl, refl)
 below_sided left body h (inr e) = subst (λ (g : Head). (below_quantifiers (Two g left body) ≡ Two g left body) × (defining_body (Two g left body) ≡ body)) (sym e) (refl, refl)
@@ -55,6 +66,10 @@ below_sided left body h (inr e) = subst (λ (g : Head). (below_quantifiers (Two 
 right_typed : (v : Vocabulary) (bs : List Tree) (h : Head) (left body : Tree) → (h ≡ HEq) ⊎ (h ≡ HJoin Iff) → HasTyping v bs (Two h left body) → HasTyping v bs body
 right_typed v bs h left body (inl e) x = (subst (λ (g : Head). HasTyping v bs (Two g left body)) e x).3
 right_typed v bs h left body (inr e) x = (subst (λ (g : Head). HasTyping v bs (Two g left body)) e x).3
+
+sides_sorted : (v : Vocabulary) (bs : List Tree) (h : Head) (left body : Tree) (sort : Sort) → (h ≡ HEq) ⊎ (h ≡ HJoin Iff) → HasTyping v bs (Two h left body) → sort ≡ sort_of body → HasSides sort (Two h left body)
+sides_sorted v bs h left body sort (inl e) x q = subst (λ (g : Head). HasSides sort (Two g left body)) (sym e) (let y = subst (λ (g : Head). HasTyping v bs (Two g left body)) e x in q ∙ y.0.0.1)
+sides_sorted v bs h left body sort (inr e) x q = subst (λ (g : Head). HasSides sort (Two g left body)) (sym e) (let y = subst (λ (g : Head). HasTyping v bs (Two g left body)) e x in q ∙ y.0.0.1)
 
 -- ---- the sides of a branch's equation
 module _ (v : Vocabulary) (usable : PatternsAreUsable v) (vars : ℕ) (args : List Tree) (kinds : All (IsBinderType v vars) args) (i : ℕ) (within : i < length args) (left body : Tree) (xs : List ConstructorBranch)
@@ -99,7 +114,7 @@ argument_kinds v vars tys a = All-weaker (IsTypeIn v vars) (IsBinderType v vars)
 small_formula : (v : Vocabulary) (vars : ℕ) (e : Tree) → IsGood v vars [] e → size e ≤ 1048576 → IsFormulaOver v [] vars e
 small_formula v vars e g l = record { sort = g.sort; typed = small_typed v e g.typed l; parameters = g.parameters; variables = g.variables }
 
-module _ (v : Vocabulary) (usable : PatternsAreUsable v) (d : DefinitionTree) (a : IsDefinition v d) where
+module _ (v : Vocabulary) (d : DefinitionTree) (a : IsDefinition v d) where
   abbrev own : SymbolTree
   own = symbol_or v.symbols d.symbol
 
@@ -115,8 +130,11 @@ module _ (v : Vocabulary) (usable : PatternsAreUsable v) (d : DefinitionTree) (a
   body_is : (s : IsSided a.form.body a.form.inner) → defining_body d.equation ≡ a.form.body
   body_is s = ap defining_body a.form.is ∙ under_body own.args a.form.inner ∙ ap defining_body s.is ∙ (below_sided s.left a.form.body s.head s.kind).1
 
-  branches_good : (i : ℕ) (xs : List ConstructorBranch) → IsMatch (length own.args) (defining_body d.equation) i xs → All (λ (b : ConstructorBranch). IsGood v own.vars [] (branch_equation own.args d.equation i b)) xs
-  branches_good i xs m =
+  pub counted_is : quantifiers d.equation ≡ length own.args
+  counted_is = let s = sided in ap quantifiers a.form.is ∙ all_counted own.args a.form.inner (ap quantifiers s.is ∙ none_counted s.left a.form.body s.head s.kind)
+
+  branches_good : (usable : PatternsAreUsable v) (i : ℕ) (xs : List ConstructorBranch) → IsMatch (length own.args) (defining_body d.equation) i xs → All (λ (b : ConstructorBranch). IsGood v own.vars [] (branch_equation own.args d.equation i b)) xs
+  branches_good usable i xs m =
       let s = sided in
       let e = s.is in
       let x = subst (HasTyping v (onto own.args [])) e typed_inner in
@@ -131,25 +149,39 @@ module _ (v : Vocabulary) (usable : PatternsAreUsable v) (d : DefinitionTree) (a
       (subst (λ (z : Tree). IsGood v own.vars (onto (branch_types own.args i b) []) (branch_sides own.args i b z)) (sym (below_is s)) (sides_good v usable own.vars own.args kinds i c.within s.left a.form.body xs t b w s.head s.kind x p n)))
       xs t.branches
 
+  -- each branch's body is of the sort of the two sides
+  pub branches_sided : (p : ℕ × List ConstructorBranch) → matched_parameter (quantifiers d.equation) (defining_body d.equation) ≡ Some p → All (λ (b : ConstructorBranch). HasSides (sort_of b.body) (below_quantifiers d.equation)) p.1
+  branches_sided p q =
+      let s = sided in
+      let e = s.is in
+      let m = matched_is (length own.args) (defining_body d.equation) p (ap (λ (n : ℕ). matched_parameter n (defining_body d.equation)) (sym counted_is) ∙ q) in
+      let x = subst (HasTyping v (onto own.args [])) e typed_inner in
+      let k = subst (ParametersOf []) e (under_parameters [] own.args a.form.inner (subst (ParametersOf []) a.form.is a.formula.parameters)) in
+      let n = subst (VariablesBelow own.vars) e (under_variables own.vars own.args a.form.inner (subst (VariablesBelow own.vars) a.form.is a.formula.variables)) in
+      let c = subst (λ (z : Tree). IsMatch (length own.args) z p.0 p.1) (body_is s) m in
+      let t = match_typed v own.vars (onto own.args []) (length own.args) a.form.body p.0 p.1 c (right_typed v (onto own.args []) s.head s.left a.form.body s.kind x) k.1 n.1 in
+      All-weaker (IsTypedBranch v own.vars (onto own.args []) t.type t.first) (λ (b : ConstructorBranch). HasSides (sort_of b.body) (below_quantifiers d.equation))
+      (λ b w. subst (HasSides (sort_of b.body)) (sym (below_is s)) (sides_sorted v (onto own.args []) s.head s.left a.form.body (sort_of b.body) s.kind x (w.sort ∙ sym t.sort))) p.1 t.branches
+
   facts_good : (i : ℕ) (xs : List ConstructorBranch) → All (λ (b : ConstructorBranch). IsGood v own.vars [] (branch_equation own.args d.equation i b)) xs → All IsSmall (map (branch_fact v.symbols d i) xs) → All (IsSayable v) (map (branch_fact v.symbols d i) xs)
   facts_good i [] g n = All-nil (IsSayable v)
   facts_good i (b ∷ xs) g n =
       All-cons (IsSayable v) (branch_fact v.symbols d i b) (map (branch_fact v.symbols d i) xs) (small_formula v own.vars (branch_equation own.args d.equation i b) (g 0 b (omega arith)) (n 0 (branch_fact v.symbols d i b) (omega arith)))
       (facts_good i xs (λ k c l. g (suc k) c (omega (arith, l))) (λ k c l. n (suc k) c (omega (arith, l))))
 
-  member_good : All IsSmall (member_facts v.symbols d) → All (IsSayable v) (member_facts v.symbols d)
-  member_good n = by (matched_parameter (length own.args) (defining_body d.equation)) refl n
+  member_good : PatternsAreUsable v → All IsSmall (member_facts v.symbols d) → All (IsSayable v) (member_facts v.symbols d)
+  member_good usable n = by (matched_parameter (quantifiers d.equation) (defining_body d.equation)) refl n
     where
-      by : (o : Option (ℕ × List ConstructorBranch)) → matched_parameter (length own.args) (defining_body d.equation) ≡ o → All IsSmall (facts_by v.symbols d o) → All (IsSayable v) (facts_by v.symbols d o)
+      by : (o : Option (ℕ × List ConstructorBranch)) → matched_parameter (quantifiers d.equation) (defining_body d.equation) ≡ o → All IsSmall (facts_by v.symbols d o) → All (IsSayable v) (facts_by v.symbols d o)
       by None q n = All-cons (IsSayable v) (equation_fact v.symbols d) [] a.formula (All-nil (IsSayable v))
-      by (Some p) q n = facts_good p.0 p.1 (branches_good p.0 p.1 (matched_is (length own.args) (defining_body d.equation) p q)) n
+      by (Some p) q n = facts_good p.0 p.1 (branches_good usable p.0 p.1 (matched_is (length own.args) (defining_body d.equation) p (ap (λ (m : ℕ). matched_parameter m (defining_body d.equation)) (sym counted_is) ∙ q))) n
 
 -- ---- groups
 members_good : (v : Vocabulary) → PatternsAreUsable v → (ds : List DefinitionTree) → All (IsDefinition v) ds → All IsSmall (flat_map (member_facts v.symbols) ds) → All (IsSayable v) (flat_map (member_facts v.symbols) ds)
 members_good v usable [] a n = All-nil (IsSayable v)
 members_good v usable (d ∷ ds) a n =
     All-append (IsSayable v) (member_facts v.symbols d) (flat_map (member_facts v.symbols) ds)
-    (member_good v usable d (a 0 d (omega arith)) (All-left IsSmall (member_facts v.symbols d) (flat_map (member_facts v.symbols) ds) n))
+    (member_good v d (a 0 d (omega arith)) usable (All-left IsSmall (member_facts v.symbols d) (flat_map (member_facts v.symbols) ds) n))
     (members_good v usable ds (λ k e l. a (suc k) e (omega (arith, l))) (All-right IsSmall (member_facts v.symbols d) (flat_map (member_facts v.symbols) ds) n))
 
 recursions_only : (symbols : List SymbolTree) (b : BodyTree) (fs : List FactTree) → recursion_facts symbols b ≡ Some fs → IsSpellable b

@@ -1,10 +1,13 @@
 -- The equations of recursive definitions (Why3 manual, "eliminate_recursion"): one equation for each member, or one for each branch
 -- where its body is a `match` on one parameter whose patterns are pairwise different constructors, each on variables and wildcards.
-use Rattle.std.specs.Prelude.{ℕ, ◌+◌, ◌-◌, ◌==◌, nat_lt, Bool, true, false, ◌&&◌, not, if◌then◌else◌, List, [], ◌∷◌, ◌++◌, map, take, drop, length, Option, Some, None}
+use Rattle.std.specs.Prelude.{◌≡◌, ℕ, suc, ◌+◌, ◌-◌, ◌==◌, nat_lt, Bool, true, false, ◌&&◌, not, if◌then◌else◌, List, [], ◌∷◌, ◌++◌, map, take, drop, length, Option, Some, None}
 use Rattle.std.specs.List.{flat_map, list_any, list_all}
 use Rattle.std.specs.Option.{option_map}
-use Rattle.trees.specs.Tree.{Tree, Leaf, One, Two, Three, HEnd, HCell, HBound, HFun, HForall, HCase, HArm, HPatAny, HPatVar, HPatCon}
+use Rattle.trees.specs.Tree.{Tree, Leaf, One, Two, Three, HEnd, HCell, HBound, HFun, HEq, HJoin, HForall, HCase, HArm, HPatAny, HPatVar, HPatCon}
 use Rattle.trees.specs.Binding.{inst_many}
+use Rattle.trees.specs.declared.Op.TheVariants.{Iff}
+use Rattle.trees.specs.declared.Sort.{Sort}
+use Rattle.trees.specs.declared.Sort.TheVariants.{Term, Formula}
 use Rattle.tasks.specs.declared.facts.Fact.TheVariants.{Equation}
 use Rattle.tasks.specs.Task.{SymbolTree, symbol_or, DefinitionTree, Defines}
 use Rattle.tasks.specs.Typing.{members}
@@ -63,10 +66,21 @@ matched_parameter m (Two HCase (One (HBound i) ty) bs) = if nat_lt i m then opti
 matched_parameter m _ = None
 
 -- ---- the equation of a branch
--- below the quantifiers of an equation
+-- how many quantifiers an equation has
+abbrev pub quantifiers : Tree → ℕ
+quantifiers (Two HForall ty e) = suc (quantifiers e)
+quantifiers e = 0
+
+-- below them
 abbrev pub below_quantifiers : Tree → Tree
 below_quantifiers (Two HForall ty e) = below_quantifiers e
 below_quantifiers e = e
+
+-- an equation or an equivalence of two sides of this sort
+abbrev pub HasSides : Sort → Tree → Type 0
+HasSides sort (Two HEq left right) = sort ≡ Term
+HasSides sort (Two (HJoin Iff) left right) = sort ≡ Formula
+HasSides sort e = ⊥
 
 -- the parameters before the one that has so many after it, and those
 abbrev pub parameters_before : List Tree → ℕ → List Tree
@@ -126,7 +140,7 @@ facts_by symbols d None = equation_fact symbols d ∷ []
 facts_by symbols d (Some p) = map (branch_fact symbols d p.0) p.1
 
 abbrev pub member_facts : List SymbolTree → DefinitionTree → List FactTree
-member_facts symbols d = facts_by symbols d (matched_parameter (length (symbol_or symbols d.symbol).args) (defining_body d.equation))
+member_facts symbols d = facts_by symbols d (matched_parameter (quantifiers d.equation) (defining_body d.equation))
 
 -- each recursive group becomes its symbols, then its equations, each with the name of the equation from which it follows
 abbrev pub recursion_facts : GroupFacts
