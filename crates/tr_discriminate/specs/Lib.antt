@@ -1,0 +1,4 @@
+pub use Rattle.wanted_instances.specs as wanted_instances
+pub mod Equation
+pub mod Kept
+pub mod Laws
