@@ -3,3 +3,17 @@ pub mod PatternRanks
 pub mod BinderRanks
 pub mod CaseTrees
 pub mod PartLists
+pub mod Shapes
+pub mod PartNodes
+pub mod QuestionsLater
+pub mod AnswerParts
+pub mod PlainParts
+pub mod OpenedParts
+pub mod LinkCounts
+pub mod MemberParts
+pub mod MemberAnswers
+pub mod BranchPairs
+pub mod BranchParts
+pub mod BranchAnswers
+pub mod PairSteps
+pub mod FoundLinks

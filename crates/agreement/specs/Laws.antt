@@ -7,7 +7,7 @@ use Rattle.trees.specs.declared.Sort.TheVariants.{Term}
 use Rattle.tasks.specs.Task.{TaskTree}
 use Rattle.tasks.specs.MatchTests.{test, bind}
 use Rattle.tasks.specs.Valid.{IsValid}
-use Rattle.kernel.specs.Right.{IsGroundExpression}
+use Rattle.congruence.specs.kernel.Right.{IsGroundExpression}
 use Rattle.agreement.specs.Agreement.{ArePartsOf, number_under, AgreeWithin}
 use Rattle.agreement.specs.Ranks.{rank, zero_ranks}
 

@@ -1,7 +1,7 @@
-//! Agreement of two closed expressions over a list of pairs, which is the congruence closure of the pairs: its definition, and a
-//! rank of expressions by which a search for it ends.
+//! Agreement of two closed expressions over a list of pairs, which is the congruence closure of the pairs, a rank of expressions by
+//! which a search for it ends, and the step that shows them alike.
 //!
-//! Contract: definitions and laws.
+//! Contract: two formulas, or two terms of one type, that agree over pairs with steps have a step that shows them equivalent or equal.
 #![tactic(auto)]
 
 ghost use Rattle.agreement.specs.Laws.{
@@ -12,6 +12,15 @@ ghost use Rattle.agreement.specs.Laws.{
   BodiesRankLower,
   BranchesRankLower,
 };
+
+mod agreeing;
+mod answers;
+mod branches;
+mod members;
+mod parts;
+mod questions;
+
+pub use agreeing::equiv;
 
 /// The laws of agreement, for readers to cite: two expressions of one operator have one list of
 /// parts; two that agree and are neither equal nor a pair have parts that agree; and what agrees

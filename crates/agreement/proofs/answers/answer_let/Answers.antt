@@ -1,0 +1,70 @@
+use Rattle.std.proofs.Common.{◌≡◌, List, sym, subst, arith}
+use Rattle.trees.specs.Tree.{Tree, Two, HLet}
+use Rattle.trees.specs.Node.{tree_at, Holds}
+use Rattle.evidence.specs.Drafts.{DraftTree}
+use Rattle.evidence.specs.Laws.{Extends_trans}
+use Rattle.congruence.specs.Alike.{Shows, ArePair}
+use Rattle.congruence.proofs.Later.{tree_later, pair_later, shows_later}
+use Rattle.agreement.proofs.AnswerParts.{let_is, let_right}
+use Rattle.agreement.proofs.OpenedParts.{value_pair}
+use Rattle.agreement.proofs.QuestionsLater.{link_later}
+use Rattle.agreement.proofs.answers.answer_let.Goals as goal
+
+pub alike_let-requires-clause-pair : goal.alike_let-requires-clause-pair
+alike_let-requires-clause-pair c =
+    let d = c.args.draft.now in
+    let m = let_is d.task c.args.q.number (tree_at d.trees c.args.q.left) (tree_at d.trees c.args.q.right) (tree_at d.trees c.args.v) (tree_at d.trees c.args.a) (tree_at d.trees c.args.part.left) (tree_at d.trees c.args.part.right) c.requires.left c.requires.parts in
+    value_pair d c.args.q.left c.args.part.left _ _ c.requires.asked.pair.left c.requires.left c.requires.part.pair.left m.0
+
+pub alike_let-requires-in-Let-clause-pair : goal.alike_let-requires-in-Let-clause-pair
+alike_let-requires-in-Let-clause-pair c =
+    let d = c.args.draft.now in
+    let d1 = c.alike_let.new.draft in
+    let q = c.args.q in
+    let w = c.in-Let.w in
+    let b = c.in-Let.b in
+    let e : tree_at d.trees q.right ≡ Two HLet (tree_at d.trees w) (tree_at d.trees b) = subst (λ (s : List Tree). tree_at s q.right ≡ Two HLet (tree_at s w) (tree_at s b)) c.store.ensures c.in-Let.ensures.tree in
+    let m = let_right d.task q.number (tree_at d.trees q.left) (tree_at d.trees q.right) (tree_at d.trees c.args.v) (tree_at d.trees c.args.a) (tree_at d.trees w) (tree_at d.trees b) (tree_at d.trees c.args.part.left) (tree_at d.trees c.args.part.right) c.requires.left e c.requires.parts in
+    pair_later d d1 c.in_ok-left-in-Let.ensures.grows q.right c.args.part.right (value_pair d q.right c.args.part.right _ _ c.requires.asked.pair.right e c.requires.part.pair.right m)
+
+pub returns-in_err-right-in-Let-clause-grows : goal.returns-in_err-right-in-Let-clause-grows
+returns-in_err-right-in-Let-clause-grows c = Extends_trans _ _ _ c.in_ok-left-in-Let.ensures.grows c.in_err-right-in-Let.ensures.grows
+
+pub through-requires-clause-left_pair : goal.through-requires-clause-left_pair
+through-requires-clause-left_pair c =
+    let d = c.args.draft.now in
+    let m = let_is d.task c.args.q.number (tree_at d.trees c.args.q.left) (tree_at d.trees c.args.q.right) (tree_at d.trees c.args.v) (tree_at d.trees c.args.a) (tree_at d.trees c.args.part.left) (tree_at d.trees c.args.part.right) c.requires.left c.requires.parts in
+    pair_later d c.alike_let-in-Let.new.draft (Extends_trans _ _ _ c.in_ok-left-in-Let.ensures.grows c.in_ok-right-in-Let.ensures.grows) c.args.q.left c.args.part.left
+    (value_pair d c.args.q.left c.args.part.left _ _ c.requires.asked.pair.left c.requires.left c.requires.part.pair.left m.0)
+
+pub through-requires-clause-right_pair : goal.through-requires-clause-right_pair
+through-requires-clause-right_pair c =
+    let d = c.args.draft.now in
+    let d1 = c.alike_let.new.draft in
+    let q = c.args.q in
+    let w = c.in-Let.w in
+    let b = c.in-Let.b in
+    let e : tree_at d.trees q.right ≡ Two HLet (tree_at d.trees w) (tree_at d.trees b) = subst (λ (s : List Tree). tree_at s q.right ≡ Two HLet (tree_at s w) (tree_at s b)) c.store.ensures c.in-Let.ensures.tree in
+    let m = let_right d.task q.number (tree_at d.trees q.left) (tree_at d.trees q.right) (tree_at d.trees c.args.v) (tree_at d.trees c.args.a) (tree_at d.trees w) (tree_at d.trees b) (tree_at d.trees c.args.part.left) (tree_at d.trees c.args.part.right) c.requires.left e c.requires.parts in
+    pair_later d1 c.alike_let-in-Let.new.draft c.in_ok-right-in-Let.ensures.grows q.right c.args.part.right (pair_later d d1 c.in_ok-left-in-Let.ensures.grows q.right c.args.part.right (value_pair d q.right c.args.part.right _ _ c.requires.asked.pair.right e c.requires.part.pair.right m))
+
+pub through-requires-clause-part : goal.through-requires-clause-part
+through-requires-clause-part c = link_later c.args.draft.now c.alike_let-in-Let.new.draft (Extends_trans _ _ _ c.in_ok-left-in-Let.ensures.grows c.in_ok-right-in-Let.ensures.grows) c.args.part c.requires.part
+
+pub through-requires-clause-left : goal.through-requires-clause-left
+through-requires-clause-left c =
+    let d = c.args.draft.now in
+    let d1 = c.alike_let.new.draft in
+    let d2 = c.alike_let-in-Let.new.draft in
+    let y = c.in_ok-right-in-Let.ensures.grows in
+    let x = Extends_trans d d1 d2 c.in_ok-left-in-Let.ensures.grows y in
+    let left = c.in_ok-left-in-Let.left in
+    let s = shows_later d1 d2 y left _ _ c.in_ok-left-in-Let.ensures.shows in
+    subst (λ (z : Tree). Shows d2 left z (tree_at d2.trees c.args.part.left)) (sym (tree_later d d2 x c.args.q.left c.requires.asked.pair.left.held))
+    (subst (λ (z : Tree). Shows d2 left (tree_at d.trees c.args.q.left) z) (sym (tree_later d d2 x c.args.part.left c.requires.part.pair.left.held)) s)
+
+pub returns-in_err-made-in-Let-clause-grows : goal.returns-in_err-made-in-Let-clause-grows
+returns-in_err-made-in-Let-clause-grows c = Extends_trans _ _ _ (Extends_trans _ _ _ c.in_ok-left-in-Let.ensures.grows c.in_ok-right-in-Let.ensures.grows) c.in_err-made-in-Let.ensures.grows
+
+pub returns-clause-grows : goal.returns-clause-grows
+returns-clause-grows c = Extends_trans _ _ _ (Extends_trans _ _ _ c.in_ok-left-in-Let.ensures.grows c.in_ok-right-in-Let.ensures.grows) c.in_ok-made-in-Let.ensures.grows
