@@ -4,14 +4,21 @@ use Rattle.tasks.specs.Task.{TaskTree}
 use Rattle.tasks.specs.Valid.{IsValid}
 use Rattle.evidence.specs.Stages.{Gives, Keeps, TaskEquation, StageEquation, stage_equation}
 use Rattle.tr_define.specs.Kept.{definitions_equation, definitions_keep, inductives_equation, inductives_keep}
+use Rattle.tr_if.specs.Eliminated.{if_equation}
+use Rattle.tr_if.specs.Kept.{if_keeps}
+use Rattle.tr_inline.specs.Kept.{inline_keeps}
+use Rattle.tr_inline.specs.full_bodies.inlining.Inlining.{inline_equation}
 use Rattle.tr_introduce.specs.Introduce.{introduce_equation}
 use Rattle.tr_introduce.specs.Kept.{introduce_keeps}
+use Rattle.tr_let.specs.Kept.{lets_equation, lets_keep}
+use Rattle.tr_match.specs.Kept.{matches_equation, matches_keep}
 use Rattle.tr_remove.specs.Kept.{remove_keeps}
 use Rattle.tr_remove.specs.Remove.{remove_equation}
+use Rattle.tr_simplify.specs.Kept.{simplified_equation, simplified_keep}
 use Rattle.tr_split_goals.specs.Goals.{split_equation}
 use Rattle.tr_split_goals.specs.Kept.{split_keeps}
 use Rattle.transformations.specs.declared.transformation.Transformation.{Transformation}
-use Rattle.transformations.specs.declared.transformation.Transformation.TheVariants.{Remove, Split, Introduce, Definitions, InductiveGroups}
+use Rattle.transformations.specs.declared.transformation.Transformation.TheVariants.{Remove, Split, Introduce, Definitions, InductiveGroups, Inline, Lets, Matches, Conditionals, SimplifiedFormulas}
 
 -- what is known of a transformation by itself
 pub record TransformationLaw : Type 0 where
@@ -24,6 +31,11 @@ law_of (Split its) = record { equation = split_equation; keeps = split_keeps }
 law_of (Introduce its) = record { equation = introduce_equation; keeps = introduce_keeps }
 law_of (Definitions its) = record { equation = definitions_equation; keeps = definitions_keep }
 law_of (InductiveGroups its) = record { equation = inductives_equation; keeps = inductives_keep }
+law_of (Inline its) = record { equation = inline_equation its.mode; keeps = inline_keeps its.mode }
+law_of (Lets its) = record { equation = lets_equation; keeps = lets_keep }
+law_of (Matches its) = record { equation = matches_equation; keeps = matches_keep }
+law_of (Conditionals its) = record { equation = if_equation; keeps = if_keeps }
+law_of (SimplifiedFormulas its) = record { equation = simplified_equation; keeps = simplified_keep }
 
 abbrev pub task_equation_of : Transformation → TaskEquation
 task_equation_of x = (law_of x).equation

@@ -6,8 +6,13 @@ use evidence::{Draft, StageFault, Transform};
 use std::alloc::{AllocError, Global};
 use tasks::{Fact, Store, Task, TermId};
 use tr_define::{Definitions, InductiveGroups};
+use tr_if::Conditionals;
+use tr_inline::Inline;
 use tr_introduce::Introduce;
+use tr_let::Lets;
+use tr_match::Matches;
 use tr_remove::Remove;
+use tr_simplify::SimplifiedFormulas;
 use tr_split_goals::Split;
 
 /// A transformation that is built.
@@ -18,6 +23,11 @@ pub enum Transformation {
     Introduce(Introduce),
     Definitions(Definitions),
     InductiveGroups(InductiveGroups),
+    Inline(Inline),
+    Lets(Lets),
+    Matches(Matches),
+    Conditionals(Conditionals),
+    SimplifiedFormulas(SimplifiedFormulas),
 }
 
 impl Transform for Transformation {
@@ -30,6 +40,11 @@ impl Transform for Transformation {
             Transformation::Introduce(its) => its.make(alloc, store, task),
             Transformation::Definitions(its) => its.make(alloc, store, task),
             Transformation::InductiveGroups(its) => its.make(alloc, store, task),
+            Transformation::Inline(its) => its.make(alloc, store, task),
+            Transformation::Lets(its) => its.make(alloc, store, task),
+            Transformation::Matches(its) => its.make(alloc, store, task),
+            Transformation::Conditionals(its) => its.make(alloc, store, task),
+            Transformation::SimplifiedFormulas(its) => its.make(alloc, store, task),
         }
     }
 
@@ -48,6 +63,13 @@ impl Transform for Transformation {
             Transformation::Introduce(its) => its.fact(from, to, name, types, formula, draft),
             Transformation::Definitions(its) => its.fact(from, to, name, types, formula, draft),
             Transformation::InductiveGroups(its) => its.fact(from, to, name, types, formula, draft),
+            Transformation::Inline(its) => its.fact(from, to, name, types, formula, draft),
+            Transformation::Lets(its) => its.fact(from, to, name, types, formula, draft),
+            Transformation::Matches(its) => its.fact(from, to, name, types, formula, draft),
+            Transformation::Conditionals(its) => its.fact(from, to, name, types, formula, draft),
+            Transformation::SimplifiedFormulas(its) => {
+                its.fact(from, to, name, types, formula, draft)
+            }
         }
     }
 
@@ -64,6 +86,11 @@ impl Transform for Transformation {
             Transformation::Introduce(its) => its.glue(from, to, ends, draft),
             Transformation::Definitions(its) => its.glue(from, to, ends, draft),
             Transformation::InductiveGroups(its) => its.glue(from, to, ends, draft),
+            Transformation::Inline(its) => its.glue(from, to, ends, draft),
+            Transformation::Lets(its) => its.glue(from, to, ends, draft),
+            Transformation::Matches(its) => its.glue(from, to, ends, draft),
+            Transformation::Conditionals(its) => its.glue(from, to, ends, draft),
+            Transformation::SimplifiedFormulas(its) => its.glue(from, to, ends, draft),
         }
     }
 
