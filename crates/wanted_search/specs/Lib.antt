@@ -1,0 +1,3 @@
+pub use Rattle.instance_search.specs as instance_search
+pub mod Asking
+pub mod Search
