@@ -13,7 +13,7 @@ use rule_rows::Step;
 use statuses::{Fault, RunFault};
 use std::alloc::Global;
 use tasks::{Store, Task};
-use written_files::{NameEntry, ReadFault, StepReader};
+use written_files::{NameEntry, ReadFault, read_whole};
 
 /// The steps of a file's bytes, which derive a task. The first wrong line is refused (91), as one of the part with this number.
 pub(crate) fn read_steps(
@@ -33,15 +33,7 @@ pub(crate) fn read_steps(
         (steps_at store.new v.items)) }
     ensures grows { Grows store.old store.new }
 {
-    let mut reader = StepReader::new(alloc, tallest);
-    match reader.feed(store, task, names, bytes) {
-        Ok(()) => {}
-        Err(ReadFault::Memory) => return Err(RunFault::Memory),
-        Err(ReadFault::WrongLine { line }) => {
-            return Err(RunFault::Refused(Fault::WrongLine { part, line }));
-        }
-    }
-    match reader.finish(store, task, names) {
+    match read_whole(alloc, store, task, names, tallest, bytes) {
         Ok(steps) => Ok(steps),
         Err(ReadFault::Memory) => Err(RunFault::Memory),
         Err(ReadFault::WrongLine { line }) => {

@@ -1,12 +1,12 @@
 -- A file whose steps derive the task has no wrong line, and a file has one first wrong line at most.
 use Rattle.std.proofs.Common.{◌≡◌, ℕ, zero, suc, List, [], ◌∷◌, Option, Some, None, refl, sym, ap, ◌∙◌}
-use Rattle.std.specs.Prelude.{IsSomeAnd, IfErr, Result, Ok, Err}
+use Rattle.std.specs.Prelude.{IsSomeAnd}
 use Rattle.tasks.specs.Task.{TaskTree}
 use Rattle.rule_rows.specs.Trees.{StepTree}
 use Rattle.name_entries.specs.declared.names.NameEntry.{NameEntry}
 use Rattle.step_files.specs.Words.{lines_of}
 use Rattle.step_lines.specs.Steps.{Thing}
-use Rattle.step_files.specs.Lines.{Reading, nothing_read, line_thing, IsGood, reading_with, AreRead, IsWrongLine, StepsOf}
+use Rattle.step_files.specs.Lines.{Reading, nothing_read, line_thing, IsGood, reading_with, AreRead, IsWrongLine, StepsOf, LinesMake, IsWrongAmong}
 use Rattle.step_files.specs.declared.fault.ReadFault.{ReadFault}
 use Rattle.step_files.specs.declared.fault.ReadFault.TheVariants.{Memory, WrongLine}
 use Rattle.step_files.specs.Reading.{IsReadFault}
@@ -37,9 +37,15 @@ module _ (t : TaskTree) (names : List NameEntry) (tallest : Option ℕ) where
       let b = both_of (line_thing t names r.earlier line) (IsGood t tallest r.steps) (λ x. IsWrongLine t names tallest (reading_with r x) lines k) (λ x. IsWrongLine t names tallest (reading_with r x) lines j) v w in
       ap suc (one_wrong_line lines (reading_with r b.0) k j b.1 b.2)
 
+  -- among lines that are all right none is wrong
+  pub none_wrong : (lines : List (List ℕ)) (r r' : Reading) (k : ℕ) → LinesMake t names tallest r lines r' → IsWrongAmong t names tallest r lines k → ⊥
+  none_wrong [] r r' k a w = w
+  none_wrong (line ∷ lines) r r' zero a w = w (first_of (line_thing t names r.earlier line) (IsGood t tallest r.steps) (λ x. LinesMake t names tallest (reading_with r x) lines r') a)
+  none_wrong (line ∷ lines) r r' (suc k) a w =
+      let b = both_of (line_thing t names r.earlier line) (IsGood t tallest r.steps) (λ x. LinesMake t names tallest (reading_with r x) lines r') (λ x. IsWrongAmong t names tallest (reading_with r x) lines k) a w in
+      none_wrong lines (reading_with r b.0) r' k b.1 b.2
+
   -- a refusal of a file whose steps derive the task is want of memory
-  pub refused_for_memory : {V : Type 0} (bytes : List ℕ) (r : Result V ReadFault) → IfErr r (IsReadFault t names tallest bytes)
-      → IfErr r (λ e. (steps : List StepTree) → StepsOf t names tallest bytes steps → e ≡ Memory)
-  refused_for_memory bytes (Ok v) h = tt
-  refused_for_memory bytes (Err Memory) h = λ steps a. refl
-  refused_for_memory bytes (Err (WrongLine line)) h = λ steps a. absurd (read_not_wrong (lines_of bytes) nothing_read steps h.0 a h.2)
+  pub refused_for_memory : (bytes : List ℕ) (e : ReadFault) → IsReadFault t names tallest bytes e → (steps : List StepTree) → StepsOf t names tallest bytes steps → e ≡ Memory
+  refused_for_memory bytes Memory h = λ steps a. refl
+  refused_for_memory bytes (WrongLine line) h = λ steps a. absurd (read_not_wrong (lines_of bytes) nothing_read steps h.0 a h.2)

@@ -1,18 +1,16 @@
 -- What was read so far, as a store grows.
-use Rattle.std.proofs.Common.{◌≡◌, ℕ, ◌+◌, ◌<◌, List, [], ◌∷◌, ◌++◌, length, get_or, All, Option, Some, None, refl, sym, ap, subst, ◌∙◌}
+use Rattle.std.proofs.Common.{◌≡◌, ℕ, ◌+◌, List, [], ◌∷◌, ◌++◌, All, Option, Some, None, refl, sym, ap, subst, ◌∙◌}
 use Rattle.std.specs.Prelude.{IsSomeAnd}
-use Rattle.std.proofs.lemmas.List.{map-append}
+use Rattle.std.proofs.lemmas.List.{map-append, length-append}
 use Rattle.std.proofs.lemmas.List.Elements.{All-push}
 use Rattle.tasks.specs.trees.declared.TermId.{TermId}
 use Rattle.tasks.specs.trees.declared.Sort.TheVariants.{Kind}
-use Rattle.tasks.specs.trees.Tree.{Tree, Leaf, One, Two, Three}
+use Rattle.tasks.specs.trees.Tree.{Tree}
 use Rattle.tasks.specs.trees.Node.{tree_at, Holds, Grows}
-use Rattle.tasks.specs.trees.Sorts.{WellSorted}
 use Rattle.binders.specs.Visits.{HoldTypes, typing_stays_ready, trees_stay}
 use Rattle.tasks.specs.declared.task.Task.{Task}
 use Rattle.tasks.specs.Task.{TaskTree}
-use Rattle.tasks.specs.Vocabulary.{Vocabulary, of_task}
-use Rattle.tasks.specs.Open.{OpenTyped}
+use Rattle.tasks.specs.Vocabulary.{of_task}
 use Rattle.tasks.specs.Meaning.{trees_at, task_at, TaskHeld}
 use Rattle.tasks.proofs.Growth.{all_held_later, trees_later, task_later}
 use Rattle.rule_rows.specs.declared.rule.Step.{Step}
@@ -26,9 +24,12 @@ use Rattle.step_lines.specs.declared.thing.MadeThing.TheVariants as made
 use Rattle.step_lines.specs.Steps.{Thing, TypeOf, PatternOf, ExpressionOf, StepOf}
 use Rattle.step_lines.specs.Made.{ThingHeld, ThingFits, thing_at}
 use Rattle.step_files.specs.declared.read.Read.{Read}
-use Rattle.step_files.specs.Lines.{Reading, reading_of, IsGood, LineIsRight, line_thing, reading_with}
+use Rattle.step_files.specs.Lines.{Reading, nothing_read, LinesMake, reading_of, IsGood, LineIsRight, line_thing, reading_with}
 use Rattle.step_files.specs.Reading.{ReadHeld, reading_at, MakesGood, IsReadKept}
-use Rattle.step_files.proofs.Progress.{Stands, stands_next}
+use Rattle.step_files.specs.declared.ended.ReadLines.{ReadLines}
+use Rattle.step_files.specs.Marks.{AreMarkedTyped}
+use Rattle.step_files.specs.Fed.{AreLinesRead}
+use Rattle.step_files.proofs.Progress.{make_more}
 use Rattle.tasks.proofs.Closing.{open_sorted}
 
 pub good_fits : (t : TaskTree) (tallest : Option ℕ) (before : List StepTree) (x : Thing) → IsGood t tallest before x → ThingFits x
@@ -101,16 +102,18 @@ module _ (s : List Tree) (r r' : Read) (h : ReadHeld s r) where
   kept_after (made.Expression e) k = four r.types.items r.patterns.items (r.expressions.items ++ e ∷ []) r.steps.items k.0 k.1 k.2 k.3 ∙ ap (λ l. reading_of (trees_at s r.types.items) (trees_at s r.patterns.items) l (steps_at s r.steps.items)) (map-append (tree_at s) r.expressions.items (e ∷ []))
   kept_after (made.Derived st) k = four r.types.items r.patterns.items r.expressions.items (r.steps.items ++ st ∷ []) k.0 k.1 k.2 k.3 ∙ ap (reading_of (trees_at s r.types.items) (trees_at s r.patterns.items) (trees_at s r.expressions.items)) (map-append (step_at s) r.steps.items (st ∷ []))
 
--- what was read, with one thing more, and what is known of the file then
-module _ (s s' : List Tree) (g : Grows s s') (t : TaskTree) (names : List NameEntry) (tallest : Option ℕ) (lines : List (List ℕ)) (i : ℕ) (r r' : Read) (h : ReadHeld s r)
-    (stands : Stands t names tallest lines (reading_at s r) i) (within : i < length lines) (x : MadeThing) (k : IsReadKept x r r') (held : ThingHeld s' x) (m : MakesGood t names tallest (reading_at s r) (get_or lines i []) (thing_at s' x)) where
-  pub next_held : ReadHeld s' r'
-  next_held = kept_held s' r r' (read_later s s' g r h) x k held
-
-  pub next_stands : Stands t names tallest lines (reading_at s' r') (i + 1)
-  next_stands =
-      let e : reading_with (reading_at s r) (thing_at s' x) ≡ reading_at s' r' = ap (λ q. reading_with q (thing_at s' x)) (sym (reading_later s s' g r h)) ∙ sym (kept_after s' r r' (read_later s s' g r h) x k) in
-      subst (λ q. Stands t names tallest lines q (i + 1)) e (stands_next t names tallest lines (reading_at s r) i stands within (thing_at s' x) m)
+-- one line more
+module _ (s s' : List Tree) (g : Grows s s') (t : TaskTree) (names : List NameEntry) (tallest : Option ℕ) (lines : List (List ℕ)) (line : List ℕ) (l l' : ReadLines) (h : AreLinesRead t names tallest s lines l)
+    (x : MadeThing) (k : IsReadKept x l.read l'.read) (held : ThingHeld s' x) (m : MakesGood t names tallest (reading_at s l.read) line (thing_at s' x)) (n : l'.ended ≡ l.ended + 1) (marks : AreMarkedTyped t s' l'.marks.items) where
+  pub line_read : AreLinesRead t names tallest s' (lines ++ line ∷ []) l'
+  line_read =
+      let e : reading_with (reading_at s l.read) (thing_at s' x) ≡ reading_at s' l'.read = ap (λ q. reading_with q (thing_at s' x)) (sym (reading_later s s' g l.read h.held)) ∙ sym (kept_after s' l.read l'.read (read_later s s' g l.read h.held) x k) in
+      record {
+        made = subst (LinesMake t names tallest nothing_read (lines ++ line ∷ [])) e (make_more t names tallest lines line nothing_read (reading_at s l.read) (thing_at s' x) h.made m);
+        count = n ∙ ap (λ i. i + 1) h.count ∙ sym (length-append lines (line ∷ []));
+        held = kept_held s' l.read l'.read (read_later s s' g l.read h.held) x k held;
+        marks = marks;
+      }
 
 -- a thing is good in the grown store exactly where it is in the old one
 module _ (s s' : List Tree) (g : Grows s s') (task : Task) (held : TaskHeld s task) (r : Read) (h : ReadHeld s r) (names : List NameEntry) (tallest : Option ℕ) (line : List ℕ) (x : Thing)

@@ -1,4 +1,5 @@
 pub mod Exact
+pub mod Fed
 pub mod Growth
 pub mod Marking
 pub mod Progress

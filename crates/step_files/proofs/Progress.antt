@@ -1,21 +1,13 @@
--- Reading line by line: what is known of a file after some of its lines.
-use Rattle.std.proofs.Common.{◌≡◌, ℕ, ◌+◌, ◌<◌, ◌≤◌, suc, List, [], ◌∷◌, length, drop, get_or, Option, Bool, true, false, refl, sym, ap, subst, arith}
+-- Reading line by line: what right lines make, and which line is the first wrong one.
+use Rattle.std.proofs.Common.{◌≡◌, ℕ, ◌+◌, zero, suc, List, [], ◌∷◌, ◌++◌, length, Option, Some, None, Bool, true, false, refl, sym, ap, subst, arith}
 use Rattle.std.specs.Prelude.{IsSomeAnd, IsTrue}
-use Rattle.std.proofs.lemmas.List.{drop_more, drop_all}
-use Rattle.std.specs.Borrow.{Bor}
-use Rattle.tree_lines.specs.Words.{texts}
 use Rattle.tasks.specs.Task.{TaskTree}
-use Rattle.rule_rows.specs.Trees.{StepTree}
 use Rattle.kernel.specs.Right.{AreRight, last_starts}
 use Rattle.kernel.proofs.Growth.{right_more}
 use Rattle.name_entries.specs.declared.names.NameEntry.{NameEntry}
 use Rattle.step_lines.specs.Steps.{Thing, TypeOf, PatternOf, ExpressionOf, StepOf}
-use Rattle.step_files.specs.Lines.{Reading, nothing_read, IsGood, LineIsRight, reading_with, AreRead, IsWrongLine}
+use Rattle.step_files.specs.Lines.{Reading, nothing_read, line_thing, IsGood, LineIsRight, reading_with, AreRead, IsWrongLine, LinesMake, IsWrongAmong}
 use Rattle.step_files.specs.Reading.{MakesGood}
-
-pub texts_length : (ws : List (Bor (List ℕ))) → length (texts ws) ≡ length ws
-texts_length [] = refl
-texts_length (w ∷ ws) = ap suc (texts_length ws)
 
 abbrev OnlyFalse : Bool → Type 0
 OnlyFalse true = ⊥
@@ -24,42 +16,65 @@ OnlyFalse false = Unit {0}
 pub no_true : IsTrue false → ⊥
 no_true h = subst OnlyFalse h tt
 
-module _ (t : TaskTree) (names : List NameEntry) (tallest : Option ℕ) (lines : List (List ℕ)) where
-  -- after i lines
-  pub record Stands (r : Reading) (i : ℕ) : Type 0 where
-    pub right : AreRight t r.steps
-    pub read : (out : List StepTree) → AreRead t names tallest r (drop i lines) out → AreRead t names tallest nothing_read lines out
-    pub wrong : (k : ℕ) → IsWrongLine t names tallest r (drop i lines) k → IsWrongLine t names tallest nothing_read lines (i + k)
+some_more : (o : Option Thing) (P Q : Thing → Type 0) → ((x : Thing) → P x → Q x) → IsSomeAnd o P → IsSomeAnd o Q
+some_more None P Q f h = absurd h
+some_more (Some x) P Q f h = f x h
 
-  pub stands_first : Stands nothing_read 0
-  stands_first = record { right = λ k h. absurd (omega arith); read = λ out a. a; wrong = λ k w. subst (IsWrongLine t names tallest nothing_read lines) (omega arith) w }
+from_some : (o : Option Thing) (P : Thing → Type 0) (Z : Type 0) → ((x : Thing) → P x → Z) → IsSomeAnd o P → Z
+from_some None P Z f h = absurd h
+from_some (Some x) P Z f h = f x h
 
-  still_right : (r : Reading) (x : Thing) → AreRight t r.steps → IsGood t tallest r.steps x → AreRight t (reading_with r x).steps
-  still_right r (TypeOf a) h g = h
-  still_right r (PatternOf a) h g = h
-  still_right r (ExpressionOf a) h g = h
-  still_right r (StepOf st) h g = right_more t r.steps st h g
+module _ (t : TaskTree) (names : List NameEntry) (tallest : Option ℕ) where
+  -- what a line makes, and what holds of what was read then
+  abbrev Next : Reading → List ℕ → (Reading → Type 0) → Type 0
+  Next r line P = IsSomeAnd (line_thing t names r.earlier line) (λ x. IsGood t tallest r.steps x × P (reading_with r x))
 
-  module _ (r : Reading) (i : ℕ) (st : Stands r i) (within : i < length lines) where
-    cut : drop i lines ≡ get_or lines i [] ∷ drop (i + 1) lines
-    cut = drop_more lines i [] within
+  next_more : (r : Reading) (line : List ℕ) (P Q : Reading → Type 0) → ((q : Reading) → P q → Q q) → Next r line P → Next r line Q
+  next_more r line P Q f h =
+      some_more (line_thing t names r.earlier line) (λ x. IsGood t tallest r.steps x × P (reading_with r x)) (λ x. IsGood t tallest r.steps x × Q (reading_with r x)) (λ x k. (k.0, f (reading_with r x) k.1)) h
 
-    pub stands_next : (x : Thing) → MakesGood t names tallest r (get_or lines i []) x → Stands (reading_with r x) (i + 1)
-    stands_next x m = record {
-      right = still_right r x st.right m.good;
-      read = λ out a. st.read out (subst (λ ls. AreRead t names tallest r ls out) (sym cut) (subst (λ o. IsSomeAnd o (λ y. IsGood t tallest r.steps y × AreRead t names tallest (reading_with r y) (drop (i + 1) lines) out)) (sym m.made) (m.good, a)));
-      wrong = λ k w. subst (IsWrongLine t names tallest nothing_read lines) (omega arith) (st.wrong (suc k) (subst (λ ls. IsWrongLine t names tallest r ls (suc k)) (sym cut) (subst (λ o. IsSomeAnd o (λ y. IsGood t tallest r.steps y × IsWrongLine t names tallest (reading_with r y) (drop (i + 1) lines) k)) (sym m.made) (m.good, w))));
-    }
+  -- one right line more
+  pub make_more : (lines : List (List ℕ)) (line : List ℕ) (r0 r : Reading) (x : Thing) → LinesMake t names tallest r0 lines r → MakesGood t names tallest r line x
+      → LinesMake t names tallest r0 (lines ++ line ∷ []) (reading_with r x)
+  make_more [] line r0 r x h m = subst (λ q. Next q line (λ p. reading_with r x ≡ p)) h (subst (λ o. IsSomeAnd o (λ y. IsGood t tallest r.steps y × (reading_with r x ≡ reading_with r y))) (sym m.made) (m.good, refl))
+  make_more (l ∷ lines) line r0 r x h m = next_more r0 l (λ q. LinesMake t names tallest q lines r) (λ q. LinesMake t names tallest q (lines ++ line ∷ []) (reading_with r x)) (λ q k. make_more lines line q r x k m) h
 
-    pub stands_wrong : (LineIsRight t names tallest r (get_or lines i []) → ⊥) → IsWrongLine t names tallest nothing_read lines i
-    stands_wrong n = subst (IsWrongLine t names tallest nothing_read lines) (omega arith) (st.wrong 0 (subst (λ ls. IsWrongLine t names tallest r ls 0) (sym cut) n))
+  -- the line after right ones is wrong
+  pub wrong_after : (lines : List (List ℕ)) (line : List ℕ) (r0 r : Reading) → LinesMake t names tallest r0 lines r → (LineIsRight t names tallest r line → ⊥) → IsWrongAmong t names tallest r0 (lines ++ line ∷ []) (length lines)
+  wrong_after [] line r0 r h n = subst (λ q. LineIsRight t names tallest q line → ⊥) h n
+  wrong_after (l ∷ lines) line r0 r h n = next_more r0 l (λ q. LinesMake t names tallest q lines r) (λ q. IsWrongAmong t names tallest q (lines ++ line ∷ []) (length lines)) (λ q k. wrong_after lines line q r k n) h
 
-  module _ (r : Reading) (i : ℕ) (st : Stands r i) (all : length lines ≤ i) where
-    none_left : drop i lines ≡ []
-    none_left = drop_all i lines all
+  -- the first wrong line stays so, whatever lines follow
+  pub wrong_longer : (lines more : List (List ℕ)) (r : Reading) (k : ℕ) → IsWrongAmong t names tallest r lines k → IsWrongAmong t names tallest r (lines ++ more) k
+  wrong_longer [] more r k w = absurd w
+  wrong_longer (l ∷ lines) more r zero w = w
+  wrong_longer (l ∷ lines) more r (suc k) w = next_more r l (λ q. IsWrongAmong t names tallest q lines k) (λ q. IsWrongAmong t names tallest q (lines ++ more) k) (λ q v. wrong_longer lines more q k v) w
 
-    pub stands_read : last_starts t r.steps → AreRead t names tallest nothing_read lines r.steps
-    stands_read s = st.read r.steps (subst (λ ls. AreRead t names tallest r ls r.steps) (sym none_left) (refl, s))
+  pub wrong_of_file : (lines : List (List ℕ)) (r : Reading) (k : ℕ) → IsWrongAmong t names tallest r lines k → IsWrongLine t names tallest r lines k
+  wrong_of_file [] r k w = absurd w
+  wrong_of_file (l ∷ lines) r zero w = w
+  wrong_of_file (l ∷ lines) r (suc k) w = next_more r l (λ q. IsWrongAmong t names tallest q lines k) (λ q. IsWrongLine t names tallest q lines k) (λ q v. wrong_of_file lines q k v) w
 
-    pub stands_unfinished : (last_starts t r.steps → ⊥) → IsWrongLine t names tallest nothing_read lines i
-    stands_unfinished n = subst (IsWrongLine t names tallest nothing_read lines) (omega arith) (st.wrong 0 (subst (λ ls. IsWrongLine t names tallest r ls 0) (sym none_left) (refl, n)))
+  -- all lines are right, and the last step has the start, or not
+  pub read_to_end : (lines : List (List ℕ)) (r0 r : Reading) → LinesMake t names tallest r0 lines r → last_starts t r.steps → AreRead t names tallest r0 lines r.steps
+  read_to_end [] r0 r h s = (ap (λ q. q.steps) h, subst (λ q. last_starts t q.steps) h s)
+  read_to_end (l ∷ lines) r0 r h s = next_more r0 l (λ q. LinesMake t names tallest q lines r) (λ q. AreRead t names tallest q lines r.steps) (λ q k. read_to_end lines q r k s) h
+
+  pub no_start : (lines : List (List ℕ)) (r0 r : Reading) → LinesMake t names tallest r0 lines r → (last_starts t r.steps → ⊥) → IsWrongLine t names tallest r0 lines (length lines)
+  no_start [] r0 r h n = (refl, subst (λ q. last_starts t q.steps → ⊥) h n)
+  no_start (l ∷ lines) r0 r h n = next_more r0 l (λ q. LinesMake t names tallest q lines r) (λ q. IsWrongLine t names tallest q lines (length lines)) (λ q k. no_start lines q r k n) h
+
+  good_kept : (r : Reading) (x : Thing) → AreRight t r.steps → IsGood t tallest r.steps x → AreRight t (reading_with r x).steps
+  good_kept r (TypeOf a) h g = h
+  good_kept r (PatternOf a) h g = h
+  good_kept r (ExpressionOf a) h g = h
+  good_kept r (StepOf st) h g = right_more t r.steps st h g
+
+  made_right : (lines : List (List ℕ)) (r0 r : Reading) → AreRight t r0.steps → LinesMake t names tallest r0 lines r → AreRight t r.steps
+  made_right [] r0 r a h = subst (λ q. AreRight t q.steps) (sym h) a
+  made_right (l ∷ lines) r0 r a h =
+      from_some (line_thing t names r0.earlier l) (λ x. IsGood t tallest r0.steps x × LinesMake t names tallest (reading_with r0 x) lines r) (AreRight t r.steps) (λ x k. made_right lines (reading_with r0 x) r (good_kept r0 x a k.0) k.1) h
+
+  -- the steps of right lines are right
+  pub steps_right : (lines : List (List ℕ)) (r : Reading) → LinesMake t names tallest nothing_read lines r → AreRight t r.steps
+  steps_right lines r h = made_right lines nothing_read r (λ k l. absurd (omega arith)) h

@@ -68,3 +68,20 @@ StepsOf t names tallest bytes steps = AreRead t names tallest nothing_read (line
 -- the first wrong line of a file, counted from 1
 abbrev pub FirstWrong : TaskTree → List NameEntry → Option ℕ → List ℕ → ℕ → Type 0
 FirstWrong t names tallest bytes line = (k : ℕ) × (line ≡ k + 1) × IsWrongLine t names tallest nothing_read (lines_of bytes) k
+
+-- all lines are right, and this is what they make of what was read before
+abbrev pub LinesMake : TaskTree → List NameEntry → Option ℕ → Reading → List (List ℕ) → Reading → Type 0
+LinesMake t names tallest r [] made = made ≡ r
+LinesMake t names tallest r (line ∷ lines) made =
+    IsSomeAnd (line_thing t names r.earlier line) (λ x. IsGood t tallest r.steps x × LinesMake t names tallest (reading_with r x) lines made)
+
+-- the least wrong one of these lines, counted from 0
+abbrev pub IsWrongAmong : TaskTree → List NameEntry → Option ℕ → Reading → List (List ℕ) → ℕ → Type 0
+IsWrongAmong t names tallest r [] k = ⊥
+IsWrongAmong t names tallest r (line ∷ lines) zero = LineIsRight t names tallest r line → ⊥
+IsWrongAmong t names tallest r (line ∷ lines) (suc k) =
+    IsSomeAnd (line_thing t names r.earlier line) (λ x. IsGood t tallest r.steps x × IsWrongAmong t names tallest (reading_with r x) lines k)
+
+-- the first wrong one of these lines, counted from 1
+abbrev pub FirstWrongAmong : TaskTree → List NameEntry → Option ℕ → List (List ℕ) → ℕ → Type 0
+FirstWrongAmong t names tallest lines line = (k : ℕ) × (line ≡ k + 1) × IsWrongAmong t names tallest nothing_read lines k

@@ -1,56 +1,124 @@
 // A reader that is fed a step file in pieces.
-// It depends on the reader of lines.
-ghost use Rattle.std.specs.Prelude.{◌≡◌, List, ◌++◌, [], true, false, Err, IfOk, IfErr, OnOk, OnErr};
+// It depends on the reading of lines as they end.
+ghost use Rattle.std.specs.Prelude.{◌≡◌, ℕ, List, ◌++◌, [], Err, Option, Some, None, IfOk, IfErr, IfSome, OnOk};
+ghost use Rattle.tasks.specs.trees.Tree.{Tree};
 ghost use Rattle.tasks.specs.trees.Node.{Grows};
 ghost use Rattle.tasks.specs.Meaning.{task_at, TaskHeld};
+ghost use Rattle.tasks.specs.declared.task.Task.{Task};
 ghost use Rattle.rule_rows.specs.Trees.{StepTree};
 ghost use Rattle.kernel.specs.Right.{Closes};
 ghost use Rattle.rule_rows.specs.Meaning.{steps_at, StepsHeld};
-ghost use Rattle.step_files.specs.Lines.{StepsOf};
+ghost use Rattle.name_entries.specs.declared.names.NameEntry.{NameEntry};
+ghost use Rattle.step_files.specs.Words.{lines_of, ended_lines};
+ghost use Rattle.step_files.specs.Lines.{StepsOf, FirstWrongAmong};
 ghost use Rattle.step_files.specs.Reading.{IsReadFault};
+ghost use Rattle.step_files.specs.Fed.{AreTablesOf, AreLinesRead, AreBytesRead, IsLineFault, IsFed, answer_of};
+ghost use Rattle.step_files.specs.declared.fault.ReadFault.{ReadFault};
 ghost use Rattle.step_files.specs.declared.fault.ReadFault.TheVariants.{Memory};
 
+use crate::ended::{ReadLines, last_steps, no_lines, read_piece};
 use crate::fault::ReadFault;
-use crate::reader::read_whole;
+use crate::good::Reader;
 use name_entries::NameEntry;
 use rule_rows::Step;
-use std::alloc::Global;
-use std::marker::Model;
-use tasks::{Store, Task};
+use std::alloc::{AllocError, Global};
+use tasks::{Index, Store, Task};
+use tree_lines::TableNames;
 
-/// A reader of one step file. It collects the pieces, and reads the whole at its end.
+// What a task's entries and the names of a table are found by.
+#[derive(Drop)]
+struct Tables {
+    index: Index,
+    places: TableNames,
+}
+
+// The tables of a task and of names, which may be there already.
+fn tables_of(
+    alloc: Global,
+    known: Option<Tables>,
+    task: &Task,
+    names: &[NameEntry],
+) -> Result<Tables, AllocError>
+    requires { IfSome known (AreTablesOf task.now names.now) }
+    ensures { IfOk result (AreTablesOf task.now names.now) }
+{
+    if let Some(tables) = known {
+        return Ok(tables);
+    }
+    let index = Index::new(alloc, task)?;
+    let places = TableNames::new(alloc, names)?;
+    Ok(Tables { index, places })
+}
+
+/// A reader of one step file, which is fed in pieces. It keeps what the lines so far have made, and the bytes of one
+/// unfinished line.
 #[derive(Drop)]
 pub struct StepReader {
     alloc: Global,
-    bytes: Vec<u8>,
     tallest: Option<u64>,
-    lost: bool,
-}
-
-impl Model for StepReader {
-    ghost use Rattle.step_files.specs.Fed.{Fed, fed_code};
-
-    ghost Value = { Fed };
-
-    ghost coded = { fed_code };
-
-    ghost view = { λ r. record { bytes = r.bytes.items; tallest = r.tallest; lost = r.lost } };
+    tables: Option<Tables>,
+    lines: ReadLines,
+    fault: Option<ReadFault>,
 }
 
 impl StepReader {
     /// A reader that was fed nothing. It refuses formulas that are taller than `tallest`.
     pub fn new(alloc: Global, tallest: Option<u64>) -> StepReader
-        ensures { result ≡ record { bytes = []; tallest = tallest; lost = false } }
+        ensures fed { (s : List Tree) (task : Task) (names : List NameEntry)
+            → IsFed s task names [] result }
+        ensures tallest { result.tallest ≡ tallest }
     {
         StepReader {
             alloc,
-            bytes: Vec::new(alloc),
             tallest,
-            lost: false,
+            tables: None,
+            lines: no_lines(alloc),
+            fault: None,
         }
     }
 
-    /// Takes the next piece of the file. After a refusal every later call is refused for want of memory.
+    // Reads the lines that end in a piece.
+    fn read_piece(
+        &mut self,
+        store: &mut Store,
+        task: &Task,
+        names: &[NameEntry],
+        piece: &[u8],
+    ) -> Result<(), ReadFault>
+        requires task { TaskHeld store.old task.now }
+        requires tables { IfSome self.old.tables (AreTablesOf task.now names.now) }
+        requires lines { (bytes : List ℕ) × AreBytesRead (task_at store.old task.now) names.now
+            self.old.tallest store.old bytes self.old.lines }
+        ensures read { OnOk result ((bytes : List ℕ)
+            → AreBytesRead (task_at store.old task.now) names.now self.old.tallest store.old bytes
+            self.old.lines
+            → AreBytesRead (task_at store.old task.now) names.now self.old.tallest store.new
+            (bytes ++ piece.now) self.new.lines) }
+        ensures fault { IfErr result (λ e. (bytes : List ℕ)
+            → AreBytesRead (task_at store.old task.now) names.now self.old.tallest store.old bytes
+            self.old.lines
+            → IsLineFault (task_at store.old task.now) names.now self.old.tallest
+            (ended_lines (bytes ++ piece.now)) e) }
+        ensures tables { IfSome self.new.tables (AreTablesOf task.now names.now) }
+        ensures same { (self.new.tallest ≡ self.old.tallest) × (self.new.fault ≡ self.old.fault) }
+        ensures grows { Grows store.old store.new }
+    {
+        let tables = tables_of(self.alloc, self.tables.take(), task, names)?;
+        let x = Reader {
+            task,
+            index: &tables.index,
+            table: names,
+            names: &tables.places,
+            tallest: self.tallest,
+        };
+        let read = read_piece(self.alloc, store, &x, &mut self.lines, piece);
+        self.tables = Some(tables);
+        read
+    }
+
+    /// Takes the next piece of the file: refused at once where, among the lines that a line feed has ended so far, one is
+    /// wrong, with the first such line. The task and the names are those of the first piece, and the store holds what it held
+    /// after it. After a refusal every later call is refused the same.
     pub fn feed(
         &mut self,
         store: &mut Store,
@@ -58,55 +126,119 @@ impl StepReader {
         names: &[NameEntry],
         piece: &[u8],
     ) -> Result<(), ReadFault>
-        ensures fed { OnOk result (self.new
-            ≡ record self.old { bytes = self.old.bytes ++ piece.now }) }
-        ensures whole { OnOk result (self.old.lost ≡ false) }
-        ensures memory { IfErr result (λ e. e ≡ Memory) }
-        ensures lost { OnErr result (self.new.lost ≡ true) }
-        ensures store { store.new ≡ store.old }
+        requires task { TaskHeld store.old task.now }
+        requires fed { (bytes : List ℕ) × IsFed store.old task.now names.now bytes self.old }
+        ensures fed { (bytes : List ℕ) → IsFed store.old task.now names.now bytes self.old
+            → IsFed store.new task.now names.now (bytes ++ piece.now) self.new }
+        ensures right { OnOk result ((bytes : List ℕ)
+            → IsFed store.old task.now names.now bytes self.old
+            → (line : ℕ) → FirstWrongAmong (task_at store.old task.now) names.now self.old.tallest
+            (ended_lines (bytes ++ piece.now)) line → ⊥) }
+        ensures wrong { IfErr result (λ e. (bytes : List ℕ)
+            → IsFed store.old task.now names.now bytes self.old
+            → IsLineFault (task_at store.old task.now) names.now self.old.tallest
+            (ended_lines (bytes ++ piece.now)) e) }
+        ensures answer { result ≡ answer_of self.new.fault }
+        ensures again { (e : ReadFault) → self.old.fault ≡ Some e → result ≡ Err e }
+        ensures tallest { self.new.tallest ≡ self.old.tallest }
+        ensures grows { Grows store.old store.new }
     {
-        let _ = &*store;
-        let _ = task;
-        let _ = names;
-        if self.lost {
-            return Err(ReadFault::Memory);
+        if let Some(fault) = self.fault {
+            return Err(fault);
         }
-        match self.bytes.extend_from_slice(piece) {
-            Ok(_) => Ok(()),
-            Err(_) => {
-                self.lost = true;
-                Err(ReadFault::Memory)
+        match self.read_piece(store, task, names, piece) {
+            Ok(()) => Ok(()),
+            Err(fault) => {
+                self.fault = Some(fault);
+                Err(fault)
             }
         }
     }
 
-    /// The steps of the file, or its first wrong line.
+    // All lines of the file: a last one that no line feed ends is read as if one did.
+    fn all_lines(
+        mut self,
+        store: &mut Store,
+        task: &Task,
+        names: &[NameEntry],
+    ) -> Result<ReadLines, ReadFault>
+        requires task { TaskHeld store.old task.now }
+        requires fed { (bytes : List ℕ) × IsFed store.old task.now names.now bytes self }
+        ensures read { IfOk result (λ l. (bytes : List ℕ)
+            → IsFed store.old task.now names.now bytes self
+            → AreLinesRead (task_at store.old task.now) names.now self.tallest store.new
+            (lines_of bytes) l) }
+        ensures fault { IfErr result (λ e. (bytes : List ℕ)
+            → IsFed store.old task.now names.now bytes self
+            → IsReadFault (task_at store.old task.now) names.now self.tallest bytes e) }
+        ensures again { (e : ReadFault) → self.fault ≡ Some e → result ≡ Err e }
+        ensures grows { Grows store.old store.new }
+    {
+        if let Some(fault) = self.fault {
+            return Err(fault);
+        }
+        if self.lines.rest.is_empty() {
+            return Ok(self.lines);
+        }
+        match self.read_piece(store, task, names, b"\n") {
+            Ok(()) => Ok(self.lines),
+            Err(fault) => Err(fault),
+        }
+    }
+
+    /// The steps of the file, or its first wrong line. The task, the names and the store are as for `feed`.
     pub fn finish(
         self,
         store: &mut Store,
         task: &Task,
         names: &[NameEntry],
     ) -> Result<Vec<Step>, ReadFault>
-        requires { TaskHeld store.old task.now }
-        ensures steps { IfOk result (λ v. StepsOf
-            (task_at store.old task.now) names.now self.tallest self.bytes
+        requires task { TaskHeld store.old task.now }
+        requires fed { (bytes : List ℕ) × IsFed store.old task.now names.now bytes self }
+        ensures steps { IfOk result (λ v. (bytes : List ℕ)
+            → IsFed store.old task.now names.now bytes self
+            → StepsOf (task_at store.old task.now) names.now self.tallest bytes
             (steps_at store.new v.items)) }
         ensures closes { IfOk result (λ v. Closes (task_at store.old task.now)
             (steps_at store.new v.items)) }
         ensures held { IfOk result (λ v. StepsHeld store.new v.items) }
-        ensures whole { OnOk result (self.lost ≡ false) }
-        ensures fault { IfErr result (IsReadFault (task_at store.old task.now) names.now
-            self.tallest
-            self.bytes) }
-        ensures complete { IfErr result (λ e. (steps : List StepTree)
-            → StepsOf (task_at store.old task.now) names.now self.tallest self.bytes steps → e
-            ≡ Memory) }
-        ensures lost { self.lost ≡ true → result ≡ Err Memory }
+        ensures fault { IfErr result (λ e. (bytes : List ℕ)
+            → IsFed store.old task.now names.now bytes self
+            → IsReadFault (task_at store.old task.now) names.now self.tallest bytes e) }
+        ensures again { (e : ReadFault) → self.fault ≡ Some e → result ≡ Err e }
         ensures grows { Grows store.old store.new }
     {
-        if self.lost {
-            return Err(ReadFault::Memory);
+        match self.all_lines(store, task, names) {
+            Ok(lines) => last_steps(store, task, lines),
+            Err(fault) => Err(fault),
         }
-        read_whole(self.alloc, store, task, names, self.tallest, &self.bytes)
+    }
+}
+
+/// The steps of a whole file, or its first wrong line. It refuses formulas that are taller than `tallest`.
+pub fn read_whole(
+    alloc: Global,
+    store: &mut Store,
+    task: &Task,
+    names: &[NameEntry],
+    tallest: Option<u64>,
+    bytes: &[u8],
+) -> Result<Vec<Step>, ReadFault>
+    requires { TaskHeld store.old task.now }
+    ensures steps { IfOk result (λ v. StepsOf (task_at store.old task.now) names.now tallest
+        bytes.now (steps_at store.new v.items)) }
+    ensures closes { IfOk result (λ v. Closes (task_at store.old task.now)
+        (steps_at store.new v.items)) }
+    ensures held { IfOk result (λ v. StepsHeld store.new v.items) }
+    ensures fault { IfErr result (IsReadFault (task_at store.old task.now) names.now tallest
+        bytes.now) }
+    ensures complete { IfErr result (λ e. (steps : List StepTree)
+        → StepsOf (task_at store.old task.now) names.now tallest bytes.now steps → e ≡ Memory) }
+    ensures grows { Grows store.old store.new }
+{
+    let mut reader = StepReader::new(alloc, tallest);
+    match reader.feed(store, task, names, bytes) {
+        Ok(()) => reader.finish(store, task, names),
+        Err(fault) => Err(fault),
     }
 }

@@ -1,16 +1,16 @@
 //! Files of steps with all lines and rules, read.
 //!
-//! Contract: the steps of a file, or its first wrong line.
+//! Contract: the steps of a file, which may come in pieces, or its first wrong line as soon as it is ended.
 #![tactic(auto)]
 
+mod ended;
 mod fault;
 mod feeding;
 mod good;
 mod marks;
 mod read;
-mod reader;
 mod words;
 
 pub use fault::ReadFault;
-pub use feeding::StepReader;
+pub use feeding::{StepReader, read_whole};
 pub use name_entries::{NameEntry, NameOf};

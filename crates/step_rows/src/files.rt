@@ -37,7 +37,8 @@ fn read_file(
     let mut reader = StepReader::new(alloc, None);
     reader.feed(store, task, table, first)?;
     reader.feed(store, task, table, second)?;
-    reader.finish(store, task, table)
+    let steps = reader.finish(store, task, table)?;
+    Ok(steps)
 }
 
 // The first wrong line of a file, if there is one.
@@ -142,6 +143,62 @@ fn put_file(
     }
 }
 
+// The steps of a file, which is read in pieces of so many bytes, and how many bytes were taken.
+fn read_pieces(
+    alloc: Global,
+    store: &mut Store,
+    task: &Task,
+    table: &[NameEntry],
+    file: &[u8],
+    size: usize,
+    taken: &mut usize,
+) -> Result<Vec<Step>, ReadFault>
+    requires { TaskHeld store.old task.now }
+    ensures { TaskHeld store.new task.now }
+{
+    let mut reader = StepReader::new(alloc, None);
+    *taken = 0;
+    for k in 0..file.len() {
+        let end = k + 1;
+        if end == file.len() || end - *taken == size {
+            reader.feed(store, task, table, &file[*taken..end])?;
+            *taken = end;
+        }
+    }
+    let steps = reader.finish(store, task, table)?;
+    Ok(steps)
+}
+
+// How many steps a file has that is read in pieces, or its first wrong line and the bytes that were taken before the piece
+// that is refused.
+fn put_pieces(
+    alloc: Global,
+    text: &mut String,
+    store: &mut Store,
+    task: &Task,
+    tables: &Tables,
+    file: &[u8],
+    size: usize,
+) -> Result<(), AllocError>
+    requires { TaskHeld store.old task.now }
+    ensures { TaskHeld store.new task.now }
+{
+    let mut taken = 0;
+    match read_pieces(alloc, store, task, &tables.read, file, size, &mut taken) {
+        Ok(steps) => {
+            put_number(alloc, text, steps.len())?;
+            text.push_str(" steps")
+        }
+        Err(ReadFault::WrongLine { line }) => {
+            text.push_str("line ")?;
+            put_line_number(alloc, text, line)?;
+            text.push_str(" after ")?;
+            put_number(alloc, text, taken)
+        }
+        Err(ReadFault::Memory) => Err(AllocError),
+    }
+}
+
 // The text of a file, with a semicolon for each line feed.
 fn put_bytes(text: &mut String, file: &[u8]) -> Result<(), AllocError> {
     for byte in file {
@@ -234,7 +291,8 @@ fn bytes_of(
     Ok(bytes)
 }
 
-// What is asked of a file: by `c` its beginnings, by `w` its text, by a number and a line the file with this line there.
+// What is asked of a file: by `c` its beginnings, by `w` its text, by `b` and a number what it is in pieces of so many bytes, by
+// a number and a line the file with this line there.
 fn put_asked(
     alloc: Global,
     text: &mut String,
@@ -252,6 +310,9 @@ fn put_asked(
         return put_file(alloc, text, store, task, tables, &file);
     }
     let file = bytes_of(alloc, lines, None, "")?;
+    if let Some(size) = asked.strip_prefix("b") {
+        return put_pieces(alloc, text, store, task, tables, &file, number_of(size));
+    }
     if asked == "c" {
         put_cuts(alloc, text, store, task, tables, &file)
     } else if asked == "w" {

@@ -11,5 +11,5 @@ mod writer;
 pub use kernel::{closes, ends_in_start, first_wrong, right_step};
 pub use name_tables::{NameEntry, NameOf, task_names};
 pub use rule_words::{Argument, word_of, written_rule};
-pub use step_files::{ReadFault, StepReader};
+pub use step_files::{ReadFault, StepReader, read_whole};
 pub use writer::{write_derivation, write_steps, written_steps};
