@@ -10,6 +10,7 @@ pub mod AnswerParts
 pub mod PlainParts
 pub mod OpenedParts
 pub mod LinkCounts
+pub mod LinkedParts
 pub mod MemberParts
 pub mod MemberAnswers
 pub mod BranchPairs

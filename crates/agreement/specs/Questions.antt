@@ -50,6 +50,12 @@ pub record IsShownLink (d : DraftTree) (x : Link) : Type 0 where
   pub pair : ArePair d x.left x.right
   pub shows : Shows d x.alike (tree_at d.trees x.left) (tree_at d.trees x.right)
 
+-- a question, with evidence for the parts of its two expressions
+pub record HasLinkedParts (d : DraftTree) (q : Question) (links : List Link) : Type 0 where
+  pub asked : IsAsked d q
+  pub linked : All (IsShownLink d) links
+  pub parts : ArePartsOf d.task q.number (tree_at d.trees q.left) (tree_at d.trees q.right) (links_at d.trees links)
+
 -- the first question is asked before the second is answered
 abbrev pub IsLower : List Tree → Question → Question → Type 0
 IsLower s p q = (rank (tree_at s p.left) zero_ranks 0 < rank (tree_at s q.left) zero_ranks 0) ⊎ ((rank (tree_at s p.left) zero_ranks 0 ≤ rank (tree_at s q.left) zero_ranks 0) × (p.left.0 < q.left.0))

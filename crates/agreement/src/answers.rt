@@ -1,12 +1,12 @@
 // Evidence for two expressions of one operator, from evidence for their parts.
-ghost use Rattle.std.specs.Prelude.{◌≡◌, List, [], ◌∷◌, All, IfOk};
+ghost use Rattle.std.specs.Prelude.{◌≡◌, [], ◌∷◌, IfOk};
 ghost use Rattle.trees.specs.Tree.{Tree, One, Two, Three, HNot, HJoin, HEq, HIf, HLet};
 ghost use Rattle.trees.specs.Node.{tree_at, Holds};
 ghost use Rattle.evidence.specs.Drafts.{Extends};
 ghost use Rattle.congruence.specs.Alike.{ArePair, Shows};
 ghost use Rattle.congruence.specs.Quantifiers.{quantifier_head};
 ghost use Rattle.agreement.specs.Agreement.{ArePartsOf};
-ghost use Rattle.agreement.specs.Questions.{IsAsked, IsShownLink, links_at};
+ghost use Rattle.agreement.specs.Questions.{IsAsked, IsShownLink, HasLinkedParts, links_at};
 
 use crate::branches::answer_case;
 use crate::members::answer_symbol;
@@ -22,17 +22,14 @@ use tasks::Grow;
 use trees::{Node, Op, TermId};
 
 // For two negations.
-fn answer_not(draft: &mut Draft, q: Question, a: TermId, part: Link) -> Result<AlikeBy, AllocError>
-    requires asked { IsAsked draft.old q }
-    requires left { tree_at draft.old.trees q.left ≡ One HNot (tree_at draft.old.trees a) }
-    requires part { IsShownLink draft.old part }
-    requires parts { ArePartsOf draft.old.task q.number (tree_at draft.old.trees q.left)
-        (tree_at draft.old.trees q.right) (links_at draft.old.trees (part ∷ [])) }
+fn answer_not(draft: &mut Draft, q: Question, links: &[Link]) -> Result<AlikeBy, AllocError>
+    requires linked { HasLinkedParts draft.old q links.now }
+    requires left { (a : Tree) × (tree_at draft.old.trees q.left ≡ One HNot a) }
     ensures shows { IfOk result (λ w. Shows draft.new w (tree_at draft.old.trees q.left)
         (tree_at draft.old.trees q.right)) }
     ensures grows { Extends draft.old draft.new }
 {
-    let _ = a;
+    let part = links[0];
     let made = alike_not(draft, q.left, q.right, part.left, part.right, part.alike)?;
     Ok(made)
 }
@@ -42,24 +39,17 @@ fn answer_join(
     draft: &mut Draft,
     q: Question,
     op: Op,
-    a: TermId,
-    c: TermId,
-    first: Link,
-    second: Link,
+    links: &[Link],
 ) -> Result<AlikeBy, AllocError>
-    requires asked { IsAsked draft.old q }
-    requires left { tree_at draft.old.trees q.left ≡ Two (HJoin op) (tree_at draft.old.trees a)
-        (tree_at draft.old.trees c) }
-    requires first { IsShownLink draft.old first }
-    requires second { IsShownLink draft.old second }
-    requires parts { ArePartsOf draft.old.task q.number (tree_at draft.old.trees q.left)
-        (tree_at draft.old.trees q.right) (links_at draft.old.trees (first ∷ second ∷ [])) }
+    requires linked { HasLinkedParts draft.old q links.now }
+    requires left { (a : Tree) × ((c : Tree) × (tree_at draft.old.trees q.left
+        ≡ Two (HJoin op) a c)) }
     ensures shows { IfOk result (λ w. Shows draft.new w (tree_at draft.old.trees q.left)
         (tree_at draft.old.trees q.right)) }
     ensures grows { Extends draft.old draft.new }
 {
-    let _ = a;
-    let _ = c;
+    let first = links[0];
+    let second = links[1];
     let made = alike_join(
         draft,
         op,
@@ -76,27 +66,15 @@ fn answer_join(
 }
 
 // For two equations.
-fn answer_equal(
-    draft: &mut Draft,
-    q: Question,
-    a: TermId,
-    c: TermId,
-    first: Link,
-    second: Link,
-) -> Result<AlikeBy, AllocError>
-    requires asked { IsAsked draft.old q }
-    requires left { tree_at draft.old.trees q.left ≡ Two HEq (tree_at draft.old.trees a)
-        (tree_at draft.old.trees c) }
-    requires first { IsShownLink draft.old first }
-    requires second { IsShownLink draft.old second }
-    requires parts { ArePartsOf draft.old.task q.number (tree_at draft.old.trees q.left)
-        (tree_at draft.old.trees q.right) (links_at draft.old.trees (first ∷ second ∷ [])) }
+fn answer_equal(draft: &mut Draft, q: Question, links: &[Link]) -> Result<AlikeBy, AllocError>
+    requires linked { HasLinkedParts draft.old q links.now }
+    requires left { (a : Tree) × ((c : Tree) × (tree_at draft.old.trees q.left ≡ Two HEq a c)) }
     ensures shows { IfOk result (λ w. Shows draft.new w (tree_at draft.old.trees q.left)
         (tree_at draft.old.trees q.right)) }
     ensures grows { Extends draft.old draft.new }
 {
-    let _ = a;
-    let _ = c;
+    let first = links[0];
+    let second = links[1];
     let made = alike_equal(
         draft,
         q.left,
@@ -112,32 +90,17 @@ fn answer_equal(
 }
 
 // For two `if`s.
-fn answer_if(
-    draft: &mut Draft,
-    q: Question,
-    c: TermId,
-    a: TermId,
-    b: TermId,
-    condition: Link,
-    then_part: Link,
-    else_part: Link,
-) -> Result<AlikeBy, AllocError>
-    requires asked { IsAsked draft.old q }
-    requires left { tree_at draft.old.trees q.left ≡ Three HIf (tree_at draft.old.trees c)
-        (tree_at draft.old.trees a) (tree_at draft.old.trees b) }
-    requires condition { IsShownLink draft.old condition }
-    requires then_part { IsShownLink draft.old then_part }
-    requires else_part { IsShownLink draft.old else_part }
-    requires parts { ArePartsOf draft.old.task q.number (tree_at draft.old.trees q.left)
-        (tree_at draft.old.trees q.right)
-        (links_at draft.old.trees (condition ∷ then_part ∷ else_part ∷ [])) }
+fn answer_if(draft: &mut Draft, q: Question, links: &[Link]) -> Result<AlikeBy, AllocError>
+    requires linked { HasLinkedParts draft.old q links.now }
+    requires left { (c : Tree) × ((a : Tree) × ((b : Tree) × (tree_at draft.old.trees q.left
+        ≡ Three HIf c a b))) }
     ensures shows { IfOk result (λ w. Shows draft.new w (tree_at draft.old.trees q.left)
         (tree_at draft.old.trees q.right)) }
     ensures grows { Extends draft.old draft.new }
 {
-    let _ = c;
-    let _ = a;
-    let _ = b;
+    let condition = links[0];
+    let then_part = links[1];
+    let else_part = links[2];
     let left = Conditional {
         whole: q.left,
         condition: condition.left,
@@ -249,19 +212,16 @@ fn answer_let(
 
 /// Evidence for two expressions of one operator, from evidence for all parts.
 pub(crate) fn answer(draft: &mut Draft, q: Question, links: &[Link]) -> Result<AlikeBy, AllocError>
-    requires asked { IsAsked draft.old q }
-    requires links { All (IsShownLink draft.old) links.now }
-    requires parts { ArePartsOf draft.old.task q.number (tree_at draft.old.trees q.left)
-        (tree_at draft.old.trees q.right) (links_at draft.old.trees links.now) }
+    requires linked { HasLinkedParts draft.old q links.now }
     ensures shows { IfOk result (λ w. Shows draft.new w (tree_at draft.old.trees q.left)
         (tree_at draft.old.trees q.right)) }
     ensures grows { Extends draft.old draft.new }
 {
     match draft.store().node(q.left) {
-        Node::Not(a) => answer_not(draft, q, a, links[0]),
-        Node::Join(op, a, c) => answer_join(draft, q, op, a, c, links[0], links[1]),
-        Node::Eq(a, c) => answer_equal(draft, q, a, c, links[0], links[1]),
-        Node::If(c, a, b) => answer_if(draft, q, c, a, b, links[0], links[1], links[2]),
+        Node::Not(_) => answer_not(draft, q, links),
+        Node::Join(op, _, _) => answer_join(draft, q, op, links),
+        Node::Eq(_, _) => answer_equal(draft, q, links),
+        Node::If(_, _, _) => answer_if(draft, q, links),
         Node::Forall(ty, a) => answer_under(draft, q, true, ty, a, links[0]),
         Node::Exists(ty, a) => answer_under(draft, q, false, ty, a, links[0]),
         Node::Let(v, a) => answer_let(draft, q, v, a, links[0]),

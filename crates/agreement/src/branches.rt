@@ -1,5 +1,5 @@
 // `match`es with the same patterns: the questions for their branches, and evidence from evidence for them.
-ghost use Rattle.std.specs.Prelude.{◌≡◌, ◌<◌, List, [], All, IfOk};
+ghost use Rattle.std.specs.Prelude.{◌≡◌, ◌<◌, List, [], IfOk};
 ghost use Rattle.trees.specs.declared.Sort.TheVariants.{Term};
 ghost use Rattle.trees.specs.Tree.{Tree, Two, HCase, HCell, HArm};
 ghost use Rattle.trees.specs.Node.{tree_at, trees_at, Holds};
@@ -14,10 +14,9 @@ ghost use Rattle.congruence.specs.Alike.{ArePair, Shows};
 ghost use Rattle.agreement.specs.Agreement.{ArePairedBranches, ArePartsOf};
 ghost use Rattle.agreement.specs.Questions.{
   IsAsked,
-  IsShownLink,
   AreQuestions,
   AddsQuestions,
-  links_at,
+  HasLinkedParts,
 };
 ghost use Rattle.agreement.specs.Branches.{
   AreAskedCases,
@@ -384,14 +383,11 @@ pub(crate) fn answer_case(
     arms: TermId,
     links: &[Link],
 ) -> Result<AlikeBy, AllocError>
-    requires asked { IsAsked draft.old q }
+    requires linked { HasLinkedParts draft.old q links.now }
     requires left { tree_at draft.old.trees q.left
         ≡ Two HCase (tree_at draft.old.trees by) (tree_at draft.old.trees arms) }
     requires by_held { Holds draft.old.trees by }
     requires arms_held { Holds draft.old.trees arms }
-    requires links { All (IsShownLink draft.old) links.now }
-    requires parts { ArePartsOf draft.old.task q.number (tree_at draft.old.trees q.left)
-        (tree_at draft.old.trees q.right) (links_at draft.old.trees links.now) }
     ensures shows { IfOk result (λ w. Shows draft.new w (tree_at draft.old.trees q.left)
         (tree_at draft.old.trees q.right)) }
     ensures grows { Extends draft.old draft.new }

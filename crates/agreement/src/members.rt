@@ -1,5 +1,5 @@
 // Applications of one symbol: the questions for their arguments, place by place, and evidence from evidence for them.
-ghost use Rattle.std.specs.Prelude.{◌≡◌, ◌<◌, List, [], All, IfOk};
+ghost use Rattle.std.specs.Prelude.{◌≡◌, ◌<◌, List, IfOk};
 ghost use Rattle.trees.specs.Tree.{Tree};
 ghost use Rattle.trees.specs.Node.{tree_at, trees_at, Holds};
 ghost use Rattle.images.specs.Templates.{listed};
@@ -9,12 +9,11 @@ ghost use Rattle.congruence.specs.Applications.{applied, IsSymbolHeld};
 ghost use Rattle.agreement.specs.Agreement.{ArePaired, ArePartsOf};
 ghost use Rattle.agreement.specs.Questions.{
   IsAsked,
-  IsShownLink,
   AreQuestions,
   AreLists,
   AddsQuestions,
   CanReplace,
-  links_at,
+  HasLinkedParts,
 };
 
 use crate::questions::{Link, Question};
@@ -125,14 +124,11 @@ pub(crate) fn answer_symbol(
     arguments: TermId,
     links: &[Link],
 ) -> Result<AlikeBy, AllocError>
-    requires asked { IsAsked draft.old q }
+    requires linked { HasLinkedParts draft.old q links.now }
     requires symbol_held { IsSymbolHeld draft.old.trees symbol }
     requires arguments_held { Holds draft.old.trees arguments }
     requires left { tree_at draft.old.trees q.left
         ≡ applied draft.old.trees symbol (tree_at draft.old.trees arguments) }
-    requires links { All (IsShownLink draft.old) links.now }
-    requires parts { ArePartsOf draft.old.task q.number (tree_at draft.old.trees q.left)
-        (tree_at draft.old.trees q.right) (links_at draft.old.trees links.now) }
     ensures shows { IfOk result (λ w. Shows draft.new w (tree_at draft.old.trees q.left)
         (tree_at draft.old.trees q.right)) }
     ensures grows { Extends draft.old draft.new }

@@ -71,27 +71,19 @@ agree_parts-agree_all-requires t c =
     let low = subst (All (λ (p : Question). IsLower d1.trees p q)) v a.lower in
     (omega (arith, same_rank), (pairs_later d d1 x as' r.atoms, (known_later d d1 x c.args.known.now r.known, (asked_later d d1 x q r.asked, (subst (All (IsAsked d1)) v a.asked, (subst (All (AgreeAsked d1 (pairs_at d1.trees as'))) v agree, low))))))
 
-pub agree_parts-answer-requires-clause-asked : goal.agree_parts-answer-requires-clause-asked
-agree_parts-answer-requires-clause-asked t c =
-    let d = c.args.draft.now in
-    let d1 = c.parts_of.new.draft in
-    let d2 = c.agree_all.new.draft in
-    asked_later d d2 (Extends_trans d d1 d2 (AddsTrees_extends d d1 c.in_ok-questions.ensures.grows) c.in_ok-agree_all.ensures.grows) c.args.q c.requires.asked
-
-pub agree_parts-answer-requires-clause-links : goal.agree_parts-answer-requires-clause-links
-agree_parts-answer-requires-clause-links t c =
-    let d = c.args.draft.now in
-    let d1 = c.parts_of.new.draft in
-    let d2 = c.agree_all.new.draft in
-    subst (All (IsShownLink d2)) (sym c.deref-2.ensures.value) (all_linked d d1 d2 (AddsTrees_extends d d1 c.in_ok-questions.ensures.grows) c.in_ok-agree_all.ensures.grows c.args.q c.requires.asked c.in_ok-questions.questions.items c.in_ok-questions.ensures.parts c.agree_all.new.links.items (subst (AddsLinks d1 d2 [] c.agree_all.new.links.items) c.deref.ensures.value (rw c.new-links.ensures.items at c.in_ok-agree_all.ensures.links)))
-
-pub agree_parts-answer-requires-clause-parts : goal.agree_parts-answer-requires-clause-parts
-agree_parts-answer-requires-clause-parts t c =
+pub agree_parts-answer-requires : goal.agree_parts-answer-requires
+agree_parts-answer-requires t c =
     let d = c.args.draft.now in
     let d1 = c.parts_of.new.draft in
     let d2 = c.agree_all.new.draft in
     let q = c.args.q in
-    subst (λ (z : List Link). ArePartsOf d2.task q.number (tree_at d2.trees q.left) (tree_at d2.trees q.right) (links_at d2.trees z)) (sym c.deref-2.ensures.value) (parts_linked d d1 d2 (AddsTrees_extends d d1 c.in_ok-questions.ensures.grows) c.in_ok-agree_all.ensures.grows c.args.q c.requires.asked c.in_ok-questions.questions.items c.in_ok-questions.ensures.parts c.agree_all.new.links.items (subst (AddsLinks d1 d2 [] c.agree_all.new.links.items) c.deref.ensures.value (rw c.new-links.ensures.items at c.in_ok-agree_all.ensures.links)))
+    record {
+      linked = record {
+        asked = asked_later d d2 (Extends_trans d d1 d2 (AddsTrees_extends d d1 c.in_ok-questions.ensures.grows) c.in_ok-agree_all.ensures.grows) q c.requires.asked;
+        linked = subst (All (IsShownLink d2)) (sym c.deref-2.ensures.value) (all_linked d d1 d2 (AddsTrees_extends d d1 c.in_ok-questions.ensures.grows) c.in_ok-agree_all.ensures.grows c.args.q c.requires.asked c.in_ok-questions.questions.items c.in_ok-questions.ensures.parts c.agree_all.new.links.items (subst (AddsLinks d1 d2 [] c.agree_all.new.links.items) c.deref.ensures.value (rw c.new-links.ensures.items at c.in_ok-agree_all.ensures.links)));
+        parts = subst (λ (z : List Link). ArePartsOf d2.task q.number (tree_at d2.trees q.left) (tree_at d2.trees q.right) (links_at d2.trees z)) (sym c.deref-2.ensures.value) (parts_linked d d1 d2 (AddsTrees_extends d d1 c.in_ok-questions.ensures.grows) c.in_ok-agree_all.ensures.grows c.args.q c.requires.asked c.in_ok-questions.questions.items c.in_ok-questions.ensures.parts c.agree_all.new.links.items (subst (AddsLinks d1 d2 [] c.agree_all.new.links.items) c.deref.ensures.value (rw c.new-links.ensures.items at c.in_ok-agree_all.ensures.links)));
+      };
+    }
 
 pub agree_parts-returns-clause-shows : goal.agree_parts-returns-clause-shows
 agree_parts-returns-clause-shows t c =

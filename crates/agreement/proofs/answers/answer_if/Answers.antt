@@ -1,19 +1,30 @@
-use Rattle.trees.specs.Node.{tree_at}
-use Rattle.congruence.proofs.CaseParts.{if_parts}
-use Rattle.agreement.proofs.AnswerParts.{if_is}
+use Rattle.std.proofs.Common.{arith}
+use Rattle.agreement.proofs.LinkedParts.{itself, ifs}
 use Rattle.agreement.proofs.answers.answer_if.Goals as goal
 
+pub bounds-links-0 : goal.bounds-links-0
+bounds-links-0 c = omega (arith, (ifs c.args.draft.now c.args.q c.args.links.now c.requires.linked c.requires.left).0)
+
+pub bounds-links-1 : goal.bounds-links-1
+bounds-links-1 c = omega (arith, (ifs c.args.draft.now c.args.q c.args.links.now c.requires.linked c.requires.left).0)
+
+pub bounds-links-2 : goal.bounds-links-2
+bounds-links-2 c = (ifs c.args.draft.now c.args.q c.args.links.now c.requires.linked c.requires.left).0
+
 pub alike_ifs-requires-clause-left : goal.alike_ifs-requires-clause-left
-alike_ifs-requires-clause-left c = if_parts c.args.draft.now (record { whole = c.args.q.left; condition = c.args.condition.left; then_part = c.args.then_part.left; else_part = c.args.else_part.left }) c.requires.asked.pair.left (if_is c.args.draft.now.task c.args.q.number (tree_at c.args.draft.now.trees c.args.q.left) (tree_at c.args.draft.now.trees c.args.q.right) (tree_at c.args.draft.now.trees c.args.c) (tree_at c.args.draft.now.trees c.args.a) (tree_at c.args.draft.now.trees c.args.b) (tree_at c.args.draft.now.trees c.args.condition.left) (tree_at c.args.draft.now.trees c.args.condition.right) (tree_at c.args.draft.now.trees c.args.then_part.left) (tree_at c.args.draft.now.trees c.args.then_part.right) (tree_at c.args.draft.now.trees c.args.else_part.left) (tree_at c.args.draft.now.trees c.args.else_part.right) c.requires.left c.requires.parts).0 c.requires.condition.pair.left.held c.requires.then_part.pair.left.held c.requires.else_part.pair.left.held
+alike_ifs-requires-clause-left c = ((ifs c.args.draft.now c.args.q c.args.links.now c.requires.linked c.requires.left).1 _ _ _).left
 
 pub alike_ifs-requires-clause-right : goal.alike_ifs-requires-clause-right
-alike_ifs-requires-clause-right c = if_parts c.args.draft.now (record { whole = c.args.q.right; condition = c.args.condition.right; then_part = c.args.then_part.right; else_part = c.args.else_part.right }) c.requires.asked.pair.right (if_is c.args.draft.now.task c.args.q.number (tree_at c.args.draft.now.trees c.args.q.left) (tree_at c.args.draft.now.trees c.args.q.right) (tree_at c.args.draft.now.trees c.args.c) (tree_at c.args.draft.now.trees c.args.a) (tree_at c.args.draft.now.trees c.args.b) (tree_at c.args.draft.now.trees c.args.condition.left) (tree_at c.args.draft.now.trees c.args.condition.right) (tree_at c.args.draft.now.trees c.args.then_part.left) (tree_at c.args.draft.now.trees c.args.then_part.right) (tree_at c.args.draft.now.trees c.args.else_part.left) (tree_at c.args.draft.now.trees c.args.else_part.right) c.requires.left c.requires.parts).1 c.requires.condition.pair.right.held c.requires.then_part.pair.right.held c.requires.else_part.pair.right.held
+alike_ifs-requires-clause-right c = ((ifs c.args.draft.now c.args.q c.args.links.now c.requires.linked c.requires.left).1 _ _ _).right
+
+pub alike_ifs-requires-clause-sides : goal.alike_ifs-requires-clause-sides
+alike_ifs-requires-clause-sides c = c.requires.linked.asked.pair
 
 pub alike_ifs-requires-clause-left_is : goal.alike_ifs-requires-clause-left_is
-alike_ifs-requires-clause-left_is c = (if_is c.args.draft.now.task c.args.q.number (tree_at c.args.draft.now.trees c.args.q.left) (tree_at c.args.draft.now.trees c.args.q.right) (tree_at c.args.draft.now.trees c.args.c) (tree_at c.args.draft.now.trees c.args.a) (tree_at c.args.draft.now.trees c.args.b) (tree_at c.args.draft.now.trees c.args.condition.left) (tree_at c.args.draft.now.trees c.args.condition.right) (tree_at c.args.draft.now.trees c.args.then_part.left) (tree_at c.args.draft.now.trees c.args.then_part.right) (tree_at c.args.draft.now.trees c.args.else_part.left) (tree_at c.args.draft.now.trees c.args.else_part.right) c.requires.left c.requires.parts).0
+alike_ifs-requires-clause-left_is c = ((ifs c.args.draft.now c.args.q c.args.links.now c.requires.linked c.requires.left).1 _ _ _).left_is
 
 pub alike_ifs-requires-clause-right_is : goal.alike_ifs-requires-clause-right_is
-alike_ifs-requires-clause-right_is c = (if_is c.args.draft.now.task c.args.q.number (tree_at c.args.draft.now.trees c.args.q.left) (tree_at c.args.draft.now.trees c.args.q.right) (tree_at c.args.draft.now.trees c.args.c) (tree_at c.args.draft.now.trees c.args.a) (tree_at c.args.draft.now.trees c.args.b) (tree_at c.args.draft.now.trees c.args.condition.left) (tree_at c.args.draft.now.trees c.args.condition.right) (tree_at c.args.draft.now.trees c.args.then_part.left) (tree_at c.args.draft.now.trees c.args.then_part.right) (tree_at c.args.draft.now.trees c.args.else_part.left) (tree_at c.args.draft.now.trees c.args.else_part.right) c.requires.left c.requires.parts).1
+alike_ifs-requires-clause-right_is c = ((ifs c.args.draft.now c.args.q c.args.links.now c.requires.linked c.requires.left).1 _ _ _).right_is
 
 pub alike_ifs-requires-clause-links : goal.alike_ifs-requires-clause-links
-alike_ifs-requires-clause-links c = record { condition = c.requires.condition.shows; then_part = c.requires.then_part.shows; else_part = c.requires.else_part.shows }
+alike_ifs-requires-clause-links c = record { condition = ((ifs c.args.draft.now c.args.q c.args.links.now c.requires.linked c.requires.left).1 _ (itself c.args.q) (itself c.args.q)).condition.shows; then_part = ((ifs c.args.draft.now c.args.q c.args.links.now c.requires.linked c.requires.left).1 (itself c.args.q) _ (itself c.args.q)).then_part.shows; else_part = ((ifs c.args.draft.now c.args.q c.args.links.now c.requires.linked c.requires.left).1 (itself c.args.q) (itself c.args.q) _).else_part.shows }

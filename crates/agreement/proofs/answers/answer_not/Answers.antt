@@ -1,22 +1,26 @@
-use Rattle.std.proofs.Common.{ap}
-use Rattle.trees.specs.Node.{tree_at}
-use Rattle.trees.specs.Sorts.{sort_of}
-use Rattle.congruence.proofs.CaseParts.{closed_formula}
-use Rattle.agreement.proofs.AnswerParts.{not_is}
-use Rattle.agreement.proofs.PlainParts.{under_not}
+use Rattle.agreement.proofs.LinkedParts.{itself, nots}
 use Rattle.agreement.proofs.answers.answer_not.Goals as goal
 
+pub bounds-links-0 : goal.bounds-links-0
+bounds-links-0 c = (nots c.args.draft.now c.args.q c.args.links.now c.requires.linked c.requires.left).0
+
+pub alike_not-requires-clause-pair : goal.alike_not-requires-clause-pair
+alike_not-requires-clause-pair c = ((nots c.args.draft.now c.args.q c.args.links.now c.requires.linked c.requires.left).1 _).shown.pair
+
 pub alike_not-requires-clause-formula : goal.alike_not-requires-clause-formula
-alike_not-requires-clause-formula c = (under_not c.args.draft.now c.args.q.left c.requires.asked.pair.left c.args.part.left c.requires.part.pair.left.held (not_is c.args.draft.now.task c.args.q.number (tree_at c.args.draft.now.trees c.args.q.left) (tree_at c.args.draft.now.trees c.args.q.right) (tree_at c.args.draft.now.trees c.args.a) (tree_at c.args.draft.now.trees c.args.part.left) (tree_at c.args.draft.now.trees c.args.part.right) c.requires.left c.requires.parts).0).ground.sort
+alike_not-requires-clause-formula c = ((nots c.args.draft.now c.args.q c.args.links.now c.requires.linked c.requires.left).1 _).formula
 
 pub alike_not-requires-clause-left : goal.alike_not-requires-clause-left
-alike_not-requires-clause-left c = closed_formula c.args.draft.now c.args.q.left c.requires.asked.pair.left (ap sort_of (not_is c.args.draft.now.task c.args.q.number (tree_at c.args.draft.now.trees c.args.q.left) (tree_at c.args.draft.now.trees c.args.q.right) (tree_at c.args.draft.now.trees c.args.a) (tree_at c.args.draft.now.trees c.args.part.left) (tree_at c.args.draft.now.trees c.args.part.right) c.requires.left c.requires.parts).0)
+alike_not-requires-clause-left c = ((nots c.args.draft.now c.args.q c.args.links.now c.requires.linked c.requires.left).1 (itself c.args.q)).left
 
 pub alike_not-requires-clause-right : goal.alike_not-requires-clause-right
-alike_not-requires-clause-right c = closed_formula c.args.draft.now c.args.q.right c.requires.asked.pair.right (ap sort_of (not_is c.args.draft.now.task c.args.q.number (tree_at c.args.draft.now.trees c.args.q.left) (tree_at c.args.draft.now.trees c.args.q.right) (tree_at c.args.draft.now.trees c.args.a) (tree_at c.args.draft.now.trees c.args.part.left) (tree_at c.args.draft.now.trees c.args.part.right) c.requires.left c.requires.parts).1)
+alike_not-requires-clause-right c = ((nots c.args.draft.now c.args.q c.args.links.now c.requires.linked c.requires.left).1 (itself c.args.q)).right
 
 pub alike_not-requires-clause-left_is : goal.alike_not-requires-clause-left_is
-alike_not-requires-clause-left_is c = (not_is c.args.draft.now.task c.args.q.number (tree_at c.args.draft.now.trees c.args.q.left) (tree_at c.args.draft.now.trees c.args.q.right) (tree_at c.args.draft.now.trees c.args.a) (tree_at c.args.draft.now.trees c.args.part.left) (tree_at c.args.draft.now.trees c.args.part.right) c.requires.left c.requires.parts).0
+alike_not-requires-clause-left_is c = ((nots c.args.draft.now c.args.q c.args.links.now c.requires.linked c.requires.left).1 _).left_is
 
 pub alike_not-requires-clause-right_is : goal.alike_not-requires-clause-right_is
-alike_not-requires-clause-right_is c = (not_is c.args.draft.now.task c.args.q.number (tree_at c.args.draft.now.trees c.args.q.left) (tree_at c.args.draft.now.trees c.args.q.right) (tree_at c.args.draft.now.trees c.args.a) (tree_at c.args.draft.now.trees c.args.part.left) (tree_at c.args.draft.now.trees c.args.part.right) c.requires.left c.requires.parts).1
+alike_not-requires-clause-right_is c = ((nots c.args.draft.now c.args.q c.args.links.now c.requires.linked c.requires.left).1 _).right_is
+
+pub alike_not-requires-clause-shows : goal.alike_not-requires-clause-shows
+alike_not-requires-clause-shows c = ((nots c.args.draft.now c.args.q c.args.links.now c.requires.linked c.requires.left).1 _).shown.shows

@@ -9,7 +9,7 @@ pub alike_branches-requires : goal.alike_branches-requires
 alike_branches-requires c =
     let d = c.args.draft.now in
     let q = c.args.q in
-    let p = c.requires.asked.pair in
+    let p = c.requires.linked.asked.pair in
     let b = c.in-Case.other_by in
     let o = c.in-Case.other_arms in
     let e : tree_at d.trees q.right ≡ Two HCase (tree_at d.trees b) (tree_at d.trees o) = subst (λ (s : List Tree). tree_at s q.right ≡ Two HCase (tree_at s b) (tree_at s o)) c.store.ensures c.in-Case.ensures.tree in
@@ -20,7 +20,7 @@ alike_branches-requires c =
         pair = p;
         left_case = record { closed = p.left; by_held = c.requires.by_held; arms_held = c.requires.arms_held; is = c.requires.left };
         right_case = record { closed = p.right; by_held = hb; arms_held = ho; is = e };
-        linked = c.requires.links;
-        paired = case_paired d.task q.number (tree_at d.trees q.left) (tree_at d.trees q.right) (tree_at d.trees c.args.by) (tree_at d.trees c.args.arms) (tree_at d.trees b) (tree_at d.trees o) (links_at d.trees c.args.links.now) c.requires.left e c.requires.parts;
+        linked = c.requires.linked.linked;
+        paired = case_paired d.task q.number (tree_at d.trees q.left) (tree_at d.trees q.right) (tree_at d.trees c.args.by) (tree_at d.trees c.args.arms) (tree_at d.trees b) (tree_at d.trees o) (links_at d.trees c.args.links.now) c.requires.left e c.requires.linked.parts;
       };
     }
