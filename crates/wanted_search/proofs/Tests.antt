@@ -7,16 +7,15 @@ use Rattle.std.proofs.lemmas.List.{at_drop_more, drop_all}
 use Rattle.std.proofs.lemmas.List.Folds.{list_any-append}
 use Rattle.std.proofs.lemmas.Option.{slice_get-map}
 use Rattle.std.specs.Option.{option_map}
-use Rattle.linear_leaf.specs.Valuations.{same_tree, same_head}
-use Rattle.linear_leaf.proofs.SameTree.{same_is, same_refl}
+use Rattle.wanted_instances.specs.linear_leaf.Valuations.{same_tree}
 use Rattle.trees.specs.declared.TermId.{TermId}
 use Rattle.trees.specs.Node.{tree_at, trees_at}
 use Rattle.trees.specs.Tree.{Tree, Leaf, One, Two, Three, Head, HTyVar, HTyRigid, HTyApp}
 use Rattle.name_tables.specs.Occurrences.{Occurrence}
 use Rattle.name_tables.specs.Tables.{is_same}
 use Rattle.name_tables.specs.Seen.{occurrence_at, seen_occurrences, has, with_one, with_all, GainsKeys}
-use Rattle.name_tables.proofs.Gathering.{same_occurrence}
-use Rattle.wanted_instances.specs.Instances.{leaf_types, one_types, types_within, has_variable, mentions}
+use Rattle.name_tables.proofs.Gathering.{same_occurrence, same_itself}
+use Rattle.wanted_instances.specs.Instances.{equality_at, leaf_types, one_types, types_within, has_variable, mentions}
 use Rattle.wanted_instances.specs.Wanted.{each_below, is_of_symbol, occurring, of_symbols, named_suffice, driving}
 use Rattle.wanted_instances.specs.Search.{known_fits, may_fit, matches}
 use Rattle.wanted_search.specs.declared.asking.AskingInstance.{AskingInstance}
@@ -69,17 +68,17 @@ pub any_with_all : (f : Occurrence → Bool) (os ps : List Occurrence) → list_
 any_with_all f os [] = sym (or_none (list_any f os))
 any_with_all f os (p ∷ ps) = any_with_all f (with_one os p) ps ∙ ap (λ b. b || list_any f ps) (any_with_one f os p) ∙ either_way (list_any f os) (f p) (list_any f ps)
 
+pub and_none : (a : Bool) → (a && false) ≡ false
+and_none true = refl
+and_none false = refl
+
 -- a test of each number below n
 pub each_fails : (n j : ℕ) (p : ℕ → Bool) → j < n → p j ≡ false → each_below n p ≡ false
 each_fails zero j p l e = absurd (omega arith)
 each_fails (suc n) j p l e = elim (cases_lt j n) [
   | inl k ↦ ap (λ b. b && p n) (each_fails n j p k e)
-  | inr k ↦ let same : j ≡ n = omega arith in ap (λ b. each_below n p && b) (subst (λ i. p i ≡ false) same e) ∙ none (each_below n p)
+  | inr k ↦ let same : j ≡ n = omega arith in ap (λ b. each_below n p && b) (subst (λ i. p i ≡ false) same e) ∙ and_none (each_below n p)
 ]
-  where
-    none : (a : Bool) → (a && false) ≡ false
-    none true = refl
-    none false = refl
 
 -- ---- type variables, by the types in a tree
 module _ (j : ℕ) where
@@ -133,17 +132,15 @@ any_later f xs i d l t = at_drop_more (list_any f) xs i d l ∙ ap (λ b. b || l
 pub any_over : {A : Type 0} (f : A → Bool) (xs : List A) (i : ℕ) → length xs ≤ i → list_any f (drop i xs) ≡ false
 any_over f xs i l = ap (list_any f) (drop_all i xs l)
 
--- ---- tests that tell equal trees and operators
+-- ---- tests that tell equal trees
 told : (a b : Bool) → (a ≡ true → b ≡ true) → (b ≡ true → a ≡ true) → a ≡ b
 told true b f g = sym (f refl)
 told false true f g = g refl
 told false false f g = refl
 
 pub tree_told : (r : Bool) (x y : Tree) → IsTrue r ↔ (x ≡ y) → r ≡ same_tree x y
-tree_told r x y h = told r (same_tree x y) (λ t. subst (λ z. same_tree x z ≡ true) (h.0 t) (same_refl x)) (λ e. h.1 (same_is x y e))
-
-pub head_told : (r : Bool) (g h : Head) → IsTrue r ↔ (g ≡ h) → r ≡ same_head g h
-head_told r g h p = told r (same_head g h) (λ t. subst (λ z. same_tree (Leaf g) (Leaf z) ≡ true) (p.0 t) (same_refl (Leaf g))) (λ e. p.1 (let q = same_is (Leaf g) (Leaf h) e in cc))
+tree_told r x y h =
+    told r (same_tree x y) (λ t. subst (λ z. same_tree x z ≡ true) (h.0 t) (same_itself (equality_at x))) (λ e. h.1 (ap (λ (o : Occurrence). o.types) (same_occurrence (equality_at x) (equality_at y) e)))
 
 -- what a known type is, against a ground one
 pub known_told : (s : List Tree) (known : List TermId) (j : ℕ) (id : TermId) (e : Tree) (r : Bool) → slice_get known j ≡ Some id → IsTrue r ↔ (tree_at s id ≡ e) → r ≡ known_fits (slice_get (trees_at s known) j) e
