@@ -1,6 +1,6 @@
 -- The indices of open terms put into a tree fit where all are small.
 use Rattle.std.proofs.Common.{◌≡◌, ℕ, ◌+◌, ◌<◌, ◌≤◌, ◌⊎◌, inl, inr, List, length, get_or, arith}
-use Rattle.trees.specs.Tree.{Tree, Leaf, One, Two, Three, Head, HBound, HTyVar, HForall, HExists, HLet, HArm, binders, binders_over, pat_vars, loose, size}
+use Rattle.trees.specs.Tree.{Tree, Leaf, One, Two, Three, Head, HBound, HTyVar, HForall, HExists, HLet, HArm, binders_over, loose, size}
 use Rattle.trees.specs.Binding.{change, leaf_by, shifting, instantiating_many, inst_many}
 use Rattle.trees.specs.Facts.{IndicesFit, index_fits}
 use Rattle.trees.proofs.Sizes.{small_indices, pat_vars_le}
@@ -12,21 +12,12 @@ use Rattle.trees.proofs.Sizes.{size_shift}
 shifted_fits : (t : Tree) (d : ℕ) → loose t + size t + d < 18446744073709551615 → IndicesFit (change (shifting d 0) 0 t)
 shifted_fits t d l = small_indices (change (shifting d 0) 0 t) (let m : loose (change (shifting d 0) 0 t) ≤ loose t + d = loose_shift t d 0 (loose t) (omega arith) in omega (arith, m, size_shift t d 0))
 
-some_nodes : (e : Tree) → 1 ≤ size e
-some_nodes (Leaf h) = omega arith
-some_nodes (One h a) = omega arith
-some_nodes (Two h a b) = omega arith
-some_nodes (Three h a b c) = omega arith
-
-few_binders : (h : Head) (n s : ℕ) → n ≤ s → 1 ≤ s → binders h n ≤ s
-few_binders HForall n s l k = k
-few_binders HExists n s l k = k
-few_binders HLet n s l k = k
-few_binders HArm n s l k = l
-few_binders _ n s l k = omega arith
-
-binders_at_most : (h : Head) (a : Tree) → binders_over h a ≤ size a
-binders_at_most h a = few_binders h (pat_vars a) (size a) (pat_vars_le a) (some_nodes a)
+few_binders : (h : Head) (a : Tree) → binders_over h a ≤ size a + 1
+few_binders HForall a = omega arith
+few_binders HExists a = omega arith
+few_binders HLet a = omega arith
+few_binders HArm a = omega (arith, pat_vars_le a)
+few_binders _ a = omega arith
 
 module _ (ts : List Tree) (most : ℕ) (each : (k : ℕ) (e : Tree) → k < length ts → loose (get_or ts k e) + size (get_or ts k e) + most < 18446744073709551615) where
   one_fits : (d : ℕ) (h : Head) (a : Tree) → d ≤ most → index_fits h → IndicesFit (change (instantiating_many ts) d a) → IndicesFit (change (instantiating_many ts) d (One h a))
@@ -47,7 +38,7 @@ module _ (ts : List Tree) (most : ℕ) (each : (k : ℕ) (e : Tree) → k < leng
   below_fits : (d : ℕ) (e : Tree) → IndicesFit e → d + size e ≤ most → IndicesFit (change (instantiating_many ts) d e)
   below_fits d (Leaf h) k l = leaf_fits h
   below_fits d (One h a) k l = one_fits d h a (omega arith) k.0 (below_fits d a k.1 (omega arith))
-  below_fits d (Two h a b) k l = (below_fits d a k.0 (omega arith), below_fits (d + binders_over h a) b k.1 (omega (arith, binders_at_most h a)))
+  below_fits d (Two h a b) k l = (below_fits d a k.0 (omega arith), below_fits (d + binders_over h a) b k.1 (omega (arith, few_binders h a)))
   below_fits d (Three h a b c) k l = (below_fits d a k.0 (omega arith), below_fits d b k.1 (omega arith), below_fits d c k.2 (omega arith))
 
   pub many_small : (e : Tree) → IndicesFit e → size e ≤ most → IndicesFit (inst_many e ts)

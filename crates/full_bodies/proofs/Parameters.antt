@@ -1,17 +1,16 @@
 -- Lists of distinct parameters, and trivial bodies.
 use Rattle.std.proofs.Common.{◌≡◌, ℕ, ℤ, ◌==◌, ◌||◌, ◌&&◌, not, Bool, true, false, List, [], ◌∷◌, ◌++◌, Some, None, refl, sym, ap, ◌∙◌}
+use Rattle.std.proofs.lemmas.Option.{same_Some}
 use Rattle.std.specs.List.{list_any}
 use Rattle.trees.specs.declared.TermId.{TermId}
 use Rattle.trees.specs.declared.Node.{Node}
 use Rattle.trees.specs.declared.Node.TheVariants.{Cell, Bound, Num, Fun, Pred, Eq}
 use Rattle.trees.specs.Tree.{Tree, Leaf, One, Two, Three, HCell, HBound}
 use Rattle.trees.specs.Node.{node_tree}
+use Rattle.tasks.proofs.outside.Bools.{or_false}
 use Rattle.recursive_groups.specs.decl_checks.Structure.{bound_index}
 use Rattle.inlining.specs.Inlining.{is_other_parameter, with_parameter, are_distinct_parameters, is_trivial}
 use Rattle.full_bodies.specs.Chosen.{AreTheSame, are_two_parameters}
-
-some_is : (i j : ℕ) → Some i ≡ Some j → i ≡ j
-some_is i j q = cc
 
 pub no_index : (s : List Tree) (n : Node) → ((i : ℕ) (a : TermId) → n ≡ Bound i a → ⊥) → None ≡ bound_index (node_tree s n)
 no_index s (Bound i a) g = absurd (g i a refl)
@@ -26,14 +25,14 @@ no_parameter seen (Three h a b c) q = refl
 
 other_parameter : (seen : List ℕ) (e : Tree) (i : ℕ) → bound_index e ≡ Some i → is_other_parameter seen e ≡ not (list_any (λ j. j == i) seen)
 other_parameter seen (Leaf h) i q = absurd (cc)
-other_parameter seen (One (HBound k) a) i q = ap (λ (m : ℕ). not (list_any (λ j. j == m) seen)) (some_is k i q)
+other_parameter seen (One (HBound k) a) i q = ap (λ (m : ℕ). not (list_any (λ j. j == m) seen)) (same_Some k i q)
 other_parameter seen (One _ a) i q = absurd (cc)
 other_parameter seen (Two h a b) i q = absurd (cc)
 other_parameter seen (Three h a b c) i q = absurd (cc)
 
 parameter_more : (seen : List ℕ) (e : Tree) (i : ℕ) → bound_index e ≡ Some i → with_parameter e seen ≡ i ∷ seen
 parameter_more seen (Leaf h) i q = absurd (cc)
-parameter_more seen (One (HBound k) a) i q = ap (λ (m : ℕ). m ∷ seen) (some_is k i q)
+parameter_more seen (One (HBound k) a) i q = ap (λ (m : ℕ). m ∷ seen) (same_Some k i q)
 parameter_more seen (One _ a) i q = absurd (cc)
 parameter_more seen (Two h a b) i q = absurd (cc)
 parameter_more seen (Three h a b c) i q = absurd (cc)
@@ -72,23 +71,19 @@ distinct_more before seen a b i r q h m p =
     p ∙ ap (λ (z : List ℕ). are_distinct_parameters z b) (sym (parameter_more before a i q)) ∙ sym (ap (λ (t : Bool). t && are_distinct_parameters (with_parameter a before) b) other)
 
 -- ---- two parameters
-and_false : (t : Bool) → (t && false) ≡ false
-and_false true = refl
-and_false false = refl
-
 pub two_first_other : (a b : Tree) → bound_index a ≡ None → false ≡ are_two_parameters a b
 two_first_other a b q = sym (ap (λ (t : Bool). t && is_other_parameter (with_parameter a []) b) (no_parameter [] a q))
 
 pub two_second_other : (a b : Tree) → bound_index b ≡ None → false ≡ are_two_parameters a b
-two_second_other a b q = sym (ap (λ (t : Bool). is_other_parameter [] a && t) (no_parameter (with_parameter a []) b q) ∙ and_false (is_other_parameter [] a))
-
-or_none : (t : Bool) → (t || false) ≡ t
-or_none true = refl
-or_none false = refl
+two_second_other a b q = by (is_other_parameter [] a) (is_other_parameter (with_parameter a []) b) (no_parameter (with_parameter a []) b q)
+  where
+    by : (s t : Bool) → t ≡ false → false ≡ (s && t)
+    by true t e = sym e
+    by false t e = refl
 
 pub two_parameters : (a b : Tree) (i j : ℕ) (r : Bool) → bound_index a ≡ Some i → bound_index b ≡ Some j → r ≡ not (i == j) → r ≡ are_two_parameters a b
 two_parameters a b i j r p q e =
-    e ∙ ap not (sym (or_none (i == j))) ∙ sym (ap (λ (z : List ℕ). not (list_any (λ k. k == j) z)) (parameter_more [] a i p)) ∙ sym (other_parameter (with_parameter a []) b j q)
+    e ∙ ap not (or_false (i == j)) ∙ sym (ap (λ (z : List ℕ). not (list_any (λ k. k == j) z)) (parameter_more [] a i p)) ∙ sym (other_parameter (with_parameter a []) b j q)
     ∙ sym (ap (λ (t : Bool). t && is_other_parameter (with_parameter a []) b) (other_parameter [] a i p))
 
 -- ---- trivial bodies

@@ -120,10 +120,6 @@ pub leaf_left : (r : RuleOver) (e : Tree) (h : Head) → image r.rule e ≡ over
 leaf_left r e h over q = q ∙ sym (over ∙ ap (over_parts r.rule) q)
 
 -- ---- answers of calls that fail
-pub no_value : {T E : Type 0} (P : T → Type 0) (Q : E → Type 0) (r : Result T E) → IsErrAnd r Q → IfOk r P
-no_value P Q (Ok v) h = absurd h
-no_value P Q (Err e) h = tt
-
 pub err_passed : {T E : Type 0} (P : E → Type 0) (r : Result T E) (g : E) → IsErrAnd r (λ (e : E). e ≡ g) → P g → IfErr r P
 err_passed P (Ok v) g h p = absurd h
 err_passed P (Err e) g h p = subst P (sym h) p

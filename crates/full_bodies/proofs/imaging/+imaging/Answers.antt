@@ -1,11 +1,14 @@
 use Rattle.std.proofs.Common.{rules, ◌≡◌, ◌<◌, length, true, false, subst, sym, ap, ◌∙◌, arith}
+use Rattle.trees.specs.declared.Parts.{Parts}
+use Rattle.trees.specs.declared.Parts.TheVariants as node_parts
 use Rattle.trees.specs.declared.Sort.TheVariants.{Term}
 use Rattle.trees.specs.Tree.{Tree, Leaf, One, Two, Three, HCell, HBound}
 use Rattle.trees.specs.Sorts.{sort_of, IsList}
 use Rattle.trees.specs.Binding.{inst_types, inst_many}
-use Rattle.trees.specs.Node.{tree_at, node_tree, Holds, Grows, assemble, head_of_node}
+use Rattle.trees.specs.Node.{tree_at, node_tree, Holds, Grows, assemble, head_of_node, IsLike, AreBelow}
 use Rattle.trees.proofs.Nodes.{Grows_refl, Grows_trans}
 use Rattle.tasks.specs.Typing.{members}
+use Rattle.tasks.proofs.outside.Passed.{no_value}
 use Rattle.binders.proofs.Rebuilt.{held_later}
 use Rattle.inlining.specs.images.Images.{image}
 use Rattle.image_trees.specs.Imaged.{RuleOver, AreImages}
@@ -18,7 +21,7 @@ use Rattle.full_bodies.specs.FullBodies.{IsFull, IsUseAt, IsArgument, AreArgumen
 use Rattle.full_bodies.specs.Inlined.{rule_of, inlined_at, CanInline, IsInlined}
 use Rattle.full_bodies.proofs.Bodies.{rule_keeps}
 use Rattle.full_bodies.proofs.ListMembers.{cell_parts}
-use Rattle.full_bodies.proofs.Steps.{rule_same, go, back, inlined_same, fault_as, fault_within, no_value, err_passed, none_full, use_made, whole_large, argument_large, arguments_fault, argument_fault_used, argument_fault_first, argument_fault_rest, image_sort, cell_fits, cell_arguments, end_arguments, not_bound, one_large, two_large_first, two_large_second, three_large_first, three_large_second, three_large_third, variable_left, leaf_left, typed_cell}
+use Rattle.full_bodies.proofs.Steps.{rule_same, go, back, inlined_same, fault_as, fault_within, err_passed, none_full, use_made, whole_large, argument_large, arguments_fault, argument_fault_used, argument_fault_first, argument_fault_rest, image_sort, cell_fits, cell_arguments, end_arguments, not_bound, one_large, two_large_first, two_large_second, three_large_first, three_large_second, three_large_third, variable_left, leaf_left, typed_cell}
 use Rattle.full_bodies.proofs.imaging.+imaging.Goals as goal
 
 pub inline_tree-returns-in-Some-clause-inlined : goal.inline_tree-returns-in-Some-clause-inlined
@@ -53,7 +56,7 @@ inline_node-inline_use-requires t c =
     let x = c.args.inlining.now in
     let at : IsUseAt s (rule_of s x) c.args.e c.in-Some.at = c.in-Some.ensures in
     let can : CanInline s x c.args.known.now c.args.e = c.requires in
-    search rules
+    (omega arith, (can, at))
 
 pub inline_node-inline_parts-requires : goal.inline_node-inline_parts-requires
 inline_node-inline_parts-requires t c =
@@ -61,7 +64,7 @@ inline_node-inline_parts-requires t c =
     let x = c.args.inlining.now in
     let over = c.in-None.ensures in
     let can : CanInline s x c.args.known.now c.args.e = c.requires in
-    search rules
+    (omega arith, (can, over))
 
 pub inline_use-returns-in_default-clause-fault : goal.inline_use-returns-in_default-clause-fault
 inline_use-returns-in_default-clause-fault t c =
@@ -120,7 +123,7 @@ inline_use-inline_arguments-requires t c =
     let can : CanInline s1 x c.args.known.now c.args.at.args = go x s s1 w1 ready c.args.at.args held_args c.args.known.now u.typed (known_later r s s1 c.args.known.now w1 c.requires.can.known) in
     let held : Holds s1 body = c.in_ok-body.ensures.held in
     let list : IsList Term (tree_at s1 c.args.at.args) = subst (IsList Term) (sym args_same) u.args in
-    search rules
+    (omega (arith, below), (can, (held, list)))
 
 pub inline_use-returns-in_err-args-clause-fault : goal.inline_use-returns-in_err-args-clause-fault
 inline_use-returns-in_err-args-clause-fault t c =
@@ -145,58 +148,28 @@ inline_use-returns-in_err-args-clause-fault t c =
 
 pub inline_use-put_arguments-requires-clause-body_held : goal.inline_use-put_arguments-requires-clause-body_held
 inline_use-put_arguments-requires-clause-body_held t c =
-    let s = c.args.store.now in
-    let x = c.args.inlining.now in
-    let r = rule_of s x in
-    let u : IsUseAt s r c.args.e c.args.at = c.requires.at in
-    let full : Holds s c.in-Some.full × (tree_at s c.in-Some.full ≡ u.whole) = subst (IsFull s u.whole) c.in-Some.is u.full in
     let s1 = c.put_types.new.g in
-    let w1 : Grows s s1 = c.in_ok-body.ensures.grows in
     let body = c.in_ok-body.body in
-    let body_is : tree_at s1 body ≡ inst_types u.whole (members (tree_at s c.args.at.types)) = c.in_ok-body.ensures.tree ∙ ap (λ (z : Tree). inst_types z (members (tree_at s c.args.at.types))) full.1 in
-    let held_args : Holds s c.args.at.args = omega (arith, u.below.1, c.requires.can.held) in
-    let args_same : tree_at s1 c.args.at.args ≡ tree_at s c.args.at.args = w1.same c.args.at.args.0 held_args in
-    let ready = c.requires.can.is_ready in
     let s2 = c.inline_arguments.new.store in
     let w2 : Grows s1 s2 = c.in_ok-args.ensures.grows in
     held_later s1 s2 body w2 c.in_ok-body.ensures.held
 
 pub inline_use-put_arguments-requires-clause-args_held : goal.inline_use-put_arguments-requires-clause-args_held
 inline_use-put_arguments-requires-clause-args_held t c =
-    let s = c.args.store.now in
     let x = c.args.inlining.now in
-    let r = rule_of s x in
-    let u : IsUseAt s r c.args.e c.args.at = c.requires.at in
-    let full : Holds s c.in-Some.full × (tree_at s c.in-Some.full ≡ u.whole) = subst (IsFull s u.whole) c.in-Some.is u.full in
     let s1 = c.put_types.new.g in
-    let w1 : Grows s s1 = c.in_ok-body.ensures.grows in
     let body = c.in_ok-body.body in
-    let body_is : tree_at s1 body ≡ inst_types u.whole (members (tree_at s c.args.at.types)) = c.in_ok-body.ensures.tree ∙ ap (λ (z : Tree). inst_types z (members (tree_at s c.args.at.types))) full.1 in
-    let held_args : Holds s c.args.at.args = omega (arith, u.below.1, c.requires.can.held) in
-    let args_same : tree_at s1 c.args.at.args ≡ tree_at s c.args.at.args = w1.same c.args.at.args.0 held_args in
-    let ready = c.requires.can.is_ready in
     let s2 = c.inline_arguments.new.store in
-    let w2 : Grows s1 s2 = c.in_ok-args.ensures.grows in
     let y = c.in_ok-args.args in
     let k : AreArguments (rule_of s1 x) (tree_at s1 body) (members (tree_at s1 c.args.at.args)) s2 c.inline_arguments.new.known y = c.in_ok-args.ensures.arguments in
     k.held
 
 pub inline_use-put_arguments-requires-clause-args : goal.inline_use-put_arguments-requires-clause-args
 inline_use-put_arguments-requires-clause-args t c =
-    let s = c.args.store.now in
     let x = c.args.inlining.now in
-    let r = rule_of s x in
-    let u : IsUseAt s r c.args.e c.args.at = c.requires.at in
-    let full : Holds s c.in-Some.full × (tree_at s c.in-Some.full ≡ u.whole) = subst (IsFull s u.whole) c.in-Some.is u.full in
     let s1 = c.put_types.new.g in
-    let w1 : Grows s s1 = c.in_ok-body.ensures.grows in
     let body = c.in_ok-body.body in
-    let body_is : tree_at s1 body ≡ inst_types u.whole (members (tree_at s c.args.at.types)) = c.in_ok-body.ensures.tree ∙ ap (λ (z : Tree). inst_types z (members (tree_at s c.args.at.types))) full.1 in
-    let held_args : Holds s c.args.at.args = omega (arith, u.below.1, c.requires.can.held) in
-    let args_same : tree_at s1 c.args.at.args ≡ tree_at s c.args.at.args = w1.same c.args.at.args.0 held_args in
-    let ready = c.requires.can.is_ready in
     let s2 = c.inline_arguments.new.store in
-    let w2 : Grows s1 s2 = c.in_ok-args.ensures.grows in
     let y = c.in_ok-args.args in
     let k : AreArguments (rule_of s1 x) (tree_at s1 body) (members (tree_at s1 c.args.at.args)) s2 c.inline_arguments.new.known y = c.in_ok-args.ensures.arguments in
     k.list
@@ -242,7 +215,6 @@ inline_use-returns-in_err-small-clause-fault t c =
     let y = c.in_ok-args.args in
     let k : AreArguments (rule_of s1 x) (tree_at s1 body) (members (tree_at s1 c.args.at.args)) s2 c.inline_arguments.new.known y = c.in_ok-args.ensures.arguments in
     let s3 = c.put_arguments.new.g in
-    let w3 : Grows s2 s3 = c.in_ok-made.ensures.grows in
     let made = c.in_ok-made.made in
     let body_same : tree_at s2 body ≡ tree_at s1 body = w2.same body.0 c.in_ok-body.ensures.held in
     let are : ArePutFor r.rule (tree_at s1 body) (members (tree_at s c.args.at.args)) (members (tree_at s2 y)) =
@@ -349,7 +321,7 @@ inline_arguments-inline_argument-requires t c =
     let can : CanInline s x c.args.known.now first = go x s s (Grows_refl s) ready first held_first c.args.known.now parts.0 c.requires.can.known in
     let held : Holds s c.args.body = c.requires.body in
     let sort : sort_of (tree_at s first) ≡ Term = p.0 in
-    search rules
+    (omega (arith, below.0), (can, (held, sort)))
 
 pub inline_arguments-returns-in_err-x-in-Cell-clause-fault : goal.inline_arguments-returns-in_err-x-in-Cell-clause-fault
 inline_arguments-returns-in_err-x-in-Cell-clause-fault t c =
@@ -359,12 +331,6 @@ inline_arguments-returns-in_err-x-in-Cell-clause-fault t c =
     let first = c.in-Cell.first in
     let rest = c.in-Cell.rest in
     let e : tree_at s c.args.args ≡ Two HCell (tree_at s first) (tree_at s rest) = c.in-Cell.ensures.tree in
-    let p : (sort_of (tree_at s first) ≡ Term) × IsList Term (tree_at s rest) = cell_parts Term (tree_at s c.args.args) (tree_at s first) (tree_at s rest) e c.in-Cell.ensures.fits c.requires.list in
-    let below : (first.0 < c.args.args.0) × (rest.0 < c.args.args.0) = c.in-Cell.ensures.below in
-    let held_first : Holds s first = omega (arith, below.0, c.requires.can.held) in
-    let held_rest : Holds s rest = omega (arith, below.1, c.requires.can.held) in
-    let ready = c.requires.can.is_ready in
-    let parts = typed_cell r (tree_at s c.args.args) (tree_at s first) (tree_at s rest) e c.requires.can.typed in
     let number : c.count_members-number.result ≡ length (members (tree_at s rest)) = c.count_members-number.ensures.number in
     let f = c.in_err-x-in-Cell.field-0.0 in
     err_passed (IsArgumentsFault r.rule (tree_at s c.args.body) (members (tree_at s c.args.args))) c.from_residual.result f c.from_residual.ensures.1
@@ -393,7 +359,7 @@ inline_arguments-inline_arguments-requires t c =
     let can : CanInline s1 x c.inline_argument.new.known rest = go x s s1 w1 ready rest held_rest c.inline_argument.new.known parts.1 a.known in
     let held : Holds s1 c.args.body = held_later s s1 c.args.body w1 c.requires.body in
     let list : IsList Term (tree_at s1 rest) = subst (IsList Term) (sym rest_same) p.1 in
-    search rules
+    (omega (arith, below.1), (can, (held, list)))
 
 pub inline_arguments-returns-in_err-y-in-Cell-clause-fault : goal.inline_arguments-returns-in_err-y-in-Cell-clause-fault
 inline_arguments-returns-in_err-y-in-Cell-clause-fault t c =
@@ -408,11 +374,8 @@ inline_arguments-returns-in_err-y-in-Cell-clause-fault t c =
     let held_first : Holds s first = omega (arith, below.0, c.requires.can.held) in
     let held_rest : Holds s rest = omega (arith, below.1, c.requires.can.held) in
     let ready = c.requires.can.is_ready in
-    let parts = typed_cell r (tree_at s c.args.args) (tree_at s first) (tree_at s rest) e c.requires.can.typed in
-    let number : c.count_members-number.result ≡ length (members (tree_at s rest)) = c.count_members-number.ensures.number in
     let s1 = c.inline_argument.new.store in
     let w1 : Grows s s1 = c.in_ok-x-in-Cell.ensures.grows in
-    let a : IsArgument r (is_used c.count_members-number.result (tree_at s c.args.body)) (tree_at s first) s1 c.inline_argument.new.known c.in_ok-x-in-Cell.x = c.in_ok-x-in-Cell.ensures.argument in
     let body_same : tree_at s1 c.args.body ≡ tree_at s c.args.body = w1.same c.args.body.0 c.requires.body in
     let rest_same : tree_at s1 rest ≡ tree_at s rest = w1.same rest.0 held_rest in
     let f = c.in_err-y-in-Cell.field-0.0 in
@@ -459,19 +422,8 @@ inline_arguments-add-requires-clause-fits t c =
     let r = rule_of s x in
     let first = c.in-Cell.first in
     let rest = c.in-Cell.rest in
-    let e : tree_at s c.args.args ≡ Two HCell (tree_at s first) (tree_at s rest) = c.in-Cell.ensures.tree in
-    let p : (sort_of (tree_at s first) ≡ Term) × IsList Term (tree_at s rest) = cell_parts Term (tree_at s c.args.args) (tree_at s first) (tree_at s rest) e c.in-Cell.ensures.fits c.requires.list in
-    let below : (first.0 < c.args.args.0) × (rest.0 < c.args.args.0) = c.in-Cell.ensures.below in
-    let held_first : Holds s first = omega (arith, below.0, c.requires.can.held) in
-    let held_rest : Holds s rest = omega (arith, below.1, c.requires.can.held) in
-    let ready = c.requires.can.is_ready in
-    let parts = typed_cell r (tree_at s c.args.args) (tree_at s first) (tree_at s rest) e c.requires.can.typed in
-    let number : c.count_members-number.result ≡ length (members (tree_at s rest)) = c.count_members-number.ensures.number in
     let s1 = c.inline_argument.new.store in
-    let w1 : Grows s s1 = c.in_ok-x-in-Cell.ensures.grows in
     let a : IsArgument r (is_used c.count_members-number.result (tree_at s c.args.body)) (tree_at s first) s1 c.inline_argument.new.known c.in_ok-x-in-Cell.x = c.in_ok-x-in-Cell.ensures.argument in
-    let body_same : tree_at s1 c.args.body ≡ tree_at s c.args.body = w1.same c.args.body.0 c.requires.body in
-    let rest_same : tree_at s1 rest ≡ tree_at s rest = w1.same rest.0 held_rest in
     let s2 = c.inline_arguments.new.store in
     let w2 : Grows s1 s2 = c.in_ok-y-in-Cell.ensures.grows in
     let b : AreArguments (rule_of s1 x) (tree_at s1 c.args.body) (members (tree_at s1 rest)) s2 c.inline_arguments.new.known c.in_ok-y-in-Cell.y = c.in_ok-y-in-Cell.ensures.arguments in
@@ -501,7 +453,6 @@ inline_arguments-returns-in_ok-made-in-Cell-clause-arguments t c =
     let held_first : Holds s first = omega (arith, below.0, c.requires.can.held) in
     let held_rest : Holds s rest = omega (arith, below.1, c.requires.can.held) in
     let ready = c.requires.can.is_ready in
-    let parts = typed_cell r (tree_at s c.args.args) (tree_at s first) (tree_at s rest) e c.requires.can.typed in
     let number : c.count_members-number.result ≡ length (members (tree_at s rest)) = c.count_members-number.ensures.number in
     let s1 = c.inline_argument.new.store in
     let w1 : Grows s s1 = c.in_ok-x-in-Cell.ensures.grows in
@@ -553,14 +504,14 @@ inline_parts-inline_tree-requires t c =
     let r = rule_of s x in
     let h = head_of_node c.node-node.result in
     let e : tree_at s c.args.e ≡ One h (tree_at s c.in-One.a) = c.node-node.ensures.tree ∙ ap (assemble s h) (sym c.in-One.ensures) in
-    let below : (c.in-One.a.0 < c.args.e.0) = rw (← c.in-One.ensures) at c.node-node.ensures.below in
+    let below : (c.in-One.a.0 < c.args.e.0) = subst (AreBelow c.args.e.0) (sym c.in-One.ensures) c.node-node.ensures.below in
     let held_a : Holds s c.in-One.a = omega (arith, below, c.requires.can.held) in
     let xs = one_part r (tree_at s c.args.e) c.requires.can.typed h (tree_at s c.in-One.a) e in
     let ready = c.requires.can.is_ready in
     let keeps = rule_keeps s x.task.now x.bodies.now ready in
     let v0 : Grows s s = Grows_refl s in
     let k : CanInline s x c.args.known.now c.in-One.a = go x s s v0 ready c.in-One.a held_a c.args.known.now xs c.requires.can.known in
-    search rules
+    (omega (arith, below), k)
 
 pub inline_parts-returns-in_err-x-in-One : goal.inline_parts-returns-in_err-x-in-One
 inline_parts-returns-in_err-x-in-One t c =
@@ -569,12 +520,6 @@ inline_parts-returns-in_err-x-in-One t c =
     let r = rule_of s x in
     let h = head_of_node c.node-node.result in
     let e : tree_at s c.args.e ≡ One h (tree_at s c.in-One.a) = c.node-node.ensures.tree ∙ ap (assemble s h) (sym c.in-One.ensures) in
-    let below : (c.in-One.a.0 < c.args.e.0) = rw (← c.in-One.ensures) at c.node-node.ensures.below in
-    let held_a : Holds s c.in-One.a = omega (arith, below, c.requires.can.held) in
-    let xs = one_part r (tree_at s c.args.e) c.requires.can.typed h (tree_at s c.in-One.a) e in
-    let ready = c.requires.can.is_ready in
-    let keeps = rule_keeps s x.task.now x.bodies.now ready in
-    let v0 : Grows s s = Grows_refl s in
     let z = c.in_err-x-in-One.field-0.0 in
     let here : IsFaultOf (inlined_at s x c.in-One.a) z = c.in_err-x-in-One.ensures.fault in
     record {
@@ -591,38 +536,22 @@ inline_parts-remake-requires t c =
     let r = rule_of s x in
     let h = head_of_node c.node-node.result in
     let e : tree_at s c.args.e ≡ One h (tree_at s c.in-One.a) = c.node-node.ensures.tree ∙ ap (assemble s h) (sym c.in-One.ensures) in
-    let below : (c.in-One.a.0 < c.args.e.0) = rw (← c.in-One.ensures) at c.node-node.ensures.below in
-    let held_a : Holds s c.in-One.a = omega (arith, below, c.requires.can.held) in
-    let xs = one_part r (tree_at s c.args.e) c.requires.can.typed h (tree_at s c.in-One.a) e in
     let ready = c.requires.can.is_ready in
     let keeps = rule_keeps s x.task.now x.bodies.now ready in
-    let v0 : Grows s s = Grows_refl s in
     let s1 = c.inline_tree.new.store in
-    let w1 : Grows s s1 = c.in_ok-x-in-One.ensures.grows in
-    let v1 : Grows s s1 = w1 in
     let r1 : IsInlined s x c.in-One.a s1 c.inline_tree.new.known c.in_ok-x-in-One.x = c.in_ok-x-in-One.ensures.inlined in
     let i1 : tree_at s1 c.in_ok-x-in-One.x ≡ image r.rule (tree_at s c.in-One.a) = r1.is in
     let fits = one_fit r keeps (tree_at s c.args.e) c.requires.can.typed h (tree_at s c.in-One.a) _ e i1 c.node-node.ensures.fits in
     let p1 : Holds s1 c.in_ok-x-in-One.x = r1.held in
-    search rules
+    record { like = subst (λ (z : Parts). IsLike z (node_parts.One c.in_ok-x-in-One.x)) c.in-One.ensures tt; held = p1; fits = fits }
 
 pub inline_parts-returns-in_err-made-in-One : goal.inline_parts-returns-in_err-made-in-One
 inline_parts-returns-in_err-made-in-One t c =
     let s = c.args.store.now in
     let x = c.args.inlining.now in
-    let r = rule_of s x in
-    let h = head_of_node c.node-node.result in
-    let e : tree_at s c.args.e ≡ One h (tree_at s c.in-One.a) = c.node-node.ensures.tree ∙ ap (assemble s h) (sym c.in-One.ensures) in
-    let below : (c.in-One.a.0 < c.args.e.0) = rw (← c.in-One.ensures) at c.node-node.ensures.below in
-    let held_a : Holds s c.in-One.a = omega (arith, below, c.requires.can.held) in
-    let xs = one_part r (tree_at s c.args.e) c.requires.can.typed h (tree_at s c.in-One.a) e in
-    let ready = c.requires.can.is_ready in
-    let keeps = rule_keeps s x.task.now x.bodies.now ready in
-    let v0 : Grows s s = Grows_refl s in
     let s1 = c.inline_tree.new.store in
     let w1 : Grows s s1 = c.in_ok-x-in-One.ensures.grows in
     let v1 : Grows s s1 = w1 in
-    let r1 : IsInlined s x c.in-One.a s1 c.inline_tree.new.known c.in_ok-x-in-One.x = c.in_ok-x-in-One.ensures.inlined in
     record {
       inlined = no_value _ _ c.from_residual-in_err-made-in-One.result c.from_residual-in_err-made-in-One.ensures.1;
       fault = err_passed (IsFaultOf (inlined_at s x c.args.e)) c.from_residual-in_err-made-in-One.result fault.Memory c.from_residual-in_err-made-in-One.ensures.1 tt;
@@ -636,12 +565,6 @@ inline_parts-returns-in_ok-made-in-One t c =
     let r = rule_of s x in
     let h = head_of_node c.node-node.result in
     let e : tree_at s c.args.e ≡ One h (tree_at s c.in-One.a) = c.node-node.ensures.tree ∙ ap (assemble s h) (sym c.in-One.ensures) in
-    let below : (c.in-One.a.0 < c.args.e.0) = rw (← c.in-One.ensures) at c.node-node.ensures.below in
-    let held_a : Holds s c.in-One.a = omega (arith, below, c.requires.can.held) in
-    let xs = one_part r (tree_at s c.args.e) c.requires.can.typed h (tree_at s c.in-One.a) e in
-    let ready = c.requires.can.is_ready in
-    let keeps = rule_keeps s x.task.now x.bodies.now ready in
-    let v0 : Grows s s = Grows_refl s in
     let s1 = c.inline_tree.new.store in
     let w1 : Grows s s1 = c.in_ok-x-in-One.ensures.grows in
     let v1 : Grows s s1 = w1 in
@@ -662,7 +585,7 @@ inline_parts-inline_tree-requires-in-Two t c =
     let r = rule_of s x in
     let h = head_of_node c.node-node.result in
     let e : tree_at s c.args.e ≡ Two h (tree_at s c.in-Two.a) (tree_at s c.in-Two.b) = c.node-node.ensures.tree ∙ ap (assemble s h) (sym c.in-Two.ensures) in
-    let below : (c.in-Two.a.0 < c.args.e.0) × (c.in-Two.b.0 < c.args.e.0) = rw (← c.in-Two.ensures) at c.node-node.ensures.below in
+    let below : (c.in-Two.a.0 < c.args.e.0) × (c.in-Two.b.0 < c.args.e.0) = subst (AreBelow c.args.e.0) (sym c.in-Two.ensures) c.node-node.ensures.below in
     let held_a : Holds s c.in-Two.a = omega (arith, below.0, c.requires.can.held) in
     let held_b : Holds s c.in-Two.b = omega (arith, below.1, c.requires.can.held) in
     let xs = two_parts r (tree_at s c.args.e) c.requires.can.typed h (tree_at s c.in-Two.a) (tree_at s c.in-Two.b) e in
@@ -670,7 +593,7 @@ inline_parts-inline_tree-requires-in-Two t c =
     let keeps = rule_keeps s x.task.now x.bodies.now ready in
     let v0 : Grows s s = Grows_refl s in
     let k : CanInline s x c.args.known.now c.in-Two.a = go x s s v0 ready c.in-Two.a held_a c.args.known.now xs.0 c.requires.can.known in
-    search rules
+    (omega (arith, below.0), k)
 
 pub inline_parts-returns-in_err-x-in-Two : goal.inline_parts-returns-in_err-x-in-Two
 inline_parts-returns-in_err-x-in-Two t c =
@@ -679,13 +602,6 @@ inline_parts-returns-in_err-x-in-Two t c =
     let r = rule_of s x in
     let h = head_of_node c.node-node.result in
     let e : tree_at s c.args.e ≡ Two h (tree_at s c.in-Two.a) (tree_at s c.in-Two.b) = c.node-node.ensures.tree ∙ ap (assemble s h) (sym c.in-Two.ensures) in
-    let below : (c.in-Two.a.0 < c.args.e.0) × (c.in-Two.b.0 < c.args.e.0) = rw (← c.in-Two.ensures) at c.node-node.ensures.below in
-    let held_a : Holds s c.in-Two.a = omega (arith, below.0, c.requires.can.held) in
-    let held_b : Holds s c.in-Two.b = omega (arith, below.1, c.requires.can.held) in
-    let xs = two_parts r (tree_at s c.args.e) c.requires.can.typed h (tree_at s c.in-Two.a) (tree_at s c.in-Two.b) e in
-    let ready = c.requires.can.is_ready in
-    let keeps = rule_keeps s x.task.now x.bodies.now ready in
-    let v0 : Grows s s = Grows_refl s in
     let z = c.in_err-x-in-Two.field-0.0 in
     let here : IsFaultOf (inlined_at s x c.in-Two.a) z = c.in_err-x-in-Two.ensures.fault in
     record {
@@ -702,7 +618,7 @@ inline_parts-inline_tree-requires-in-Two-2 t c =
     let r = rule_of s x in
     let h = head_of_node c.node-node.result in
     let e : tree_at s c.args.e ≡ Two h (tree_at s c.in-Two.a) (tree_at s c.in-Two.b) = c.node-node.ensures.tree ∙ ap (assemble s h) (sym c.in-Two.ensures) in
-    let below : (c.in-Two.a.0 < c.args.e.0) × (c.in-Two.b.0 < c.args.e.0) = rw (← c.in-Two.ensures) at c.node-node.ensures.below in
+    let below : (c.in-Two.a.0 < c.args.e.0) × (c.in-Two.b.0 < c.args.e.0) = subst (AreBelow c.args.e.0) (sym c.in-Two.ensures) c.node-node.ensures.below in
     let held_a : Holds s c.in-Two.a = omega (arith, below.0, c.requires.can.held) in
     let held_b : Holds s c.in-Two.b = omega (arith, below.1, c.requires.can.held) in
     let xs = two_parts r (tree_at s c.args.e) c.requires.can.typed h (tree_at s c.in-Two.a) (tree_at s c.in-Two.b) e in
@@ -714,7 +630,7 @@ inline_parts-inline_tree-requires-in-Two-2 t c =
     let v1 : Grows s s1 = w1 in
     let r1 : IsInlined s x c.in-Two.a s1 c.inline_tree-in-Two.new.known c.in_ok-x-in-Two.x = c.in_ok-x-in-Two.ensures.inlined in
     let k : CanInline s1 x c.inline_tree-in-Two.new.known c.in-Two.b = go x s s1 v1 ready c.in-Two.b held_b c.inline_tree-in-Two.new.known xs.1 r1.known in
-    search rules
+    (omega (arith, below.1), k)
 
 pub inline_parts-returns-in_err-y-in-Two : goal.inline_parts-returns-in_err-y-in-Two
 inline_parts-returns-in_err-y-in-Two t c =
@@ -723,17 +639,13 @@ inline_parts-returns-in_err-y-in-Two t c =
     let r = rule_of s x in
     let h = head_of_node c.node-node.result in
     let e : tree_at s c.args.e ≡ Two h (tree_at s c.in-Two.a) (tree_at s c.in-Two.b) = c.node-node.ensures.tree ∙ ap (assemble s h) (sym c.in-Two.ensures) in
-    let below : (c.in-Two.a.0 < c.args.e.0) × (c.in-Two.b.0 < c.args.e.0) = rw (← c.in-Two.ensures) at c.node-node.ensures.below in
+    let below : (c.in-Two.a.0 < c.args.e.0) × (c.in-Two.b.0 < c.args.e.0) = subst (AreBelow c.args.e.0) (sym c.in-Two.ensures) c.node-node.ensures.below in
     let held_a : Holds s c.in-Two.a = omega (arith, below.0, c.requires.can.held) in
     let held_b : Holds s c.in-Two.b = omega (arith, below.1, c.requires.can.held) in
-    let xs = two_parts r (tree_at s c.args.e) c.requires.can.typed h (tree_at s c.in-Two.a) (tree_at s c.in-Two.b) e in
     let ready = c.requires.can.is_ready in
-    let keeps = rule_keeps s x.task.now x.bodies.now ready in
-    let v0 : Grows s s = Grows_refl s in
     let s1 = c.inline_tree-in-Two.new.store in
     let w1 : Grows s s1 = c.in_ok-x-in-Two.ensures.grows in
     let v1 : Grows s s1 = w1 in
-    let r1 : IsInlined s x c.in-Two.a s1 c.inline_tree-in-Two.new.known c.in_ok-x-in-Two.x = c.in_ok-x-in-Two.ensures.inlined in
     let z = c.in_err-y-in-Two.field-0.0 in
     let here : IsFaultOf (inlined_at s x c.in-Two.b) z = fault_as (inlined_at s1 x c.in-Two.b) (inlined_at s x c.in-Two.b) (inlined_same x s s1 v1 ready c.in-Two.b held_b) z c.in_err-y-in-Two.ensures.fault in
     record {
@@ -750,50 +662,35 @@ inline_parts-remake-requires-in-Two t c =
     let r = rule_of s x in
     let h = head_of_node c.node-node.result in
     let e : tree_at s c.args.e ≡ Two h (tree_at s c.in-Two.a) (tree_at s c.in-Two.b) = c.node-node.ensures.tree ∙ ap (assemble s h) (sym c.in-Two.ensures) in
-    let below : (c.in-Two.a.0 < c.args.e.0) × (c.in-Two.b.0 < c.args.e.0) = rw (← c.in-Two.ensures) at c.node-node.ensures.below in
+    let below : (c.in-Two.a.0 < c.args.e.0) × (c.in-Two.b.0 < c.args.e.0) = subst (AreBelow c.args.e.0) (sym c.in-Two.ensures) c.node-node.ensures.below in
     let held_a : Holds s c.in-Two.a = omega (arith, below.0, c.requires.can.held) in
     let held_b : Holds s c.in-Two.b = omega (arith, below.1, c.requires.can.held) in
-    let xs = two_parts r (tree_at s c.args.e) c.requires.can.typed h (tree_at s c.in-Two.a) (tree_at s c.in-Two.b) e in
     let ready = c.requires.can.is_ready in
     let keeps = rule_keeps s x.task.now x.bodies.now ready in
-    let v0 : Grows s s = Grows_refl s in
     let s1 = c.inline_tree-in-Two.new.store in
     let w1 : Grows s s1 = c.in_ok-x-in-Two.ensures.grows in
     let v1 : Grows s s1 = w1 in
     let r1 : IsInlined s x c.in-Two.a s1 c.inline_tree-in-Two.new.known c.in_ok-x-in-Two.x = c.in_ok-x-in-Two.ensures.inlined in
     let s2 = c.inline_tree-in-Two-2.new.store in
     let w2 : Grows s1 s2 = c.in_ok-y-in-Two.ensures.grows in
-    let v2 : Grows s s2 = Grows_trans s s1 s2 v1 w2 in
     let r2 : IsInlined s x c.in-Two.b s2 c.inline_tree-in-Two-2.new.known c.in_ok-y-in-Two.y = back x s s1 v1 ready c.in-Two.b held_b s2 c.inline_tree-in-Two-2.new.known c.in_ok-y-in-Two.y c.in_ok-y-in-Two.ensures.inlined in
     let i1 : tree_at s2 c.in_ok-x-in-Two.x ≡ image r.rule (tree_at s c.in-Two.a) = w2.same c.in_ok-x-in-Two.x.0 r1.held ∙ r1.is in
     let i2 : tree_at s2 c.in_ok-y-in-Two.y ≡ image r.rule (tree_at s c.in-Two.b) = r2.is in
     let fits = two_fit r keeps (tree_at s c.args.e) c.requires.can.typed h (tree_at s c.in-Two.a) (tree_at s c.in-Two.b) _ _ e i1 i2 c.node-node.ensures.fits in
     let p1 : Holds s2 c.in_ok-x-in-Two.x = held_later s1 s2 c.in_ok-x-in-Two.x w2 r1.held in
     let p2 : Holds s2 c.in_ok-y-in-Two.y = r2.held in
-    search rules
+    record { like = subst (λ (z : Parts). IsLike z (node_parts.Two c.in_ok-x-in-Two.x c.in_ok-y-in-Two.y)) c.in-Two.ensures tt; held = (p1, p2); fits = fits }
 
 pub inline_parts-returns-in_err-made-in-Two : goal.inline_parts-returns-in_err-made-in-Two
 inline_parts-returns-in_err-made-in-Two t c =
     let s = c.args.store.now in
     let x = c.args.inlining.now in
-    let r = rule_of s x in
-    let h = head_of_node c.node-node.result in
-    let e : tree_at s c.args.e ≡ Two h (tree_at s c.in-Two.a) (tree_at s c.in-Two.b) = c.node-node.ensures.tree ∙ ap (assemble s h) (sym c.in-Two.ensures) in
-    let below : (c.in-Two.a.0 < c.args.e.0) × (c.in-Two.b.0 < c.args.e.0) = rw (← c.in-Two.ensures) at c.node-node.ensures.below in
-    let held_a : Holds s c.in-Two.a = omega (arith, below.0, c.requires.can.held) in
-    let held_b : Holds s c.in-Two.b = omega (arith, below.1, c.requires.can.held) in
-    let xs = two_parts r (tree_at s c.args.e) c.requires.can.typed h (tree_at s c.in-Two.a) (tree_at s c.in-Two.b) e in
-    let ready = c.requires.can.is_ready in
-    let keeps = rule_keeps s x.task.now x.bodies.now ready in
-    let v0 : Grows s s = Grows_refl s in
     let s1 = c.inline_tree-in-Two.new.store in
     let w1 : Grows s s1 = c.in_ok-x-in-Two.ensures.grows in
     let v1 : Grows s s1 = w1 in
-    let r1 : IsInlined s x c.in-Two.a s1 c.inline_tree-in-Two.new.known c.in_ok-x-in-Two.x = c.in_ok-x-in-Two.ensures.inlined in
     let s2 = c.inline_tree-in-Two-2.new.store in
     let w2 : Grows s1 s2 = c.in_ok-y-in-Two.ensures.grows in
     let v2 : Grows s s2 = Grows_trans s s1 s2 v1 w2 in
-    let r2 : IsInlined s x c.in-Two.b s2 c.inline_tree-in-Two-2.new.known c.in_ok-y-in-Two.y = back x s s1 v1 ready c.in-Two.b held_b s2 c.inline_tree-in-Two-2.new.known c.in_ok-y-in-Two.y c.in_ok-y-in-Two.ensures.inlined in
     record {
       inlined = no_value _ _ c.from_residual-in_err-made-in-Two.result c.from_residual-in_err-made-in-Two.ensures.1;
       fault = err_passed (IsFaultOf (inlined_at s x c.args.e)) c.from_residual-in_err-made-in-Two.result fault.Memory c.from_residual-in_err-made-in-Two.ensures.1 tt;
@@ -807,13 +704,10 @@ inline_parts-returns-in_ok-made-in-Two t c =
     let r = rule_of s x in
     let h = head_of_node c.node-node.result in
     let e : tree_at s c.args.e ≡ Two h (tree_at s c.in-Two.a) (tree_at s c.in-Two.b) = c.node-node.ensures.tree ∙ ap (assemble s h) (sym c.in-Two.ensures) in
-    let below : (c.in-Two.a.0 < c.args.e.0) × (c.in-Two.b.0 < c.args.e.0) = rw (← c.in-Two.ensures) at c.node-node.ensures.below in
+    let below : (c.in-Two.a.0 < c.args.e.0) × (c.in-Two.b.0 < c.args.e.0) = subst (AreBelow c.args.e.0) (sym c.in-Two.ensures) c.node-node.ensures.below in
     let held_a : Holds s c.in-Two.a = omega (arith, below.0, c.requires.can.held) in
     let held_b : Holds s c.in-Two.b = omega (arith, below.1, c.requires.can.held) in
-    let xs = two_parts r (tree_at s c.args.e) c.requires.can.typed h (tree_at s c.in-Two.a) (tree_at s c.in-Two.b) e in
     let ready = c.requires.can.is_ready in
-    let keeps = rule_keeps s x.task.now x.bodies.now ready in
-    let v0 : Grows s s = Grows_refl s in
     let s1 = c.inline_tree-in-Two.new.store in
     let w1 : Grows s s1 = c.in_ok-x-in-Two.ensures.grows in
     let v1 : Grows s s1 = w1 in
@@ -839,7 +733,7 @@ inline_parts-inline_tree-requires-in-Three t c =
     let r = rule_of s x in
     let h = head_of_node c.node-node.result in
     let e : tree_at s c.args.e ≡ Three h (tree_at s c.in-Three.a) (tree_at s c.in-Three.b) (tree_at s c.in-Three.c) = c.node-node.ensures.tree ∙ ap (assemble s h) (sym c.in-Three.ensures) in
-    let below : (c.in-Three.a.0 < c.args.e.0) × (c.in-Three.b.0 < c.args.e.0) × (c.in-Three.c.0 < c.args.e.0) = rw (← c.in-Three.ensures) at c.node-node.ensures.below in
+    let below : (c.in-Three.a.0 < c.args.e.0) × (c.in-Three.b.0 < c.args.e.0) × (c.in-Three.c.0 < c.args.e.0) = subst (AreBelow c.args.e.0) (sym c.in-Three.ensures) c.node-node.ensures.below in
     let held_a : Holds s c.in-Three.a = omega (arith, below.0, c.requires.can.held) in
     let held_b : Holds s c.in-Three.b = omega (arith, below.1, c.requires.can.held) in
     let held_c : Holds s c.in-Three.c = omega (arith, below.2, c.requires.can.held) in
@@ -848,7 +742,7 @@ inline_parts-inline_tree-requires-in-Three t c =
     let keeps = rule_keeps s x.task.now x.bodies.now ready in
     let v0 : Grows s s = Grows_refl s in
     let k : CanInline s x c.args.known.now c.in-Three.a = go x s s v0 ready c.in-Three.a held_a c.args.known.now xs.0 c.requires.can.known in
-    search rules
+    (omega (arith, below.0), k)
 
 pub inline_parts-returns-in_err-x-in-Three : goal.inline_parts-returns-in_err-x-in-Three
 inline_parts-returns-in_err-x-in-Three t c =
@@ -857,14 +751,6 @@ inline_parts-returns-in_err-x-in-Three t c =
     let r = rule_of s x in
     let h = head_of_node c.node-node.result in
     let e : tree_at s c.args.e ≡ Three h (tree_at s c.in-Three.a) (tree_at s c.in-Three.b) (tree_at s c.in-Three.c) = c.node-node.ensures.tree ∙ ap (assemble s h) (sym c.in-Three.ensures) in
-    let below : (c.in-Three.a.0 < c.args.e.0) × (c.in-Three.b.0 < c.args.e.0) × (c.in-Three.c.0 < c.args.e.0) = rw (← c.in-Three.ensures) at c.node-node.ensures.below in
-    let held_a : Holds s c.in-Three.a = omega (arith, below.0, c.requires.can.held) in
-    let held_b : Holds s c.in-Three.b = omega (arith, below.1, c.requires.can.held) in
-    let held_c : Holds s c.in-Three.c = omega (arith, below.2, c.requires.can.held) in
-    let xs = three_parts r (tree_at s c.args.e) c.requires.can.typed h (tree_at s c.in-Three.a) (tree_at s c.in-Three.b) (tree_at s c.in-Three.c) e in
-    let ready = c.requires.can.is_ready in
-    let keeps = rule_keeps s x.task.now x.bodies.now ready in
-    let v0 : Grows s s = Grows_refl s in
     let z = c.in_err-x-in-Three.field-0.0 in
     let here : IsFaultOf (inlined_at s x c.in-Three.a) z = c.in_err-x-in-Three.ensures.fault in
     record {
@@ -881,7 +767,7 @@ inline_parts-inline_tree-requires-in-Three-2 t c =
     let r = rule_of s x in
     let h = head_of_node c.node-node.result in
     let e : tree_at s c.args.e ≡ Three h (tree_at s c.in-Three.a) (tree_at s c.in-Three.b) (tree_at s c.in-Three.c) = c.node-node.ensures.tree ∙ ap (assemble s h) (sym c.in-Three.ensures) in
-    let below : (c.in-Three.a.0 < c.args.e.0) × (c.in-Three.b.0 < c.args.e.0) × (c.in-Three.c.0 < c.args.e.0) = rw (← c.in-Three.ensures) at c.node-node.ensures.below in
+    let below : (c.in-Three.a.0 < c.args.e.0) × (c.in-Three.b.0 < c.args.e.0) × (c.in-Three.c.0 < c.args.e.0) = subst (AreBelow c.args.e.0) (sym c.in-Three.ensures) c.node-node.ensures.below in
     let held_a : Holds s c.in-Three.a = omega (arith, below.0, c.requires.can.held) in
     let held_b : Holds s c.in-Three.b = omega (arith, below.1, c.requires.can.held) in
     let held_c : Holds s c.in-Three.c = omega (arith, below.2, c.requires.can.held) in
@@ -894,7 +780,7 @@ inline_parts-inline_tree-requires-in-Three-2 t c =
     let v1 : Grows s s1 = w1 in
     let r1 : IsInlined s x c.in-Three.a s1 c.inline_tree-in-Three.new.known c.in_ok-x-in-Three.x = c.in_ok-x-in-Three.ensures.inlined in
     let k : CanInline s1 x c.inline_tree-in-Three.new.known c.in-Three.b = go x s s1 v1 ready c.in-Three.b held_b c.inline_tree-in-Three.new.known xs.1.0 r1.known in
-    search rules
+    (omega (arith, below.1), k)
 
 pub inline_parts-returns-in_err-y-in-Three : goal.inline_parts-returns-in_err-y-in-Three
 inline_parts-returns-in_err-y-in-Three t c =
@@ -903,18 +789,13 @@ inline_parts-returns-in_err-y-in-Three t c =
     let r = rule_of s x in
     let h = head_of_node c.node-node.result in
     let e : tree_at s c.args.e ≡ Three h (tree_at s c.in-Three.a) (tree_at s c.in-Three.b) (tree_at s c.in-Three.c) = c.node-node.ensures.tree ∙ ap (assemble s h) (sym c.in-Three.ensures) in
-    let below : (c.in-Three.a.0 < c.args.e.0) × (c.in-Three.b.0 < c.args.e.0) × (c.in-Three.c.0 < c.args.e.0) = rw (← c.in-Three.ensures) at c.node-node.ensures.below in
+    let below : (c.in-Three.a.0 < c.args.e.0) × (c.in-Three.b.0 < c.args.e.0) × (c.in-Three.c.0 < c.args.e.0) = subst (AreBelow c.args.e.0) (sym c.in-Three.ensures) c.node-node.ensures.below in
     let held_a : Holds s c.in-Three.a = omega (arith, below.0, c.requires.can.held) in
     let held_b : Holds s c.in-Three.b = omega (arith, below.1, c.requires.can.held) in
-    let held_c : Holds s c.in-Three.c = omega (arith, below.2, c.requires.can.held) in
-    let xs = three_parts r (tree_at s c.args.e) c.requires.can.typed h (tree_at s c.in-Three.a) (tree_at s c.in-Three.b) (tree_at s c.in-Three.c) e in
     let ready = c.requires.can.is_ready in
-    let keeps = rule_keeps s x.task.now x.bodies.now ready in
-    let v0 : Grows s s = Grows_refl s in
     let s1 = c.inline_tree-in-Three.new.store in
     let w1 : Grows s s1 = c.in_ok-x-in-Three.ensures.grows in
     let v1 : Grows s s1 = w1 in
-    let r1 : IsInlined s x c.in-Three.a s1 c.inline_tree-in-Three.new.known c.in_ok-x-in-Three.x = c.in_ok-x-in-Three.ensures.inlined in
     let z = c.in_err-y-in-Three.field-0.0 in
     let here : IsFaultOf (inlined_at s x c.in-Three.b) z = fault_as (inlined_at s1 x c.in-Three.b) (inlined_at s x c.in-Three.b) (inlined_same x s s1 v1 ready c.in-Three.b held_b) z c.in_err-y-in-Three.ensures.fault in
     record {
@@ -931,7 +812,7 @@ inline_parts-inline_tree-requires-in-Three-3 t c =
     let r = rule_of s x in
     let h = head_of_node c.node-node.result in
     let e : tree_at s c.args.e ≡ Three h (tree_at s c.in-Three.a) (tree_at s c.in-Three.b) (tree_at s c.in-Three.c) = c.node-node.ensures.tree ∙ ap (assemble s h) (sym c.in-Three.ensures) in
-    let below : (c.in-Three.a.0 < c.args.e.0) × (c.in-Three.b.0 < c.args.e.0) × (c.in-Three.c.0 < c.args.e.0) = rw (← c.in-Three.ensures) at c.node-node.ensures.below in
+    let below : (c.in-Three.a.0 < c.args.e.0) × (c.in-Three.b.0 < c.args.e.0) × (c.in-Three.c.0 < c.args.e.0) = subst (AreBelow c.args.e.0) (sym c.in-Three.ensures) c.node-node.ensures.below in
     let held_a : Holds s c.in-Three.a = omega (arith, below.0, c.requires.can.held) in
     let held_b : Holds s c.in-Three.b = omega (arith, below.1, c.requires.can.held) in
     let held_c : Holds s c.in-Three.c = omega (arith, below.2, c.requires.can.held) in
@@ -948,7 +829,7 @@ inline_parts-inline_tree-requires-in-Three-3 t c =
     let v2 : Grows s s2 = Grows_trans s s1 s2 v1 w2 in
     let r2 : IsInlined s x c.in-Three.b s2 c.inline_tree-in-Three-2.new.known c.in_ok-y-in-Three.y = back x s s1 v1 ready c.in-Three.b held_b s2 c.inline_tree-in-Three-2.new.known c.in_ok-y-in-Three.y c.in_ok-y-in-Three.ensures.inlined in
     let k : CanInline s2 x c.inline_tree-in-Three-2.new.known c.in-Three.c = go x s s2 v2 ready c.in-Three.c held_c c.inline_tree-in-Three-2.new.known xs.1.1 r2.known in
-    search rules
+    (omega (arith, below.2), k)
 
 pub inline_parts-returns-in_err-z-in-Three : goal.inline_parts-returns-in_err-z-in-Three
 inline_parts-returns-in_err-z-in-Three t c =
@@ -957,22 +838,17 @@ inline_parts-returns-in_err-z-in-Three t c =
     let r = rule_of s x in
     let h = head_of_node c.node-node.result in
     let e : tree_at s c.args.e ≡ Three h (tree_at s c.in-Three.a) (tree_at s c.in-Three.b) (tree_at s c.in-Three.c) = c.node-node.ensures.tree ∙ ap (assemble s h) (sym c.in-Three.ensures) in
-    let below : (c.in-Three.a.0 < c.args.e.0) × (c.in-Three.b.0 < c.args.e.0) × (c.in-Three.c.0 < c.args.e.0) = rw (← c.in-Three.ensures) at c.node-node.ensures.below in
+    let below : (c.in-Three.a.0 < c.args.e.0) × (c.in-Three.b.0 < c.args.e.0) × (c.in-Three.c.0 < c.args.e.0) = subst (AreBelow c.args.e.0) (sym c.in-Three.ensures) c.node-node.ensures.below in
     let held_a : Holds s c.in-Three.a = omega (arith, below.0, c.requires.can.held) in
     let held_b : Holds s c.in-Three.b = omega (arith, below.1, c.requires.can.held) in
     let held_c : Holds s c.in-Three.c = omega (arith, below.2, c.requires.can.held) in
-    let xs = three_parts r (tree_at s c.args.e) c.requires.can.typed h (tree_at s c.in-Three.a) (tree_at s c.in-Three.b) (tree_at s c.in-Three.c) e in
     let ready = c.requires.can.is_ready in
-    let keeps = rule_keeps s x.task.now x.bodies.now ready in
-    let v0 : Grows s s = Grows_refl s in
     let s1 = c.inline_tree-in-Three.new.store in
     let w1 : Grows s s1 = c.in_ok-x-in-Three.ensures.grows in
     let v1 : Grows s s1 = w1 in
-    let r1 : IsInlined s x c.in-Three.a s1 c.inline_tree-in-Three.new.known c.in_ok-x-in-Three.x = c.in_ok-x-in-Three.ensures.inlined in
     let s2 = c.inline_tree-in-Three-2.new.store in
     let w2 : Grows s1 s2 = c.in_ok-y-in-Three.ensures.grows in
     let v2 : Grows s s2 = Grows_trans s s1 s2 v1 w2 in
-    let r2 : IsInlined s x c.in-Three.b s2 c.inline_tree-in-Three-2.new.known c.in_ok-y-in-Three.y = back x s s1 v1 ready c.in-Three.b held_b s2 c.inline_tree-in-Three-2.new.known c.in_ok-y-in-Three.y c.in_ok-y-in-Three.ensures.inlined in
     let z = c.in_err-z-in-Three.field-0.0 in
     let here : IsFaultOf (inlined_at s x c.in-Three.c) z = fault_as (inlined_at s2 x c.in-Three.c) (inlined_at s x c.in-Three.c) (inlined_same x s s2 v2 ready c.in-Three.c held_c) z c.in_err-z-in-Three.ensures.fault in
     record {
@@ -989,14 +865,12 @@ inline_parts-remake-requires-in-Three t c =
     let r = rule_of s x in
     let h = head_of_node c.node-node.result in
     let e : tree_at s c.args.e ≡ Three h (tree_at s c.in-Three.a) (tree_at s c.in-Three.b) (tree_at s c.in-Three.c) = c.node-node.ensures.tree ∙ ap (assemble s h) (sym c.in-Three.ensures) in
-    let below : (c.in-Three.a.0 < c.args.e.0) × (c.in-Three.b.0 < c.args.e.0) × (c.in-Three.c.0 < c.args.e.0) = rw (← c.in-Three.ensures) at c.node-node.ensures.below in
+    let below : (c.in-Three.a.0 < c.args.e.0) × (c.in-Three.b.0 < c.args.e.0) × (c.in-Three.c.0 < c.args.e.0) = subst (AreBelow c.args.e.0) (sym c.in-Three.ensures) c.node-node.ensures.below in
     let held_a : Holds s c.in-Three.a = omega (arith, below.0, c.requires.can.held) in
     let held_b : Holds s c.in-Three.b = omega (arith, below.1, c.requires.can.held) in
     let held_c : Holds s c.in-Three.c = omega (arith, below.2, c.requires.can.held) in
-    let xs = three_parts r (tree_at s c.args.e) c.requires.can.typed h (tree_at s c.in-Three.a) (tree_at s c.in-Three.b) (tree_at s c.in-Three.c) e in
     let ready = c.requires.can.is_ready in
     let keeps = rule_keeps s x.task.now x.bodies.now ready in
-    let v0 : Grows s s = Grows_refl s in
     let s1 = c.inline_tree-in-Three.new.store in
     let w1 : Grows s s1 = c.in_ok-x-in-Three.ensures.grows in
     let v1 : Grows s s1 = w1 in
@@ -1007,7 +881,6 @@ inline_parts-remake-requires-in-Three t c =
     let r2 : IsInlined s x c.in-Three.b s2 c.inline_tree-in-Three-2.new.known c.in_ok-y-in-Three.y = back x s s1 v1 ready c.in-Three.b held_b s2 c.inline_tree-in-Three-2.new.known c.in_ok-y-in-Three.y c.in_ok-y-in-Three.ensures.inlined in
     let s3 = c.inline_tree-in-Three-3.new.store in
     let w3 : Grows s2 s3 = c.in_ok-z-in-Three.ensures.grows in
-    let v3 : Grows s s3 = Grows_trans s s2 s3 v2 w3 in
     let r3 : IsInlined s x c.in-Three.c s3 c.inline_tree-in-Three-3.new.known c.in_ok-z-in-Three.z = back x s s2 v2 ready c.in-Three.c held_c s3 c.inline_tree-in-Three-3.new.known c.in_ok-z-in-Three.z c.in_ok-z-in-Three.ensures.inlined in
     let i1 : tree_at s3 c.in_ok-x-in-Three.x ≡ image r.rule (tree_at s c.in-Three.a) = (Grows_trans s1 s2 s3 w2 w3).same c.in_ok-x-in-Three.x.0 r1.held ∙ r1.is in
     let i2 : tree_at s3 c.in_ok-y-in-Three.y ≡ image r.rule (tree_at s c.in-Three.b) = w3.same c.in_ok-y-in-Three.y.0 r2.held ∙ r2.is in
@@ -1016,35 +889,21 @@ inline_parts-remake-requires-in-Three t c =
     let p1 : Holds s3 c.in_ok-x-in-Three.x = held_later s1 s3 c.in_ok-x-in-Three.x (Grows_trans s1 s2 s3 w2 w3) r1.held in
     let p2 : Holds s3 c.in_ok-y-in-Three.y = held_later s2 s3 c.in_ok-y-in-Three.y w3 r2.held in
     let p3 : Holds s3 c.in_ok-z-in-Three.z = r3.held in
-    search rules
+    record { like = subst (λ (z : Parts). IsLike z (node_parts.Three c.in_ok-x-in-Three.x c.in_ok-y-in-Three.y c.in_ok-z-in-Three.z)) c.in-Three.ensures tt; held = (p1, p2, p3); fits = fits }
 
 pub inline_parts-returns-in_err-made-in-Three : goal.inline_parts-returns-in_err-made-in-Three
 inline_parts-returns-in_err-made-in-Three t c =
     let s = c.args.store.now in
     let x = c.args.inlining.now in
-    let r = rule_of s x in
-    let h = head_of_node c.node-node.result in
-    let e : tree_at s c.args.e ≡ Three h (tree_at s c.in-Three.a) (tree_at s c.in-Three.b) (tree_at s c.in-Three.c) = c.node-node.ensures.tree ∙ ap (assemble s h) (sym c.in-Three.ensures) in
-    let below : (c.in-Three.a.0 < c.args.e.0) × (c.in-Three.b.0 < c.args.e.0) × (c.in-Three.c.0 < c.args.e.0) = rw (← c.in-Three.ensures) at c.node-node.ensures.below in
-    let held_a : Holds s c.in-Three.a = omega (arith, below.0, c.requires.can.held) in
-    let held_b : Holds s c.in-Three.b = omega (arith, below.1, c.requires.can.held) in
-    let held_c : Holds s c.in-Three.c = omega (arith, below.2, c.requires.can.held) in
-    let xs = three_parts r (tree_at s c.args.e) c.requires.can.typed h (tree_at s c.in-Three.a) (tree_at s c.in-Three.b) (tree_at s c.in-Three.c) e in
-    let ready = c.requires.can.is_ready in
-    let keeps = rule_keeps s x.task.now x.bodies.now ready in
-    let v0 : Grows s s = Grows_refl s in
     let s1 = c.inline_tree-in-Three.new.store in
     let w1 : Grows s s1 = c.in_ok-x-in-Three.ensures.grows in
     let v1 : Grows s s1 = w1 in
-    let r1 : IsInlined s x c.in-Three.a s1 c.inline_tree-in-Three.new.known c.in_ok-x-in-Three.x = c.in_ok-x-in-Three.ensures.inlined in
     let s2 = c.inline_tree-in-Three-2.new.store in
     let w2 : Grows s1 s2 = c.in_ok-y-in-Three.ensures.grows in
     let v2 : Grows s s2 = Grows_trans s s1 s2 v1 w2 in
-    let r2 : IsInlined s x c.in-Three.b s2 c.inline_tree-in-Three-2.new.known c.in_ok-y-in-Three.y = back x s s1 v1 ready c.in-Three.b held_b s2 c.inline_tree-in-Three-2.new.known c.in_ok-y-in-Three.y c.in_ok-y-in-Three.ensures.inlined in
     let s3 = c.inline_tree-in-Three-3.new.store in
     let w3 : Grows s2 s3 = c.in_ok-z-in-Three.ensures.grows in
     let v3 : Grows s s3 = Grows_trans s s2 s3 v2 w3 in
-    let r3 : IsInlined s x c.in-Three.c s3 c.inline_tree-in-Three-3.new.known c.in_ok-z-in-Three.z = back x s s2 v2 ready c.in-Three.c held_c s3 c.inline_tree-in-Three-3.new.known c.in_ok-z-in-Three.z c.in_ok-z-in-Three.ensures.inlined in
     record {
       inlined = no_value _ _ c.from_residual-in_err-made-in-Three.result c.from_residual-in_err-made-in-Three.ensures.1;
       fault = err_passed (IsFaultOf (inlined_at s x c.args.e)) c.from_residual-in_err-made-in-Three.result fault.Memory c.from_residual-in_err-made-in-Three.ensures.1 tt;
@@ -1058,14 +917,11 @@ inline_parts-returns-in_ok-made-in-Three t c =
     let r = rule_of s x in
     let h = head_of_node c.node-node.result in
     let e : tree_at s c.args.e ≡ Three h (tree_at s c.in-Three.a) (tree_at s c.in-Three.b) (tree_at s c.in-Three.c) = c.node-node.ensures.tree ∙ ap (assemble s h) (sym c.in-Three.ensures) in
-    let below : (c.in-Three.a.0 < c.args.e.0) × (c.in-Three.b.0 < c.args.e.0) × (c.in-Three.c.0 < c.args.e.0) = rw (← c.in-Three.ensures) at c.node-node.ensures.below in
+    let below : (c.in-Three.a.0 < c.args.e.0) × (c.in-Three.b.0 < c.args.e.0) × (c.in-Three.c.0 < c.args.e.0) = subst (AreBelow c.args.e.0) (sym c.in-Three.ensures) c.node-node.ensures.below in
     let held_a : Holds s c.in-Three.a = omega (arith, below.0, c.requires.can.held) in
     let held_b : Holds s c.in-Three.b = omega (arith, below.1, c.requires.can.held) in
     let held_c : Holds s c.in-Three.c = omega (arith, below.2, c.requires.can.held) in
-    let xs = three_parts r (tree_at s c.args.e) c.requires.can.typed h (tree_at s c.in-Three.a) (tree_at s c.in-Three.b) (tree_at s c.in-Three.c) e in
     let ready = c.requires.can.is_ready in
-    let keeps = rule_keeps s x.task.now x.bodies.now ready in
-    let v0 : Grows s s = Grows_refl s in
     let s1 = c.inline_tree-in-Three.new.store in
     let w1 : Grows s s1 = c.in_ok-x-in-Three.ensures.grows in
     let v1 : Grows s s1 = w1 in
