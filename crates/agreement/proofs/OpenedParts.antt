@@ -19,7 +19,7 @@ use Rattle.images.proofs.Changes.{open_inst_type, open_inst_sort}
 use Rattle.images.proofs.Templates.{term_has_type}
 use Rattle.congruence.specs.Alike.{IsClosedAt, ArePair}
 use Rattle.congruence.specs.Quantifiers.{quantifier_head}
-use Rattle.congruence.proofs.CaseParts.{formula_pair, parts_pair}
+use Rattle.congruence.proofs.CaseParts.{closed_formula, formula_pair, parts_pair}
 use Rattle.agreement.specs.declared.questions.Question.{Question}
 use Rattle.agreement.specs.Ranks.{rank, zero_ranks, ranks_put}
 use Rattle.agreement.specs.Agreement.{ArePartsOf, number_under}
@@ -37,6 +37,10 @@ quantified_rank false ty a = omega arith
 quantified_typed : (d : DraftTree) (u : Bool) (ty a : Tree) → TypedUnder (of_task d.task) [] (Two (quantifier_head u) ty a) → (sort_of a ≡ Formula) × IsTermOf (of_task d.task) ty (Param 0 ty) × TypedUnder (of_task d.task) (ty ∷ []) a × ((n : ℕ) → IsTermOf (of_task d.task) ty (Param n ty))
 quantified_typed d true ty a x = (x.0.0.1, record { sort = refl; typed = (x.0.0.0, tt, x.2); type = refl }, x.3, λ n. record { sort = refl; typed = (x.0.0.0, tt, x.2); type = refl })
 quantified_typed d false ty a x = (x.0.0.1, record { sort = refl; typed = (x.0.0.0, tt, x.2); type = refl }, x.3, λ n. record { sort = refl; typed = (x.0.0.0, tt, x.2); type = refl })
+
+pub quantified_formula : (d : DraftTree) (u : Bool) (id : TermId) (ty a : Tree) → IsClosedAt d id → tree_at d.trees id ≡ Two (quantifier_head u) ty a → IsFormulaAt d id
+quantified_formula d true id ty a c q = closed_formula d id c (ap sort_of q)
+quantified_formula d false id ty a c q = closed_formula d id c (ap sort_of q)
 
 quantified_ground : (u : Bool) (ty a : Tree) → IsGround (Two (quantifier_head u) ty a) → IsGround ty × IsGround a
 quantified_ground true ty a g = g

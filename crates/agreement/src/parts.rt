@@ -274,46 +274,26 @@ pub(crate) fn parts_of(draft: &mut Draft, q: Question) -> Result<Vec<Question>, 
     ensures grows { AddsTrees draft.old draft.new }
 {
     match draft.store().node(q.left) {
-        Node::Not(a) => {
-            let made = not_parts(draft, q, a)?;
-            Ok(made)
-        }
-        Node::Join(op, a, c) => {
-            let made = join_parts(draft, q, op, a, c)?;
-            Ok(made)
-        }
-        Node::Eq(a, c) => {
-            let made = equal_parts(draft, q, a, c)?;
-            Ok(made)
-        }
-        Node::If(c, a, b) => {
-            let made = if_parts(draft, q, c, a, b)?;
-            Ok(made)
-        }
-        Node::Forall(ty, a) => {
-            let made = under_parts(draft, q, true, ty, a)?;
-            Ok(made)
-        }
-        Node::Exists(ty, a) => {
-            let made = under_parts(draft, q, false, ty, a)?;
-            Ok(made)
-        }
-        Node::Let(v, a) => {
-            let made = let_parts(draft, q, v, a)?;
-            Ok(made)
-        }
-        Node::Fun(f, types, arguments, ty) => {
-            let made = symbol_parts(draft, q, SymbolAt::Function(f, types, ty), arguments)?;
-            Ok(made)
-        }
-        Node::Pred(p, types, arguments) => {
-            let made = symbol_parts(draft, q, SymbolAt::Predicate(p, types), arguments)?;
-            Ok(made)
-        }
-        Node::Case(scrutinee, arms) => {
-            let made = case_parts(draft, q, scrutinee, arms)?;
-            Ok(made)
-        }
+        Node::Not(a) => not_parts(draft, q, a),
+        Node::Join(op, a, c) => join_parts(draft, q, op, a, c),
+        Node::Eq(a, c) => equal_parts(draft, q, a, c),
+        Node::If(c, a, b) => if_parts(draft, q, c, a, b),
+        Node::Forall(ty, a) => under_parts(draft, q, true, ty, a),
+        Node::Exists(ty, a) => under_parts(draft, q, false, ty, a),
+        Node::Let(v, a) => let_parts(draft, q, v, a),
+        Node::Fun(f, types, arguments, ty) => symbol_parts(
+            draft,
+            q,
+            SymbolAt::Function(f, types, ty),
+            arguments,
+        ),
+        Node::Pred(p, types, arguments) => symbol_parts(
+            draft,
+            q,
+            SymbolAt::Predicate(p, types),
+            arguments,
+        ),
+        Node::Case(scrutinee, arms) => case_parts(draft, q, scrutinee, arms),
         _ => unreachable!(),
     }
 }
