@@ -1,8 +1,9 @@
 // Files of steps: what a whole file is read and written as, one with another line, and each beginning of one.
 // They depend on the reader and the writer of step files; the answers depend on them.
-ghost use Rattle.std.specs.Prelude.{IfOk};
+ghost use Rattle.std.specs.Prelude.{List, ℕ, IfOk};
 ghost use Rattle.tasks.specs.Meaning.{task_at, TaskHeld};
 ghost use Rattle.written_files.specs.kernel.Right.{Closes};
+ghost use Rattle.written_files.specs.step_files.Fed.{IsFed};
 ghost use Rattle.rule_rows.specs.Meaning.{steps_at, StepsHeld};
 
 use crate::words::number_of;
@@ -17,6 +18,39 @@ use written_files::{NameEntry, ReadFault, StepReader, written_steps};
 pub(crate) struct Tables {
     pub read: Vec<NameEntry>,
     pub written: Vec<NameEntry>,
+}
+
+// Feeds a piece.
+fn feed_piece(
+    reader: &mut StepReader,
+    store: &mut Store,
+    task: &Task,
+    table: &[NameEntry],
+    piece: &[u8],
+) -> Result<(), ReadFault>
+    requires task { TaskHeld store.old task.now }
+    requires fed { (bytes : List ℕ) × IsFed store.old task.now table.now bytes reader.old }
+    ensures task { TaskHeld store.new task.now }
+    ensures fed { (bytes : List ℕ) × IsFed store.new task.now table.now bytes reader.new }
+{
+    reader.feed(store, task, table, piece)
+}
+
+// The steps of a file that was fed.
+fn finish_file(
+    reader: StepReader,
+    store: &mut Store,
+    task: &Task,
+    table: &[NameEntry],
+) -> Result<Vec<Step>, ReadFault>
+    requires task { TaskHeld store.old task.now }
+    requires fed { (bytes : List ℕ) × IsFed store.old task.now table.now bytes reader }
+    ensures task { TaskHeld store.new task.now }
+    ensures held { IfOk result (λ v. StepsHeld store.new v.items) }
+    ensures closes { IfOk result (λ v. Closes (task_at store.new task.now)
+        (steps_at store.new v.items)) }
+{
+    reader.finish(store, task, table)
 }
 
 // The steps of a file, which is read in two pieces.
@@ -35,10 +69,9 @@ fn read_file(
         (steps_at store.new v.items)) }
 {
     let mut reader = StepReader::new(alloc, None);
-    reader.feed(store, task, table, first)?;
-    reader.feed(store, task, table, second)?;
-    let steps = reader.finish(store, task, table)?;
-    Ok(steps)
+    feed_piece(&mut reader, store, task, table, first)?;
+    feed_piece(&mut reader, store, task, table, second)?;
+    finish_file(reader, store, task, table)
 }
 
 // The first wrong line of a file, if there is one.
@@ -158,15 +191,11 @@ fn read_pieces(
 {
     let mut reader = StepReader::new(alloc, None);
     *taken = 0;
-    for k in 0..file.len() {
-        let end = k + 1;
-        if end == file.len() || end - *taken == size {
-            reader.feed(store, task, table, &file[*taken..end])?;
-            *taken = end;
-        }
+    for piece in file.chunks(size.max(1)) {
+        feed_piece(&mut reader, store, task, table, piece)?;
+        *taken = taken.saturating_add(piece.len());
     }
-    let steps = reader.finish(store, task, table)?;
-    Ok(steps)
+    finish_file(reader, store, task, table)
 }
 
 // How many steps a file has that is read in pieces, or its first wrong line and the bytes that were taken before the piece

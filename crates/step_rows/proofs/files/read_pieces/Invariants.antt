@@ -1,11 +1,10 @@
-use Rattle.std.proofs.Common.{ℕ, ◌≤◌, List}
+use Rattle.std.proofs.Common.{ℕ, List}
 use Rattle.tasks.specs.Meaning.{TaskHeld}
 use Rattle.written_files.specs.step_files.Fed.{IsFed}
 use Rattle.step_rows.proofs.files.read_pieces.Given as goal
 
-abbrev pub invariant-loop-k : goal.invariant-loop-k
-invariant-loop-k l = record {
+abbrev pub invariant-loop-piece : goal.invariant-loop-piece
+invariant-loop-piece l = record {
   task : TaskHeld l.store l.task;
   fed : (bytes : List ℕ) × IsFed l.store l.task l.table bytes l.reader;
-  taken : l.taken ≤ l.k;
 }
