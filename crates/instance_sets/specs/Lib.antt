@@ -1,0 +1,3 @@
+pub use Rattle.name_tables.specs as name_tables
+pub mod Made
+pub mod Sets
