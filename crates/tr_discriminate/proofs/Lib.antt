@@ -1,1 +1,5 @@
 pub mod Early
+pub mod Found
+pub mod Origins
+pub mod Making
+pub mod Searching

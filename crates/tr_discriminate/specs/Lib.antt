@@ -1,4 +1,5 @@
 pub use Rattle.wanted_instances.specs as wanted_instances
 pub mod Equation
 pub mod Kept
-pub mod Laws
+pub mod Found
+pub mod Origins

@@ -1,14 +1,11 @@
-//! What a task becomes by `discriminate`, which replaces polymorphic propositions by their wanted instances: its equation, that what it
-//! gives keeps what is declared and is valid, and where it is too large; no code yet.
+//! The transformation `discriminate`, which replaces polymorphic propositions by their wanted instances. Evidence is the old proposition
+//! at the types that an instance of it shows.
 //!
-//! Contract: definitions and laws.
+//! Contract: the task of the equation, and the laws of a transformation.
 #![tactic(auto)]
 
-ghost use Rattle.tr_discriminate.specs.Laws.{DiscriminateKeeps, EarlyIsExact};
+mod citing;
+mod discriminate;
+mod types;
 
-/// The laws of `discriminate`: what a valid task becomes declares the same, and is valid; and a task that is too large with the instances
-/// that are wanted at an earlier set of instances is too large. It does nothing when it runs.
-pub fn law_of_discriminate()
-    ensures keeps { DiscriminateKeeps }
-    ensures early { EarlyIsExact }
-{}
+pub use discriminate::Discriminate;

@@ -7,7 +7,7 @@ use Rattle.std.proofs.lemmas.List.Elements.{All-cons, All-nil, All-append, All-m
 use Rattle.tasks.specs.trees.Tree.{Tree, Leaf, One, Two, Three, Head, HTyVar, HTyApp, HBound, HParam, above_ty_vars}
 use Rattle.tasks.specs.trees.Sorts.{int_type}
 use Rattle.tasks.specs.trees.Binding.{typing, inst_types, change, TyVar}
-use Rattle.tasks.proofs.trees.Types.{OnlyTypes, only_types}
+use Rattle.trees.proofs.Types.{OnlyTypes, only_types}
 use Rattle.tasks.specs.declared.signature.SymbolKind.TheVariants.{Kind}
 use Rattle.tasks.specs.Task.{SymbolTree, BodyTree, MakesType, Makes, Defines, Induces, Constructs, Says, DeclarationTree, TaskTree, PropositionTree, said_by, props_of, props}
 use Rattle.tasks.specs.Vocabulary.{Vocabulary, of_task}

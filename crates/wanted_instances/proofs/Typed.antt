@@ -5,7 +5,7 @@ use Rattle.std.proofs.lemmas.List.Elements.{All-cons, All-nil, All-append}
 use Rattle.tasks.specs.trees.declared.Sort.TheVariants.{Kind}
 use Rattle.tasks.specs.trees.Tree.{Tree, Leaf, One, Two, Three, Head, HTyVar, HTyRigid, HTyApp, HCell, HBound, HParam, HNum, HFun, HPred, HEq, HLet, HIf, HCase, HArm, HPatAny, HPatVar, HPatCon, HPatAlias, head_of}
 use Rattle.tasks.specs.trees.Sorts.{sort_of, yield_type, type_of, int_type, IsList}
-use Rattle.tasks.proofs.trees.Types.{OnlyTypes, only_types}
+use Rattle.trees.proofs.Types.{OnlyTypes, only_types}
 use Rattle.tasks.specs.Vocabulary.{Vocabulary}
 use Rattle.tasks.specs.Typing.{bound_types, OneTyped, TypedUnder}
 use Rattle.tasks.specs.Valid.{VariablesBelow, IsTypeIn}
