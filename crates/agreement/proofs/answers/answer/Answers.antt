@@ -1,6 +1,8 @@
 use Rattle.std.proofs.Common.{◌≡◌, true, false, List, sym, ap, subst, ◌∙◌, arith}
-use Rattle.trees.specs.Tree.{Tree, Two, HForall, HExists, HLet}
+use Rattle.trees.specs.Tree.{Tree, Two, HForall, HExists, HLet, HCase}
 use Rattle.trees.specs.Node.{tree_at}
+use Rattle.congruence.specs.declared.applications.SymbolAt.TheVariants as symbol
+use Rattle.congruence.specs.Applications.{applied}
 use Rattle.agreement.specs.Agreement.{ArePartsOf}
 use Rattle.agreement.specs.Questions.{links_at}
 use Rattle.agreement.proofs.PartNodes.{no_parts}
@@ -93,6 +95,36 @@ answer_let-requires-clause-v_held c = omega (arith, c.in-Let.ensures.below.0, c.
 
 pub answer_let-requires-clause-a_held : goal.answer_let-requires-clause-a_held
 answer_let-requires-clause-a_held c = omega (arith, c.in-Let.ensures.below.1, c.requires.linked.asked.pair.left.held)
+
+pub answer_symbol-requires-clause-linked : goal.answer_symbol-requires-clause-linked
+answer_symbol-requires-clause-linked c = c.requires.linked
+
+pub answer_symbol-requires-clause-arguments_held : goal.answer_symbol-requires-clause-arguments_held
+answer_symbol-requires-clause-arguments_held c = omega (arith, c.in-Fun.ensures.below.1, c.requires.linked.asked.pair.left.held)
+
+pub answer_symbol-requires-clause-left : goal.answer_symbol-requires-clause-left
+answer_symbol-requires-clause-left c = subst (λ (s : List Tree). tree_at s c.args.q.left ≡ applied s (symbol.Function c.in-Fun.f c.in-Fun.types c.in-Fun.ty) (tree_at s c.in-Fun.arguments)) c.store.ensures c.in-Fun.ensures.tree
+
+pub answer_symbol-requires-in-Pred-clause-linked : goal.answer_symbol-requires-in-Pred-clause-linked
+answer_symbol-requires-in-Pred-clause-linked c = c.requires.linked
+
+pub answer_symbol-requires-in-Pred-clause-arguments_held : goal.answer_symbol-requires-in-Pred-clause-arguments_held
+answer_symbol-requires-in-Pred-clause-arguments_held c = omega (arith, c.in-Pred.ensures.below.1, c.requires.linked.asked.pair.left.held)
+
+pub answer_symbol-requires-in-Pred-clause-left : goal.answer_symbol-requires-in-Pred-clause-left
+answer_symbol-requires-in-Pred-clause-left c = subst (λ (s : List Tree). tree_at s c.args.q.left ≡ applied s (symbol.Predicate c.in-Pred.p c.in-Pred.types) (tree_at s c.in-Pred.arguments)) c.store.ensures c.in-Pred.ensures.tree
+
+pub answer_case-requires-clause-linked : goal.answer_case-requires-clause-linked
+answer_case-requires-clause-linked c = c.requires.linked
+
+pub answer_case-requires-clause-by_held : goal.answer_case-requires-clause-by_held
+answer_case-requires-clause-by_held c = omega (arith, c.in-Case.ensures.below.0, c.requires.linked.asked.pair.left.held)
+
+pub answer_case-requires-clause-arms_held : goal.answer_case-requires-clause-arms_held
+answer_case-requires-clause-arms_held c = omega (arith, c.in-Case.ensures.below.1, c.requires.linked.asked.pair.left.held)
+
+pub answer_case-requires-clause-left : goal.answer_case-requires-clause-left
+answer_case-requires-clause-left c = subst (λ (s : List Tree). tree_at s c.args.q.left ≡ Two HCase (tree_at s c.in-Case.scrutinee) (tree_at s c.in-Case.arms)) c.store.ensures c.in-Case.ensures.tree
 
 pub unreachable-requires : goal.unreachable-requires
 unreachable-requires c =

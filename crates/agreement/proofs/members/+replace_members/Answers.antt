@@ -1,7 +1,7 @@
-use Rattle.std.proofs.Common.{◌≡◌, List, length, ap, sym, subst, ◌∙◌, arith}
+use Rattle.std.proofs.Common.{◌≡◌, List, All, length, refl, ap, sym, subst, ◌∙◌, arith}
 use Rattle.trees.specs.declared.TermId.{TermId}
 use Rattle.trees.specs.Tree.{Tree, Two, HCell}
-use Rattle.trees.specs.Node.{tree_at, trees_at}
+use Rattle.trees.specs.Node.{tree_at, trees_at, Holds}
 use Rattle.images.specs.Templates.{listed}
 use Rattle.congruence.specs.Applications.{applied}
 use Rattle.evidence.specs.Laws.{Extends_trans}
@@ -105,3 +105,21 @@ returns-in_err-alike-in-Some-clause-grows t c = Extends_trans _ _ _ (Extends_tra
 
 pub returns-in-None-clause-right_is : goal.returns-in-None-clause-right_is
 returns-in-None-clause-right_is t c = none_left c.args.draft.now c.args.symbol c.args.before.now.items c.args.left c.args.list c.args.other c.args.links.now (no_links c.args.links.now c.in-None.ensures.cases) c.requires.can
+
+pub replace_argument-requires-clause-left : goal.replace_argument-requires-clause-left
+replace_argument-requires-clause-left t c = c.requires.can.whole
+
+pub replace_argument-requires-clause-symbol_held : goal.replace_argument-requires-clause-symbol_held
+replace_argument-requires-clause-symbol_held t c = c.requires.can.symbol_held
+
+pub replace_argument-requires-clause-before_held : goal.replace_argument-requires-clause-before_held
+replace_argument-requires-clause-before_held t c = subst (All (Holds c.args.draft.now.trees)) (sym c.deref.ensures.value) c.requires.can.before_held
+
+pub replace_argument-requires-clause-rest_held : goal.replace_argument-requires-clause-rest_held
+replace_argument-requires-clause-rest_held t c = c.member_parts-one.ensures.others_held
+
+pub chain-requires-clause-right : goal.chain-requires-clause-right
+chain-requires-clause-right t c = c.in_ok-more-in-Some.ensures.pair
+
+pub returns-in-None-clause-pair : goal.returns-in-None-clause-pair
+returns-in-None-clause-pair t c = record { left = c.requires.can.whole; right = c.requires.can.whole; sort = refl; type = refl }
