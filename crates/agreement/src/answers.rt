@@ -30,8 +30,7 @@ fn answer_not(draft: &mut Draft, q: Question, links: &[Link]) -> Result<AlikeBy,
     ensures grows { Extends draft.old draft.new }
 {
     let part = links[0];
-    let made = alike_not(draft, q.left, q.right, part.left, part.right, part.alike)?;
-    Ok(made)
+    alike_not(draft, q.left, q.right, part.left, part.right, part.alike)
 }
 
 // For two formulas of one connective.
@@ -50,7 +49,7 @@ fn answer_join(
 {
     let first = links[0];
     let second = links[1];
-    let made = alike_join(
+    alike_join(
         draft,
         op,
         q.left,
@@ -61,8 +60,7 @@ fn answer_join(
         second.right,
         first.alike,
         second.alike,
-    )?;
-    Ok(made)
+    )
 }
 
 // For two equations.
@@ -75,7 +73,7 @@ fn answer_equal(draft: &mut Draft, q: Question, links: &[Link]) -> Result<AlikeB
 {
     let first = links[0];
     let second = links[1];
-    let made = alike_equal(
+    alike_equal(
         draft,
         q.left,
         q.right,
@@ -85,8 +83,7 @@ fn answer_equal(draft: &mut Draft, q: Question, links: &[Link]) -> Result<AlikeB
         second.right,
         first.alike,
         second.alike,
-    )?;
-    Ok(made)
+    )
 }
 
 // For two `if`s.
@@ -118,8 +115,7 @@ fn answer_if(draft: &mut Draft, q: Question, links: &[Link]) -> Result<AlikeBy, 
         then_part: then_part.alike,
         else_part: else_part.alike,
     };
-    let made = alike_ifs(draft, left, right, links)?;
-    Ok(made)
+    alike_ifs(draft, left, right, links)
 }
 
 // For two quantified formulas.

@@ -333,8 +333,7 @@ fn alike_firsts(
         then_part: body.alike,
         else_part: others.alike,
     };
-    let made = alike_matches(draft, from, to, links)?;
-    Ok(made)
+    alike_matches(draft, from, to, links)
 }
 
 // Two `match`es with the same patterns, from evidence for their tests and bodies.
@@ -404,8 +403,7 @@ pub(crate) fn answer_case(
                 by: other_by,
                 arms: other_arms,
             };
-            let made = alike_branches(draft, left, right, links)?;
-            Ok(made)
+            alike_branches(draft, left, right, links)
         }
         _ => unreachable!(),
     }
