@@ -1,0 +1,3 @@
+pub use Rattle.outside.specs as outside
+pub mod Texts
+pub mod Files
