@@ -4,6 +4,8 @@ use Rattle.tasks.specs.Task.{TaskTree}
 use Rattle.tasks.specs.Valid.{IsValid}
 use Rattle.evidence.specs.Stages.{Gives, Keeps, TaskEquation, StageEquation, stage_equation}
 use Rattle.tr_define.specs.Kept.{definitions_equation, definitions_keep, inductives_equation, inductives_keep}
+use Rattle.tr_discriminate.specs.Equation.{discriminate_equation}
+use Rattle.tr_discriminate.specs.Kept.{discriminate_keeps}
 use Rattle.tr_if.specs.Eliminated.{if_equation}
 use Rattle.tr_if.specs.Kept.{if_keeps}
 use Rattle.tr_inline.specs.Kept.{inline_keeps}
@@ -18,7 +20,7 @@ use Rattle.tr_simplify.specs.Kept.{simplified_equation, simplified_keep}
 use Rattle.tr_split_goals.specs.Goals.{split_equation}
 use Rattle.tr_split_goals.specs.Kept.{split_keeps}
 use Rattle.transformations.specs.declared.transformation.Transformation.{Transformation}
-use Rattle.transformations.specs.declared.transformation.Transformation.TheVariants.{Remove, Split, Introduce, Definitions, InductiveGroups, Inline, Lets, Matches, Conditionals, SimplifiedFormulas}
+use Rattle.transformations.specs.declared.transformation.Transformation.TheVariants.{Remove, Split, Introduce, Definitions, InductiveGroups, Inline, Lets, Matches, Conditionals, SimplifiedFormulas, Discriminate}
 
 -- what is known of a transformation by itself
 pub record TransformationLaw : Type 0 where
@@ -36,6 +38,7 @@ law_of (Lets its) = record { equation = lets_equation; keeps = lets_keep }
 law_of (Matches its) = record { equation = matches_equation; keeps = matches_keep }
 law_of (Conditionals its) = record { equation = if_equation; keeps = if_keeps }
 law_of (SimplifiedFormulas its) = record { equation = simplified_equation; keeps = simplified_keep }
+law_of (Discriminate its) = record { equation = discriminate_equation; keeps = discriminate_keeps }
 
 abbrev pub task_equation_of : Transformation → TaskEquation
 task_equation_of x = (law_of x).equation

@@ -1,10 +1,11 @@
 -- The transformations that the words of a driver name, as far as they are built.
 use Rattle.std.specs.Prelude.{Option, Some, None}
 use Rattle.driver_items.specs.declared.kinds.Trans.{Trans}
-use Rattle.driver_items.specs.declared.kinds.Trans.TheVariants.{SplitGoalRight, IntroducePremises, EliminateDefinition, EliminateInductive, InlineAll, InlineGoal, InlineTrivial, EliminateLet, EliminateMatch, EliminateIf, SimplifyFormula}
+use Rattle.driver_items.specs.declared.kinds.Trans.TheVariants.{SplitGoalRight, IntroducePremises, EliminateDefinition, EliminateInductive, InlineAll, InlineGoal, InlineTrivial, EliminateLet, EliminateMatch, EliminateIf, SimplifyFormula, Discriminate}
 use Rattle.tr_inline.specs.full_bodies.inlining.declared.modes.InlineMode.TheVariants as mode
 use Rattle.transformations.specs.declared.transformation.Transformation.{Transformation}
 use Rattle.transformations.specs.declared.transformation.Transformation.TheVariants.{Split, Introduce, Definitions, InductiveGroups, Inline, Lets, Matches, Conditionals, SimplifiedFormulas}
+use Rattle.transformations.specs.declared.transformation.Transformation.TheVariants as transformation
 
 abbrev pub transformation_of : Trans → Option Transformation
 transformation_of SplitGoalRight = Some (Split (record {}))
@@ -18,4 +19,5 @@ transformation_of EliminateLet = Some (Lets (record {}))
 transformation_of EliminateMatch = Some (Matches (record {}))
 transformation_of EliminateIf = Some (Conditionals (record {}))
 transformation_of SimplifyFormula = Some (SimplifiedFormulas (record {}))
+transformation_of Discriminate = Some (transformation.Discriminate (record {}))
 transformation_of _ = None

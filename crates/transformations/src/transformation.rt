@@ -6,6 +6,7 @@ use evidence::{Draft, StageFault, Transform};
 use std::alloc::{AllocError, Global};
 use tasks::{Fact, Store, Task, TermId};
 use tr_define::{Definitions, InductiveGroups};
+use tr_discriminate::Discriminate;
 use tr_if::Conditionals;
 use tr_inline::Inline;
 use tr_introduce::Introduce;
@@ -28,6 +29,7 @@ pub enum Transformation {
     Matches(Matches),
     Conditionals(Conditionals),
     SimplifiedFormulas(SimplifiedFormulas),
+    Discriminate(Discriminate),
 }
 
 impl Transform for Transformation {
@@ -45,6 +47,7 @@ impl Transform for Transformation {
             Transformation::Matches(its) => its.make(alloc, store, task),
             Transformation::Conditionals(its) => its.make(alloc, store, task),
             Transformation::SimplifiedFormulas(its) => its.make(alloc, store, task),
+            Transformation::Discriminate(its) => its.make(alloc, store, task),
         }
     }
 
@@ -70,6 +73,7 @@ impl Transform for Transformation {
             Transformation::SimplifiedFormulas(its) => {
                 its.fact(from, to, name, types, formula, draft)
             }
+            Transformation::Discriminate(its) => its.fact(from, to, name, types, formula, draft),
         }
     }
 
@@ -91,6 +95,7 @@ impl Transform for Transformation {
             Transformation::Matches(its) => its.glue(from, to, ends, draft),
             Transformation::Conditionals(its) => its.glue(from, to, ends, draft),
             Transformation::SimplifiedFormulas(its) => its.glue(from, to, ends, draft),
+            Transformation::Discriminate(its) => its.glue(from, to, ends, draft),
         }
     }
 

@@ -6,6 +6,7 @@ ghost use Rattle.transformations.specs.Words.{transformation_of};
 use crate::transformation::Transformation;
 use driver_items::Trans;
 use tr_define::{Definitions, InductiveGroups};
+use tr_discriminate::Discriminate;
 use tr_if::Conditionals;
 use tr_inline::{Inline, InlineMode};
 use tr_introduce::Introduce;
@@ -36,6 +37,7 @@ pub fn transformation_of(name: Trans) -> Option<Transformation>
         Trans::EliminateMatch => Some(Transformation::Matches(Matches)),
         Trans::EliminateIf => Some(Transformation::Conditionals(Conditionals)),
         Trans::SimplifyFormula => Some(Transformation::SimplifiedFormulas(SimplifiedFormulas)),
-        Trans::Discriminate | Trans::EliminateAlgebraic | Trans::EliminateRecursion => None,
+        Trans::Discriminate => Some(Transformation::Discriminate(Discriminate)),
+        Trans::EliminateAlgebraic | Trans::EliminateRecursion => None,
     }
 }
