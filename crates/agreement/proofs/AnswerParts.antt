@@ -1,5 +1,5 @@
 -- What two expressions of one operator are, by their parts.
-use Rattle.std.proofs.Common.{◌≡◌, ℕ, Bool, true, false, length, List, [], ◌∷◌, Option, Some, IsSomeAnd, refl, sym, ap, subst, ◌∙◌}
+use Rattle.std.proofs.Common.{◌≡◌, ℕ, Bool, true, false, length, [], ◌∷◌, Some, IsSomeAnd, refl, sym, ap, subst, ◌∙◌}
 use Rattle.trees.specs.declared.Op.{Op}
 use Rattle.trees.specs.Tree.{Tree, HEnd, Leaf, One, Two, Three, HNot, HJoin, HEq, HForall, HExists, HLet, HIf}
 use Rattle.trees.specs.Binding.{inst, Param}

@@ -1,12 +1,12 @@
 -- What two lists of branches with the same patterns are, by their pairs.
-use Rattle.std.proofs.Common.{◌≡◌, ℕ, ◌⊎◌, inl, inr, List, [], ◌∷◌, Option, Some, IsSomeAnd, refl, sym, ap, subst, ◌∙◌}
+use Rattle.std.proofs.Common.{◌≡◌, ℕ, ◌⊎◌, inl, inr, [], ◌∷◌, IsSomeAnd, refl, sym, ap, subst, ◌∙◌}
 use Rattle.trees.specs.declared.Sort.TheVariants as sort
 use Rattle.trees.specs.Tree.{Tree, Leaf, One, Two, Three, HEnd, HCell, HArm, HCase, head_of}
 use Rattle.trees.specs.Binding.{inst_many}
 use Rattle.trees.specs.Sorts.{sort_of}
 use Rattle.tasks.specs.Task.{TaskTree}
 use Rattle.tasks.specs.MatchTests.{test, bind}
-use Rattle.agreement.specs.Agreement.{cell_parts, arm_parts, case_parts, asked_first, ArePairedBranches, ArePartsOf}
+use Rattle.agreement.specs.Agreement.{arm_parts, asked_first, ArePairedBranches, ArePartsOf}
 use Rattle.agreement.proofs.PartLists.{Pairs}
 use Rattle.agreement.proofs.Shapes.{cell_in, arm_in, case_in}
 

@@ -1,20 +1,17 @@
 -- The tests and bodies of the first branches of two `match`es with the same patterns are pairs of closed expressions, asked before
 -- the whole is answered.
-use Rattle.std.proofs.Common.{◌≡◌, ℕ, ◌+◌, ◌<◌, ◌≤◌, inl, inr, List, [], ◌∷◌, ◌++◌, All, refl, sym, ap, subst, ◌∙◌, append_assoc, arith}
+use Rattle.std.proofs.Common.{◌≡◌, ℕ, ◌<◌, ◌≤◌, inl, List, [], ◌∷◌, ◌++◌, refl, sym, ap, subst, ◌∙◌, append_assoc, arith}
 use Rattle.std.proofs.lemmas.List.Elements.{All-cons, All-nil}
 use Rattle.trees.specs.declared.TermId.{TermId}
-use Rattle.trees.specs.declared.Sort.TheVariants as sort
 use Rattle.trees.specs.Tree.{Tree, Leaf, Two, HEnd, HCase, HCell, HArm, above_params, head_of}
 use Rattle.trees.specs.Node.{tree_at, Holds}
 use Rattle.trees.specs.Binding.{inst_many}
 use Rattle.trees.specs.Sorts.{sort_of, type_of}
-use Rattle.tasks.specs.Task.{TaskTree}
 use Rattle.tasks.specs.MatchTests.{test, bind}
 use Rattle.tasks.specs.Valid.{IsGroundFormula, IsValid}
 use Rattle.congruence.specs.kernel.Right.{IsGroundExpression}
 use Rattle.evidence.specs.Drafts.{DraftTree, Extends}
 use Rattle.evidence.specs.Laws.{AddsTrees_refl, AddsTrees_extends}
-use Rattle.congruence.specs.Alike.{ArePair}
 use Rattle.congruence.proofs.Later.{held_later, tree_later}
 use Rattle.congruence.proofs.CaseParts.{formula_pair}
 use Rattle.agreement.specs.declared.questions.Question.{Question}

@@ -1,5 +1,5 @@
 -- The search for agreement: what is remembered, the questions for parts that agree, and the links that are found.
-use Rattle.std.proofs.Common.{◌≡◌, ℕ, ◌+◌, ◌*◌, ◌<◌, ◌≤◌, ◌&&◌, ◌⊎◌, inl, inr, nat_eq, cond, Bool, true, false, List, [], ◌∷◌, ◌++◌, length, get_or, All, Some, Contains, refl, sym, ap, subst, ◌∙◌, append_assoc, arith}
+use Rattle.std.proofs.Common.{◌≡◌, ℕ, ◌+◌, ◌*◌, ◌<◌, ◌≤◌, ◌⊎◌, inl, inr, nat_eq, cond, Bool, true, false, List, [], ◌∷◌, ◌++◌, length, get_or, All, Some, Contains, refl, sym, ap, subst, ◌∙◌, append_assoc, arith}
 use Rattle.std.proofs.lemmas.Bool.Decides.{nat_tests}
 use Rattle.binders.specs.Known.{same_pair}
 use Rattle.binders.proofs.Rebuilt.{both_true}
@@ -9,7 +9,6 @@ use Rattle.indexmap.specs.IndexMap.{IndexMap, get}
 use Rattle.trees.specs.declared.TermId.{TermId}
 use Rattle.trees.specs.Tree.{Tree, Leaf, HEnd}
 use Rattle.trees.specs.Node.{tree_at, Holds}
-use Rattle.tasks.specs.Task.{TaskTree}
 use Rattle.evidence.specs.Drafts.{DraftTree, Extends}
 use Rattle.evidence.specs.Laws.{Extends_trans}
 use Rattle.congruence.specs.declared.alike.AlikeBy.{AlikeBy}

@@ -1,4 +1,5 @@
 pub mod Ranks
+pub mod ShownSince
 pub mod PatternRanks
 pub mod BinderRanks
 pub mod CaseTrees

@@ -1,12 +1,12 @@
 -- An application, argument after argument: what is known before and after one argument is replaced.
-use Rattle.std.proofs.Common.{◌≡◌, List, [], ◌∷◌, ◌++◌, All, IsSomeAnd, length, refl, sym, ap, subst, ◌∙◌, arith}
+use Rattle.std.proofs.Common.{◌≡◌, List, [], ◌∷◌, ◌++◌, All, sym, ap, subst, ◌∙◌}
 use Rattle.std.proofs.lemmas.List.{map-append}
 use Rattle.std.proofs.lemmas.List.Elements.{All-cons, All-nil, All-head, All-tail, All-append}
 use Rattle.trees.specs.declared.TermId.{TermId}
 use Rattle.trees.specs.declared.Sort.TheVariants.{Term}
 use Rattle.trees.specs.Tree.{Tree, Leaf, One, Two, Three, HEnd, HCell}
 use Rattle.trees.specs.Node.{tree_at, trees_at, Holds}
-use Rattle.trees.specs.Sorts.{sort_of, IsList}
+use Rattle.trees.specs.Sorts.{sort_of}
 use Rattle.tasks.specs.Vocabulary.{of_task}
 use Rattle.tasks.specs.Typing.{TypedUnder}
 use Rattle.tasks.proofs.Closing.{typed_sorted}
@@ -20,7 +20,7 @@ use Rattle.congruence.proofs.Lists.{first_term, listed_terms, listed_one_more}
 use Rattle.congruence.proofs.ApplicationLaws.{applied_list}
 use Rattle.congruence.proofs.ApplicationHoles.{symbol_later, listed_later}
 use Rattle.agreement.specs.declared.questions.Link.{Link}
-use Rattle.agreement.specs.Agreement.{cell_parts, ArePaired}
+use Rattle.agreement.specs.Agreement.{ArePaired}
 use Rattle.agreement.specs.Questions.{CanReplace, IsShownLink, links_at}
 use Rattle.agreement.proofs.PartLists.{Pairs}
 use Rattle.agreement.proofs.Shapes.{cell_in, first_pairs, no_first, sides_same}

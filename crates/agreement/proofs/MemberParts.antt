@@ -1,27 +1,26 @@
 -- The arguments of two applications of one symbol, place by place, are pairs of closed terms, asked before the whole is answered.
-use Rattle.std.proofs.Common.{◌≡◌, ℕ, ◌<◌, ◌≤◌, inl, inr, List, [], ◌∷◌, ◌++◌, map, All, Option, Some, None, IsSomeAnd, refl, sym, ap, subst, ◌∙◌, append_assoc, arith}
+use Rattle.std.proofs.Common.{◌≡◌, ℕ, ◌<◌, ◌≤◌, inl, inr, List, [], ◌∷◌, ◌++◌, map, Option, Some, None, IsSomeAnd, refl, sym, ap, subst, ◌∙◌, append_assoc, arith}
 use Rattle.std.proofs.lemmas.List.{append-nil}
 use Rattle.std.proofs.lemmas.List.Elements.{All-cons, All-nil}
 use Rattle.trees.specs.declared.TermId.{TermId}
 use Rattle.trees.specs.declared.Sort.TheVariants.{Term}
-use Rattle.trees.specs.Tree.{Tree, Leaf, One, Two, Three, HEnd, HCell, HFun, HPred, above_params}
+use Rattle.trees.specs.Tree.{Tree, Leaf, Two, Three, HEnd, HCell, HFun, above_params}
 use Rattle.trees.specs.Node.{tree_at, Holds}
-use Rattle.trees.specs.Sorts.{sort_of, type_of, IsList}
+use Rattle.trees.specs.Sorts.{type_of, IsList}
 use Rattle.tasks.specs.Task.{TaskTree}
 use Rattle.tasks.specs.Vocabulary.{Vocabulary, of_task}
-use Rattle.tasks.specs.Typing.{TypedUnder, members, entry, IsUse}
+use Rattle.tasks.specs.Typing.{TypedUnder, members, entry}
 use Rattle.tasks.specs.Valid.{IsGround}
-use Rattle.congruence.specs.kernel.rule_rows.Forms.{application_parts}
 use Rattle.evidence.specs.Drafts.{DraftTree}
 use Rattle.congruence.specs.declared.applications.SymbolAt.{SymbolAt}
 use Rattle.congruence.specs.declared.applications.SymbolAt.TheVariants as symbol
 use Rattle.congruence.specs.Applications.{applied}
-use Rattle.congruence.specs.Alike.{IsClosedAt, ArePair}
+use Rattle.congruence.specs.Alike.{ArePair}
 use Rattle.congruence.proofs.Lists.{first_term, other_terms}
 use Rattle.congruence.proofs.ApplicationLaws.{applied_list, ground_list, above_list}
 use Rattle.agreement.specs.declared.questions.Question.{Question}
 use Rattle.agreement.specs.Ranks.{rank, zero_ranks, ranks_put}
-use Rattle.agreement.specs.Agreement.{cell_parts, predicate_parts, ArePaired, ArePartsOf, number_under}
+use Rattle.agreement.specs.Agreement.{ArePaired, ArePartsOf, number_under}
 use Rattle.agreement.specs.Questions.{IsAsked, IsLower, AreQuestions, AreLists, AddsQuestions, questions_at}
 use Rattle.agreement.proofs.PartLists.{Pairs}
 use Rattle.agreement.proofs.Shapes.{cell_in, function_in, predicate_in}

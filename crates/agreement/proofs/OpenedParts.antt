@@ -1,11 +1,11 @@
 -- The bodies of two quantified formulas at the next parameter, and of two `let`s at their values, are pairs of closed expressions,
 -- asked before the whole is answered.
-use Rattle.std.proofs.Common.{◌≡◌, ℕ, ◌+◌, ◌<◌, ◌≤◌, inl, inr, Bool, true, false, List, [], ◌∷◌, ◌++◌, Option, Some, refl, sym, ap, subst, ◌∙◌, arith}
+use Rattle.std.proofs.Common.{◌≡◌, ℕ, ◌+◌, ◌<◌, ◌≤◌, inl, Bool, true, false, [], ◌∷◌, ◌++◌, Option, refl, sym, ap, subst, ◌∙◌, arith}
 use Rattle.trees.specs.declared.TermId.{TermId}
 use Rattle.trees.specs.declared.Sort.TheVariants.{Term, Formula}
-use Rattle.trees.specs.Tree.{Tree, One, Two, HParam, HForall, HExists, HLet, above_params, loose, pat_vars}
+use Rattle.trees.specs.Tree.{Tree, Two, HLet, above_params, loose}
 use Rattle.trees.specs.Node.{tree_at, Holds}
-use Rattle.trees.specs.Binding.{inst, inst_many, Param}
+use Rattle.trees.specs.Binding.{inst, Param}
 use Rattle.trees.specs.Sorts.{sort_of, type_of, IsExpression}
 use Rattle.trees.proofs.Sorts.{term_no_vars}
 use Rattle.tasks.specs.Vocabulary.{of_task}
@@ -23,7 +23,7 @@ use Rattle.congruence.proofs.CaseParts.{closed_formula, formula_pair, parts_pair
 use Rattle.agreement.specs.declared.questions.Question.{Question}
 use Rattle.agreement.specs.Ranks.{rank, zero_ranks, ranks_put}
 use Rattle.agreement.specs.Agreement.{ArePartsOf, number_under}
-use Rattle.agreement.specs.Questions.{IsAsked, IsLower, AreQuestions}
+use Rattle.agreement.specs.Questions.{IsAsked, AreQuestions}
 use Rattle.agreement.proofs.Ranks.{expression_rank}
 use Rattle.agreement.proofs.BinderRanks.{inst_rank}
 use Rattle.agreement.proofs.PartLists.{Pairs}

@@ -1,19 +1,17 @@
 -- The parts of two negations, connectives, equations and `if`s are pairs of closed expressions, asked before the whole is answered.
-use Rattle.std.proofs.Common.{◌≡◌, ℕ, ◌<◌, ◌≤◌, ◌⊎◌, inl, inr, List, [], ◌∷◌, All, refl, sym, ap, subst, ◌∙◌, arith}
+use Rattle.std.proofs.Common.{◌≡◌, ℕ, ◌<◌, ◌≤◌, inl, inr, List, [], ◌∷◌, All, refl, sym, ap, subst, ◌∙◌, arith}
 use Rattle.std.proofs.lemmas.List.Elements.{All-cons, All-nil}
 use Rattle.trees.specs.declared.TermId.{TermId}
 use Rattle.trees.specs.declared.Op.{Op}
 use Rattle.trees.specs.declared.Sort.TheVariants.{Term, Formula}
 use Rattle.trees.specs.Tree.{Tree, One, Two, Three, HNot, HJoin, HEq, HIf, above_params, loose}
 use Rattle.trees.specs.Node.{tree_at, Holds}
-use Rattle.trees.specs.Sorts.{sort_of, type_of, IsExpression}
+use Rattle.trees.specs.Sorts.{sort_of, type_of}
 use Rattle.tasks.specs.Vocabulary.{of_task}
 use Rattle.tasks.specs.Typing.{TypedUnder}
 use Rattle.tasks.specs.Valid.{IsGround}
 use Rattle.evidence.specs.Drafts.{DraftTree, IsFormulaAt}
 use Rattle.congruence.specs.Alike.{IsClosedAt, ArePair}
-use Rattle.congruence.specs.declared.conditionals.Conditional.{Conditional}
-use Rattle.congruence.specs.Conditionals as conditionals
 use Rattle.congruence.proofs.CaseParts.{formula_pair, parts_pair, if_parts}
 use Rattle.agreement.specs.declared.questions.Question.{Question}
 use Rattle.agreement.specs.Ranks.{rank, zero_ranks, ranks_put}

@@ -1,9 +1,9 @@
 -- What is said of questions, pairs and links stays as the draft extends.
-use Rattle.std.proofs.Common.{◌≡◌, ℕ, ◌<◌, ◌≤◌, ◌⊎◌, inl, inr, List, [], ◌∷◌, ◌++◌, map, All, get_or, refl, sym, ap, subst, ◌∙◌}
+use Rattle.std.proofs.Common.{◌≡◌, ℕ, ◌<◌, ◌≤◌, ◌⊎◌, List, [], ◌∷◌, All, get_or, refl, sym, subst}
 use Rattle.std.proofs.lemmas.List.Elements.{All-head, All-tail}
 use Rattle.trees.specs.declared.TermId.{TermId}
 use Rattle.trees.specs.Tree.{Tree, above_params}
-use Rattle.trees.specs.Node.{tree_at, Holds}
+use Rattle.trees.specs.Node.{tree_at}
 use Rattle.tasks.specs.Task.{TaskTree, neg}
 use Rattle.congruence.specs.kernel.rule_rows.Forms.{alike}
 use Rattle.evidence.specs.Drafts.{DraftTree, Extends, Refutes}

@@ -1,7 +1,6 @@
 -- `match`es by their numbers, two of which have the same patterns, with questions and evidence for their branches.
-use Rattle.std.specs.Prelude.{◌≡◌, ℕ, ◌<◌, ◌≤◌, List, ◌∷◌, All}
+use Rattle.std.specs.Prelude.{◌≡◌, ◌<◌, ◌≤◌, List, ◌∷◌, All}
 use Rattle.trees.specs.declared.TermId.{TermId}
-use Rattle.trees.specs.declared.Sort.{Sort}
 use Rattle.trees.specs.declared.Sort.TheVariants as sort
 use Rattle.trees.specs.Tree.{Tree, Two, HCase, HCell, HArm, above_params, head_of}
 use Rattle.trees.specs.Node.{tree_at, Holds}
@@ -9,7 +8,6 @@ use Rattle.trees.specs.Sorts.{sort_of, type_of}
 use Rattle.congruence.specs.kernel.Right.{IsGroundExpression}
 use Rattle.evidence.specs.Drafts.{DraftTree}
 use Rattle.congruence.specs.declared.conditionals.Conditional.{Conditional}
-use Rattle.congruence.specs.declared.cases.CaseLinks.{CaseLinks}
 use Rattle.congruence.specs.Alike.{IsClosedAt, ArePair}
 use Rattle.congruence.specs.Conditionals.{IsConditional, IsMatchAt, IsLastBranch, AreLinked}
 use Rattle.agreement.specs.declared.questions.Question.{Question}
@@ -82,6 +80,22 @@ pub record HasMoreBranches (s : List Tree) (arms others : TermId) : Type 0 where
   pub rest : Tree
   pub is : tree_at s arms ≡ Two HCell (Two HArm pattern body) (tree_at s others)
   pub others_are : tree_at s others ≡ Two HCell (Two HArm next_pattern next_body) rest
+
+-- a list of two or more branches
+pub record HasTwoBranches (s : List Tree) (arms : TermId) : Type 0 where
+  pub pattern : Tree
+  pub body : Tree
+  pub next_pattern : Tree
+  pub next_body : Tree
+  pub rest : Tree
+  pub is : tree_at s arms ≡ Two HCell (Two HArm pattern body) (Two HCell (Two HArm next_pattern next_body) rest)
+
+-- the second is the first `match` with the branches after its first one
+pub record IsRestCase (d : DraftTree) (first rest : CaseAt) : Type 0 where
+  pub by : rest.by ≡ first.by
+  pub others : HasMoreBranches d.trees first.arms rest.arms
+  pub case : IsCaseAt d rest
+  pub pair : ArePair d first.whole rest.whole
 
 -- two closed `match`es with the same patterns, and evidence for their tests and bodies
 pub record AreLinkedCases (d : DraftTree) (left right : CaseAt) (links : List Link) : Type 0 where

@@ -85,14 +85,8 @@ fn agree_apart(
     ensures grows { Extends draft.old draft.new }
 {
     match step_for(draft, atoms, q.left, q.right) {
-        Some(step) => {
-            let made = alike_by_step(draft, q.left, q.right, step)?;
-            Ok(made)
-        }
-        None => {
-            let made = agree_parts(draft, atoms, known, q)?;
-            Ok(made)
-        }
+        Some(step) => alike_by_step(draft, q.left, q.right, step),
+        None => agree_parts(draft, atoms, known, q),
     }
 }
 
@@ -117,8 +111,7 @@ fn agree_parts(
     let _count = questions.len();
     let mut links = Vec::new(draft.allocator());
     agree_all(draft, atoms, known, q, &questions, &mut links)?;
-    let made = answer(draft, q, &links)?;
-    Ok(made)
+    answer(draft, q, &links)
 }
 
 // Adds the evidence for questions about parts of `whole`.
@@ -151,8 +144,7 @@ fn agree_all(
                 right: first.right,
                 alike,
             })?;
-            agree_all(draft, atoms, known, whole, others, links)?;
-            Ok(())
+            agree_all(draft, atoms, known, whole, others, links)
         }
         None => Ok(()),
     }
@@ -194,6 +186,5 @@ pub fn equiv(
     };
     let mut known = IndexMap::new(draft.allocator());
     let alike = agree(draft, atoms, &mut known, q)?;
-    let made = step_of_alike(draft, left, right, alike)?;
-    Ok(made)
+    step_of_alike(draft, left, right, alike)
 }

@@ -141,11 +141,10 @@ fn answer_under(
 {
     let b = body_of(draft, universal, q.right);
     let term = parameter(draft, q.number, ty)?;
-    let made = alike_quantified(
+    alike_quantified(
         draft, universal, q.left, q.right, ty, a, b, q.number, term, part.left, part.right,
         part.alike,
-    )?;
-    Ok(made)
+    )
 }
 
 /// From the one whole to the other by the values of both.
@@ -171,8 +170,7 @@ pub(crate) fn through(
 {
     let back = flip(draft, other, part.right, right)?;
     let there = chain(draft, whole, part.left, part.right, left, part.alike)?;
-    let made = chain(draft, whole, part.right, other, there, back)?;
-    Ok(made)
+    chain(draft, whole, part.right, other, there, back)
 }
 
 // For two `let`s.
@@ -199,8 +197,7 @@ fn answer_let(
         Node::Let(w, b) => {
             let left = alike_let(draft, q.left, part.left, v, a)?;
             let right = alike_let(draft, q.right, part.right, w, b)?;
-            let made = through(draft, q.left, q.right, part, left, right)?;
-            Ok(made)
+            through(draft, q.left, q.right, part, left, right)
         }
         _ => unreachable!(),
     }

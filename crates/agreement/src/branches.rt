@@ -22,7 +22,8 @@ ghost use Rattle.agreement.specs.Branches.{
   AreAskedCases,
   IsAskedBranch,
   IsCaseAt,
-  HasMoreBranches,
+  HasTwoBranches,
+  IsRestCase,
   AreLinkedCases,
   HasLastBodies,
   HasMore,
@@ -214,8 +215,7 @@ fn push_branches(
         Some(_) => {
             questions.push(first.test)?;
             questions.push(first.body)?;
-            push_branches(draft, q, first.others, questions)?;
-            Ok(())
+            push_branches(draft, q, first.others, questions)
         }
         None => {
             questions.push(first.body)?;
@@ -266,21 +266,44 @@ pub(crate) struct CaseAt {
 }
 
 // The `match` with the branches after the first.
-fn rest_case(draft: &mut Draft, case: CaseAt, others: TermId) -> Result<CaseAt, AllocError>
+fn rest_case(draft: &mut Draft, case: CaseAt) -> Result<CaseAt, AllocError>
     requires case { IsCaseAt draft.old case }
-    requires others_held { Holds draft.old.trees others }
-    requires others { HasMoreBranches draft.old.trees case.arms others }
-    ensures is { IfOk result (λ r. r ≡ record { whole = r.whole; by = case.by; arms = others }) }
-    ensures case { IfOk result (IsCaseAt draft.new) }
-    ensures pair { IfOk result (λ r. ArePair draft.new case.whole r.whole) }
+    requires more { HasTwoBranches draft.old.trees case.arms }
+    ensures rest { IfOk result (IsRestCase draft.new case) }
     ensures grows { AddsTrees draft.old draft.new }
 {
     let _task = draft.task();
-    let whole = draft.add(Node::Case(case.by, others))?;
+    let branch = first_branch(draft, case.arms);
+    let whole = draft.add(Node::Case(case.by, branch.others))?;
     Ok(CaseAt {
         whole,
         by: case.by,
-        arms: others,
+        arms: branch.others,
+    })
+}
+
+/// Two `match`es with the branches after the first.
+#[derive(Clone, Copy)]
+pub(crate) struct RestCases {
+    pub left: CaseAt,
+    pub right: CaseAt,
+}
+
+// Both with the branches after the first.
+fn rest_cases(draft: &mut Draft, left: CaseAt, right: CaseAt) -> Result<RestCases, AllocError>
+    requires left { IsCaseAt draft.old left }
+    requires left_more { HasTwoBranches draft.old.trees left.arms }
+    requires right { IsCaseAt draft.old right }
+    requires right_more { HasTwoBranches draft.old.trees right.arms }
+    ensures left { IfOk result (λ r. IsRestCase draft.new left r.left) }
+    ensures right { IfOk result (λ r. IsRestCase draft.new right r.right) }
+    ensures grows { AddsTrees draft.old draft.new }
+{
+    let one = rest_case(draft, left)?;
+    let two = rest_case(draft, right)?;
+    Ok(RestCases {
+        left: one,
+        right: two,
     })
 }
 
@@ -298,8 +321,7 @@ fn alike_lasts(
 {
     let first = alike_branch(draft, left.whole, body.left)?;
     let second = alike_branch(draft, right.whole, body.right)?;
-    let made = through(draft, left.whole, right.whole, body, first, second)?;
-    Ok(made)
+    through(draft, left.whole, right.whole, body, first, second)
 }
 
 // Two `match`es whose first tests and bodies are alike, and whose other branches are.
@@ -352,23 +374,16 @@ fn alike_branches(
     match links.split_first() {
         Some((first, others)) => match others.split_first() {
             Some((body, more)) => {
-                let one = first_branch(draft, left.arms);
-                let two = first_branch(draft, right.arms);
-                let rest_left = rest_case(draft, left, one.others)?;
-                let rest_right = rest_case(draft, right, two.others)?;
-                let alike = alike_branches(draft, rest_left, rest_right, more)?;
+                let rest = rest_cases(draft, left, right)?;
+                let alike = alike_branches(draft, rest.left, rest.right, more)?;
                 let rest = Link {
-                    left: rest_left.whole,
-                    right: rest_right.whole,
+                    left: rest.left.whole,
+                    right: rest.right.whole,
                     alike,
                 };
-                let made = alike_firsts(draft, left, right, *first, *body, rest)?;
-                Ok(made)
+                alike_firsts(draft, left, right, *first, *body, rest)
             }
-            None => {
-                let made = alike_lasts(draft, left, right, *first)?;
-                Ok(made)
-            }
+            None => alike_lasts(draft, left, right, *first),
         },
         None => unreachable!(),
     }

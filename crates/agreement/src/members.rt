@@ -45,8 +45,7 @@ fn push_members(
                 right: two.first,
                 number: q.number,
             })?;
-            push_members(draft, q, one.others, two.others, questions)?;
-            Ok(())
+            push_members(draft, q, one.others, two.others, questions)
         }
         None => Ok(()),
     }

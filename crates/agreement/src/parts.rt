@@ -28,15 +28,14 @@ fn not_parts(draft: &Draft, q: Question, a: TermId) -> Result<Vec<Question>, All
     let number = q.number;
     match draft.store().node(q.right) {
         Node::Not(b) => {
-            let made = Vec::from_slice(
+            Vec::from_slice(
                 draft.allocator(),
                 &[Question {
                     left: a,
                     right: b,
                     number,
                 }],
-            )?;
-            Ok(made)
+            )
         }
         _ => unreachable!(),
     }
@@ -62,7 +61,7 @@ fn join_parts(
     let number = q.number;
     match draft.store().node(q.right) {
         Node::Join(_, b, e) => {
-            let made = Vec::from_slice(
+            Vec::from_slice(
                 draft.allocator(),
                 &[
                     Question {
@@ -76,8 +75,7 @@ fn join_parts(
                         number,
                     },
                 ],
-            )?;
-            Ok(made)
+            )
         }
         _ => unreachable!(),
     }
@@ -102,7 +100,7 @@ fn equal_parts(
     let number = q.number;
     match draft.store().node(q.right) {
         Node::Eq(b, e) => {
-            let made = Vec::from_slice(
+            Vec::from_slice(
                 draft.allocator(),
                 &[
                     Question {
@@ -116,8 +114,7 @@ fn equal_parts(
                         number,
                     },
                 ],
-            )?;
-            Ok(made)
+            )
         }
         _ => unreachable!(),
     }
@@ -144,7 +141,7 @@ fn if_parts(
     let number = q.number;
     match draft.store().node(q.right) {
         Node::If(d, x, y) => {
-            let made = Vec::from_slice(
+            Vec::from_slice(
                 draft.allocator(),
                 &[
                     Question {
@@ -163,8 +160,7 @@ fn if_parts(
                         number,
                     },
                 ],
-            )?;
-            Ok(made)
+            )
         }
         _ => unreachable!(),
     }
@@ -195,15 +191,14 @@ fn under_parts(
     let term = parameter(draft, q.number, ty)?;
     let left = instance(draft.allocator(), draft, a, term)?;
     let right = instance(draft.allocator(), draft, b, term)?;
-    let made = Vec::from_slice(
+    Vec::from_slice(
         draft.allocator(),
         &[Question {
             left,
             right,
             number: q.number + 1,
         }],
-    )?;
-    Ok(made)
+    )
 }
 
 /// The body of a quantified formula.
@@ -251,15 +246,14 @@ fn let_parts(
         Node::Let(w, b) => {
             let left = instance(draft.allocator(), draft, a, v)?;
             let right = instance(draft.allocator(), draft, b, w)?;
-            let made = Vec::from_slice(
+            Vec::from_slice(
                 draft.allocator(),
                 &[Question {
                     left,
                     right,
                     number,
                 }],
-            )?;
-            Ok(made)
+            )
         }
         _ => unreachable!(),
     }

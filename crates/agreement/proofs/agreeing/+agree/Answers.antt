@@ -1,4 +1,5 @@
-use Rattle.std.proofs.Common.{◌≡◌, ◌+◌, ◌*◌, ◌<◌, ◌≤◌, ◌⊎◌, IsTrue, true, false, List, [], ◌∷◌, ◌++◌, All, length, refl, sym, ap, subst, ◌∙◌, arith}
+use Rattle.std.proofs.Common.{◌≡◌, IsTrue, false, List, [], All, length, refl, sym, ap, subst, arith}
+use Rattle.std.proofs.lemmas.Result.{IfOk-weaker}
 use Rattle.std.proofs.lemmas.List.Elements.{All-head, All-tail}
 use Rattle.trees.specs.Tree.{Tree}
 use Rattle.trees.specs.Node.{tree_at}
@@ -12,6 +13,7 @@ use Rattle.agreement.specs.Agreement.{ArePartsOf}
 use Rattle.agreement.specs.Questions.{IsAsked, IsLower, IsShownLink, AgreeAsked, AddsLinks, pairs_at, links_at}
 use Rattle.agreement.proofs.QuestionsLater.{asked_later, all_asked_later, pairs_later, same_pairs, all_agree_later, all_lower_later}
 use Rattle.agreement.proofs.FoundLinks.{known_later, known_more, parts_agree, parts_exist, questions_agree, no_questions, links_none, links_more, all_linked, parts_linked, falls}
+use Rattle.agreement.proofs.ShownSince.{shown_since}
 use Rattle.agreement.proofs.agreeing.+agree.Goals as goal
 
 true_no_false : IsTrue false → ⊥
@@ -40,8 +42,8 @@ agree-returns-clause-known t c =
     known_more d1 c.agree_apart.new.known c.insert.new.self q.left q.right c.in_ok-made.made c.in_ok-made.ensures.known (held_later d d1 x q.left p.left.held) (held_later d d1 x q.right p.right.held) s c.in_ok-insert.ensures.updates.0
 
 -- ---- agree_apart
-pub agree_apart-returns-in_ok-made-in-Some-clause-known : goal.agree_apart-returns-in_ok-made-in-Some-clause-known
-agree_apart-returns-in_ok-made-in-Some-clause-known t c = known_later c.args.draft.now c.alike_by_step.new.draft c.in_ok-made-in-Some.ensures.grows c.args.known.now c.requires.known
+pub agree_apart-returns-in-Some-clause-known : goal.agree_apart-returns-in-Some-clause-known
+agree_apart-returns-in-Some-clause-known t c = IfOk-weaker c.alike_by_step.result _ _ (λ w s. known_later c.args.draft.now c.alike_by_step.new.draft c.alike_by_step.ensures.grows c.args.known.now c.requires.known) c.alike_by_step.ensures.shows
 
 pub agree_apart-agree_parts-requires : goal.agree_apart-agree_parts-requires
 agree_apart-agree_parts-requires t c =
@@ -88,28 +90,19 @@ agree_parts-answer-requires t c =
 pub agree_parts-returns-clause-shows : goal.agree_parts-returns-clause-shows
 agree_parts-returns-clause-shows t c =
     let d = c.args.draft.now in
+    let d1 = c.parts_of.new.draft in
     let d2 = c.agree_all.new.draft in
-    let x = Extends_trans d c.parts_of.new.draft d2 (AddsTrees_extends d c.parts_of.new.draft c.in_ok-questions.ensures.grows) c.in_ok-agree_all.ensures.grows in
-    let q = c.args.q in
-    let p = c.requires.asked.pair in
-    let s : Shows c.answer.new.draft c.in_ok-made.made (tree_at d.trees q.left) (tree_at d.trees q.right) = rw (← tree_later d d2 x q.left p.left.held, ← tree_later d d2 x q.right p.right.held) c.in_ok-made.ensures.shows in
-    s
+    shown_since c.answer.result d d2 c.answer.new.draft (Extends_trans d d1 d2 (AddsTrees_extends d d1 c.in_ok-questions.ensures.grows) c.in_ok-agree_all.ensures.grows) c.args.q.left c.args.q.right c.requires.asked.pair c.answer.ensures.shows
 
 pub agree_parts-returns-clause-known : goal.agree_parts-returns-clause-known
-agree_parts-returns-clause-known t c = known_later c.agree_all.new.draft c.answer.new.draft c.in_ok-made.ensures.grows c.agree_all.new.known c.in_ok-agree_all.ensures.known
+agree_parts-returns-clause-known t c = IfOk-weaker c.answer.result _ _ (λ w s. known_later c.agree_all.new.draft c.answer.new.draft c.answer.ensures.grows c.agree_all.new.known c.in_ok-agree_all.ensures.known) c.answer.ensures.shows
 
 pub agree_parts-returns-clause-grows : goal.agree_parts-returns-clause-grows
-agree_parts-returns-clause-grows t c = Extends_trans _ _ _ (Extends_trans _ _ _ (AddsTrees_extends _ _ c.in_ok-questions.ensures.grows) c.in_ok-agree_all.ensures.grows) c.in_ok-made.ensures.grows
-
-pub agree_parts-returns-in_err-made-clause-grows : goal.agree_parts-returns-in_err-made-clause-grows
-agree_parts-returns-in_err-made-clause-grows t c = Extends_trans _ _ _ (Extends_trans _ _ _ (AddsTrees_extends _ _ c.in_ok-questions.ensures.grows) c.in_ok-agree_all.ensures.grows) c.in_err-made.ensures.grows
+agree_parts-returns-clause-grows t c = Extends_trans _ _ _ (Extends_trans _ _ _ (AddsTrees_extends _ _ c.in_ok-questions.ensures.grows) c.in_ok-agree_all.ensures.grows) c.answer.ensures.grows
 
 -- ---- agree_all
-pub agree_all-returns-in_ok-agree_all-in-Some-clause-grows : goal.agree_all-returns-in_ok-agree_all-in-Some-clause-grows
-agree_all-returns-in_ok-agree_all-in-Some-clause-grows t c = Extends_trans _ _ _ c.in_ok-alike-in-Some.ensures.grows c.in_ok-agree_all-in-Some.ensures.grows
-
-pub agree_all-returns-in_err-agree_all-in-Some-clause-grows : goal.agree_all-returns-in_err-agree_all-in-Some-clause-grows
-agree_all-returns-in_err-agree_all-in-Some-clause-grows t c = Extends_trans _ _ _ c.in_ok-alike-in-Some.ensures.grows c.in_err-agree_all-in-Some.ensures.grows
+pub agree_all-returns-in_ok-push-in-Some-clause-grows : goal.agree_all-returns-in_ok-push-in-Some-clause-grows
+agree_all-returns-in_ok-push-in-Some-clause-grows t c = Extends_trans _ _ _ c.in_ok-alike-in-Some.ensures.grows c.agree_all.ensures.grows
 
 pub agree_all-agree-requires : goal.agree_all-agree-requires
 agree_all-agree-requires t c =
@@ -144,13 +137,15 @@ agree_all-agree_all-requires t c =
     let all_lower = all_lower_later d d1 x whole r.whole others asked low in
     (omega (arith, less, same_rank), (pairs_later d d1 x as' r.atoms, (c.in_ok-alike-in-Some.ensures.known, (asked_later d d1 x whole r.whole, (all_asked_later d d1 x others asked, (all_agree, all_lower))))))
 
-pub agree_all-returns-in_ok-agree_all-in-Some-clause-links : goal.agree_all-returns-in_ok-agree_all-in-Some-clause-links
-agree_all-returns-in_ok-agree_all-in-Some-clause-links t c =
+pub agree_all-returns-in_ok-push-in-Some-clause-links : goal.agree_all-returns-in_ok-push-in-Some-clause-links
+agree_all-returns-in_ok-push-in-Some-clause-links t c =
     let first = c.in-Some.first.now in
     let others = c.in-Some.others.now in
     let e = c.in-Some.ensures.cases.0 in
-    links_more c.args.draft.now c.agree.new.draft c.agree_all.new.draft c.in_ok-alike-in-Some.ensures.grows c.in_ok-agree_all-in-Some.ensures.grows first others (subst (All (IsAsked c.args.draft.now)) e c.requires.asked) c.in_ok-alike-in-Some.alike c.in_ok-alike-in-Some.ensures.shows
-    c.args.links.now.items c.push.new.self.items c.agree_all.new.links.items c.in_ok-push-in-Some.ensures.items c.in_ok-agree_all-in-Some.ensures.links c.args.questions.now e
+    IfOk-weaker c.agree_all.result _ _
+    (λ u a. links_more c.args.draft.now c.agree.new.draft c.agree_all.new.draft c.in_ok-alike-in-Some.ensures.grows c.agree_all.ensures.grows first others (subst (All (IsAsked c.args.draft.now)) e c.requires.asked) c.in_ok-alike-in-Some.alike c.in_ok-alike-in-Some.ensures.shows
+    c.args.links.now.items c.push.new.self.items c.agree_all.new.links.items c.in_ok-push-in-Some.ensures.items a c.args.questions.now e)
+    c.agree_all.ensures.links
 
 pub agree_all-returns-in-None-clause-links : goal.agree_all-returns-in-None-clause-links
 agree_all-returns-in-None-clause-links t c = links_none c.args.draft.now c.args.links.now.items c.args.questions.now (no_questions c.args.questions.now c.in-None.ensures.cases)

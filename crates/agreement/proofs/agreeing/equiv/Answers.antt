@@ -1,4 +1,5 @@
-use Rattle.std.proofs.Common.{◌≡◌, ℕ, ◌≤◌, [], ◌∷◌, sym, subst}
+use Rattle.std.proofs.Common.{ℕ, ◌≤◌, [], ◌∷◌, sym, subst}
+use Rattle.std.proofs.lemmas.Result.{IfOk-weaker}
 use Rattle.trees.specs.Tree.{Tree, above_params}
 use Rattle.trees.specs.Node.{tree_at}
 use Rattle.tasks.specs.Task.{neg}
@@ -39,6 +40,9 @@ step_of_alike-requires-clause-shows c =
     let s : Shows d1 c.in_ok-alike.alike (tree_at d1.trees c.args.left) (tree_at d1.trees c.args.right) = rw (tree_later d d1 x c.args.left p.left.held, tree_later d d1 x c.args.right p.right.held) c.in_ok-alike.ensures.shows in
     s
 
+pub returns-clause-grows : goal.returns-clause-grows
+returns-clause-grows c = Extends_trans _ _ _ c.in_ok-alike.ensures.grows c.step_of_alike.ensures.grows
+
 pub returns-clause-refutes : goal.returns-clause-refutes
 returns-clause-refutes c =
     let d = c.args.draft.now in
@@ -46,11 +50,4 @@ returns-clause-refutes c =
     let d2 = c.step_of_alike.new.draft in
     let x = c.in_ok-alike.ensures.grows in
     let p = c.requires.sides in
-    let s : Refutes d2 c.in_ok-made.made (neg (alike (tree_at d.trees c.args.left) (tree_at d.trees c.args.right)) ∷ []) = rw (← tree_later d d1 x c.args.left p.left.held, ← tree_later d d1 x c.args.right p.right.held) c.in_ok-made.ensures.refutes in
-    s
-
-pub returns-clause-grows : goal.returns-clause-grows
-returns-clause-grows c = Extends_trans _ _ _ c.in_ok-alike.ensures.grows c.in_ok-made.ensures.grows
-
-pub returns-in_err-made-clause-grows : goal.returns-in_err-made-clause-grows
-returns-in_err-made-clause-grows c = Extends_trans _ _ _ c.in_ok-alike.ensures.grows c.in_err-made.ensures.grows
+    IfOk-weaker c.step_of_alike.result _ _ (λ k r. subst (λ (z : Tree). Refutes d2 k (neg (alike z (tree_at d.trees c.args.right)) ∷ [])) (tree_later d d1 x c.args.left p.left.held) (subst (λ (z : Tree). Refutes d2 k (neg (alike (tree_at d1.trees c.args.left) z) ∷ [])) (tree_later d d1 x c.args.right p.right.held) r)) c.step_of_alike.ensures.refutes

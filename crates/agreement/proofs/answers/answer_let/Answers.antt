@@ -1,13 +1,13 @@
 use Rattle.std.proofs.Common.{◌≡◌, List, sym, subst, ◌∙◌, arith}
 use Rattle.trees.specs.Tree.{Tree, Two, HLet}
 use Rattle.trees.specs.Node.{tree_at, Holds}
-use Rattle.evidence.specs.Drafts.{DraftTree}
 use Rattle.evidence.specs.Laws.{Extends_trans}
-use Rattle.congruence.specs.Alike.{Shows, ArePair}
+use Rattle.congruence.specs.Alike.{Shows}
 use Rattle.congruence.proofs.Later.{held_later, tree_later, pair_later, shows_later}
 use Rattle.agreement.proofs.AnswerParts.{let_is, let_right}
 use Rattle.agreement.proofs.OpenedParts.{value_pair}
 use Rattle.agreement.proofs.QuestionsLater.{link_later}
+use Rattle.agreement.proofs.ShownSince.{shown_since}
 use Rattle.agreement.proofs.answers.answer_let.Goals as goal
 
 pub alike_let-requires-clause-pair : goal.alike_let-requires-clause-pair
@@ -62,12 +62,6 @@ through-requires-clause-left c =
     let s = shows_later d1 d2 y left _ _ c.in_ok-left-in-Let.ensures.shows in
     subst (λ (z : Tree). Shows d2 left z (tree_at d2.trees c.args.part.left)) (sym (tree_later d d2 x c.args.q.left c.requires.asked.pair.left.held))
     (subst (λ (z : Tree). Shows d2 left (tree_at d.trees c.args.q.left) z) (sym (tree_later d d2 x c.args.part.left c.requires.part.pair.left.held)) s)
-
-pub returns-in_err-made-in-Let-clause-grows : goal.returns-in_err-made-in-Let-clause-grows
-returns-in_err-made-in-Let-clause-grows c = Extends_trans _ _ _ (Extends_trans _ _ _ c.in_ok-left-in-Let.ensures.grows c.in_ok-right-in-Let.ensures.grows) c.in_err-made-in-Let.ensures.grows
-
-pub returns-clause-grows : goal.returns-clause-grows
-returns-clause-grows c = Extends_trans _ _ _ (Extends_trans _ _ _ c.in_ok-left-in-Let.ensures.grows c.in_ok-right-in-Let.ensures.grows) c.in_ok-made-in-Let.ensures.grows
 
 pub alike_let-requires-clause-value_held : goal.alike_let-requires-clause-value_held
 alike_let-requires-clause-value_held c = c.requires.v_held
@@ -141,10 +135,8 @@ through-requires-clause-right c =
     subst (λ (z : Tree). Shows d2 c.in_ok-right-in-Let.right z (tree_at d2.trees c.args.part.right)) (sym (tree_later d1 d2 y c.args.q.right hq))
     (subst (λ (z : Tree). Shows d2 c.in_ok-right-in-Let.right (tree_at d1.trees c.args.q.right) z) (sym (tree_later d1 d2 y c.args.part.right hp)) c.in_ok-right-in-Let.ensures.shows)
 
+pub returns-clause-grows : goal.returns-clause-grows
+returns-clause-grows c = Extends_trans _ _ _ (Extends_trans _ _ _ c.in_ok-left-in-Let.ensures.grows c.in_ok-right-in-Let.ensures.grows) c.through.ensures.grows
+
 pub returns-clause-shows : goal.returns-clause-shows
-returns-clause-shows c =
-    let d = c.args.draft.now in
-    let d2 = c.alike_let-in-Let.new.draft in
-    let x = (Extends_trans c.args.draft.now c.alike_let.new.draft c.alike_let-in-Let.new.draft c.in_ok-left-in-Let.ensures.grows c.in_ok-right-in-Let.ensures.grows) in
-    subst (λ (z : Tree). Shows c.through.new.draft c.in_ok-made-in-Let.made z (tree_at d.trees c.args.q.right)) (tree_later d d2 x c.args.q.left c.requires.asked.pair.left.held)
-    (subst (λ (z : Tree). Shows c.through.new.draft c.in_ok-made-in-Let.made (tree_at d2.trees c.args.q.left) z) (tree_later d d2 x c.args.q.right c.requires.asked.pair.right.held) c.in_ok-made-in-Let.ensures.shows)
+returns-clause-shows c = shown_since c.through.result c.args.draft.now c.alike_let-in-Let.new.draft c.through.new.draft (Extends_trans _ _ _ c.in_ok-left-in-Let.ensures.grows c.in_ok-right-in-Let.ensures.grows) c.args.q.left c.args.q.right c.requires.asked.pair c.through.ensures.shows

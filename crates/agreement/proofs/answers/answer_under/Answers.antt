@@ -1,14 +1,14 @@
 use Rattle.std.proofs.Common.{◌≡◌, ◌≤◌, sym, ap, subst, ◌∙◌}
-use Rattle.trees.specs.Tree.{Tree, Two, above_params}
+use Rattle.trees.specs.Tree.{Tree, above_params}
 use Rattle.trees.specs.Node.{tree_at}
 use Rattle.trees.specs.Binding.{inst, Param}
 use Rattle.evidence.specs.Laws.{AddsTrees_extends, Extends_trans}
 use Rattle.evidence.proofs.Formulas.{formula_later}
-use Rattle.congruence.specs.Quantifiers.{quantifier_head}
 use Rattle.congruence.proofs.Later.{held_later, tree_later, pair_later, shows_at}
 use Rattle.congruence.proofs.CaseParts.{closed_formula}
 use Rattle.agreement.proofs.AnswerParts.{under_is, under_right}
 use Rattle.agreement.proofs.OpenedParts.{quantified_formula, opened_sort}
+use Rattle.agreement.proofs.ShownSince.{shown_since}
 use Rattle.agreement.proofs.answers.answer_under.Goals as goal
 
 pub body_of-b-requires-clause-is : goal.body_of-b-requires-clause-is
@@ -99,8 +99,8 @@ alike_quantified-requires-clause-right_above c = subst (λ (z : Tree). above_par
 pub alike_quantified-requires-clause-shows : goal.alike_quantified-requires-clause-shows
 alike_quantified-requires-clause-shows c = shows_at c.args.draft.now c.parameter.new.g (AddsTrees_extends c.args.draft.now c.parameter.new.g c.in_ok-term.ensures.grows) c.args.part.alike c.args.part.left c.args.part.right c.requires.part.pair.left.held c.requires.part.pair.right.held c.requires.part.shows
 
-pub returns-in_err-made-clause-grows : goal.returns-in_err-made-clause-grows
-returns-in_err-made-clause-grows c = Extends_trans _ _ _ (AddsTrees_extends _ _ c.in_ok-term.ensures.grows) c.in_err-made.ensures.grows
-
 pub returns-clause-grows : goal.returns-clause-grows
-returns-clause-grows c = Extends_trans _ _ _ (AddsTrees_extends _ _ c.in_ok-term.ensures.grows) c.in_ok-made.ensures.grows
+returns-clause-grows c = Extends_trans _ _ _ (AddsTrees_extends _ _ c.in_ok-term.ensures.grows) c.alike_quantified.ensures.grows
+
+pub returns-clause-shows : goal.returns-clause-shows
+returns-clause-shows c = shown_since c.alike_quantified.result c.args.draft.now c.parameter.new.g c.alike_quantified.new.draft (AddsTrees_extends _ _ c.in_ok-term.ensures.grows) c.args.q.left c.args.q.right c.requires.asked.pair c.alike_quantified.ensures.shows

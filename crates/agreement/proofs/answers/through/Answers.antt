@@ -1,10 +1,11 @@
-use Rattle.std.proofs.Common.{◌≡◌, sym, subst}
+use Rattle.std.proofs.Common.{sym, subst}
 use Rattle.trees.specs.Tree.{Tree}
 use Rattle.trees.specs.Node.{tree_at}
 use Rattle.evidence.specs.Laws.{Extends_trans}
 use Rattle.congruence.specs.Alike.{Shows}
 use Rattle.congruence.proofs.Later.{tree_later, pair_later, shows_later, shows_at}
 use Rattle.congruence.proofs.CaseParts.{pair_turned, pair_through}
+use Rattle.agreement.proofs.ShownSince.{shown_since}
 use Rattle.agreement.proofs.answers.through.Goals as goal
 
 pub returns-in_err-there-clause-grows : goal.returns-in_err-there-clause-grows
@@ -58,16 +59,8 @@ chain-requires-2-clause-second c =
     subst (λ (z : Tree). Shows d2 back z (tree_at d2.trees c.args.other)) (sym (tree_later d d2 x c.args.part.right c.requires.part.pair.right.held))
     (subst (λ (z : Tree). Shows d2 back (tree_at d.trees c.args.part.right) z) (sym (tree_later d d2 x c.args.other c.requires.sides.right.held)) s)
 
-pub returns-in_err-made-clause-grows : goal.returns-in_err-made-clause-grows
-returns-in_err-made-clause-grows c = Extends_trans _ _ _ (Extends_trans _ _ _ c.in_ok-back.ensures.grows c.in_ok-there.ensures.grows) c.in_err-made.ensures.grows
-
 pub returns-clause-grows : goal.returns-clause-grows
-returns-clause-grows c = Extends_trans _ _ _ (Extends_trans _ _ _ c.in_ok-back.ensures.grows c.in_ok-there.ensures.grows) c.in_ok-made.ensures.grows
+returns-clause-grows c = Extends_trans _ _ _ (Extends_trans _ _ _ c.in_ok-back.ensures.grows c.in_ok-there.ensures.grows) c.chain-2.ensures.grows
 
 pub returns-clause-shows : goal.returns-clause-shows
-returns-clause-shows c =
-    let d = c.args.draft.now in
-    let d2 = c.chain.new.draft in
-    let x = Extends_trans d c.flip.new.draft d2 c.in_ok-back.ensures.grows c.in_ok-there.ensures.grows in
-    let s : Shows c.chain-2.new.draft c.in_ok-made.made (tree_at d.trees c.args.whole) (tree_at d.trees c.args.other) = rw (← tree_later d d2 x c.args.whole c.requires.sides.left.held, ← tree_later d d2 x c.args.other c.requires.sides.right.held) c.in_ok-made.ensures.shows in
-    s
+returns-clause-shows c = shown_since c.chain-2.result c.args.draft.now c.chain.new.draft c.chain-2.new.draft (Extends_trans _ _ _ c.in_ok-back.ensures.grows c.in_ok-there.ensures.grows) c.args.whole c.args.other c.requires.sides c.chain-2.ensures.shows

@@ -1,11 +1,10 @@
-use Rattle.std.proofs.Common.{◌≡◌, sym, ap, subst, ◌∙◌}
-use Rattle.trees.specs.Tree.{Tree}
 use Rattle.trees.specs.Node.{tree_at}
 use Rattle.evidence.specs.Laws.{Extends_trans}
 use Rattle.congruence.specs.Alike.{Shows}
 use Rattle.congruence.specs.Conditionals.{IsLastBranch}
 use Rattle.congruence.proofs.Later.{tree_later, pair_later, shows_at}
 use Rattle.agreement.proofs.QuestionsLater.{link_later}
+use Rattle.agreement.proofs.ShownSince.{shown_since}
 use Rattle.agreement.proofs.branches.alike_lasts.Goals as goal
 
 pub alike_branch-requires-clause-pair : goal.alike_branch-requires-clause-pair
@@ -59,21 +58,11 @@ through-requires-clause-right c =
     let s : Shows d2 c.in_ok-second.second (tree_at d2.trees c.args.right.whole) (tree_at d2.trees c.args.body.right) = rw (tree_later d1 d2 y c.args.right.whole p.left.held, tree_later d1 d2 y c.args.body.right p.right.held) c.in_ok-second.ensures.shows in
     s
 
-pub returns-clause-shows : goal.returns-clause-shows
-returns-clause-shows c =
-    let d = c.args.draft.now in
-    let d2 = c.alike_branch-2.new.draft in
-    let d3 = c.through.new.draft in
-    let x = Extends_trans d c.alike_branch.new.draft d2 c.in_ok-first.ensures.grows c.in_ok-second.ensures.grows in
-    let k = c.requires.last.pair in
-    let s : Shows d3 c.in_ok-made.made (tree_at d.trees c.args.left.whole) (tree_at d.trees c.args.right.whole) = rw (← tree_later d d2 x c.args.left.whole k.left.held, ← tree_later d d2 x c.args.right.whole k.right.held) c.in_ok-made.ensures.shows in
-    s
-
-pub returns-clause-grows : goal.returns-clause-grows
-returns-clause-grows c = Extends_trans _ _ _ (Extends_trans _ _ _ c.in_ok-first.ensures.grows c.in_ok-second.ensures.grows) c.in_ok-made.ensures.grows
-
 pub returns-in_err-second-clause-grows : goal.returns-in_err-second-clause-grows
 returns-in_err-second-clause-grows c = Extends_trans _ _ _ c.in_ok-first.ensures.grows c.in_err-second.ensures.grows
 
-pub returns-in_err-made-clause-grows : goal.returns-in_err-made-clause-grows
-returns-in_err-made-clause-grows c = Extends_trans _ _ _ (Extends_trans _ _ _ c.in_ok-first.ensures.grows c.in_ok-second.ensures.grows) c.in_err-made.ensures.grows
+pub returns-clause-grows : goal.returns-clause-grows
+returns-clause-grows c = Extends_trans _ _ _ (Extends_trans _ _ _ c.in_ok-first.ensures.grows c.in_ok-second.ensures.grows) c.through.ensures.grows
+
+pub returns-clause-shows : goal.returns-clause-shows
+returns-clause-shows c = shown_since c.through.result c.args.draft.now c.alike_branch-2.new.draft c.through.new.draft (Extends_trans _ _ _ c.in_ok-first.ensures.grows c.in_ok-second.ensures.grows) c.args.left.whole c.args.right.whole c.requires.last.pair c.through.ensures.shows

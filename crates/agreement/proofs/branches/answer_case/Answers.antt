@@ -1,4 +1,4 @@
-use Rattle.std.proofs.Common.{◌≡◌, List, sym, ap, subst, arith}
+use Rattle.std.proofs.Common.{◌≡◌, List, subst, arith}
 use Rattle.trees.specs.Tree.{Tree, Two, HCase}
 use Rattle.trees.specs.Node.{tree_at, Holds}
 use Rattle.agreement.specs.Questions.{links_at}

@@ -1,5 +1,4 @@
-use Rattle.std.proofs.Common.{◌≡◌, sym, ap, subst, ◌∙◌}
-use Rattle.trees.specs.Tree.{Tree}
+use Rattle.std.proofs.Common.{◌≡◌, sym, subst}
 use Rattle.trees.specs.Node.{tree_at}
 use Rattle.trees.specs.Binding.{inst_many}
 use Rattle.tasks.specs.MatchTests.{test, bind}

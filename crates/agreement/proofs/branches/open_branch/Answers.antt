@@ -1,5 +1,5 @@
-use Rattle.std.proofs.Common.{◌≡◌, List, sym, ap, subst, ◌∙◌}
-use Rattle.trees.specs.Tree.{Tree, Two, HCase, HCell, HArm}
+use Rattle.std.proofs.Common.{List, sym, ap, subst, ◌∙◌}
+use Rattle.trees.specs.Tree.{Tree, Two, HCase}
 use Rattle.trees.specs.Node.{tree_at, trees_at}
 use Rattle.trees.specs.Binding.{inst_many}
 use Rattle.trees.specs.Facts.{IndicesFit}

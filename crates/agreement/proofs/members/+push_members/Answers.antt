@@ -1,4 +1,5 @@
 use Rattle.std.proofs.Common.{refl, arith}
+use Rattle.std.proofs.lemmas.Result.{IfOk-weaker}
 use Rattle.agreement.proofs.MemberParts.{other_cell, others_lists, more_added, none_added}
 use Rattle.agreement.proofs.members.+push_members.Goals as goal
 
@@ -14,16 +15,18 @@ push_members-requires t c =
     let lists = others_lists c.args.draft.now c.args.q c.args.list c.args.other c.requires.lists one.first one.others some.some two.first two.others m.tree some.first_below some.others_below m.first_held m.others_held in
     (omega (arith, some.others_below), lists)
 
-pub returns-in_ok-push_members-in-Some : goal.returns-in_ok-push_members-in-Some
-returns-in_ok-push_members-in-Some t c =
+pub returns-in-None : goal.returns-in-None
+returns-in-None t c = record { adds = none_added c.args.draft.now c.args.q c.args.list c.args.other c.requires.lists c.args.questions.now.items (c.in-None.ensures.none refl) }
+
+pub returns-in_ok-push-in-Some : goal.returns-in_ok-push-in-Some
+returns-in_ok-push-in-Some t c =
     let one = c.in-Some.one in
     let some = c.in-Some.ensures in
     let two = c.member_parts-two.result in
     let m = c.member_parts-two.ensures in
     record {
-      adds = more_added c.args.draft.now c.args.q c.args.list c.args.other c.requires.lists one.first one.others some.some two.first two.others m.tree some.first_below some.others_below m.first_held m.others_held
-          c.args.questions.now.items c.push.new.self.items c.push_members.new.questions.items c.in_ok-push-in-Some.ensures.items c.in_ok-push_members-in-Some.ensures.adds;
+      adds = IfOk-weaker c.push_members.result _ _
+          (λ u a. more_added c.args.draft.now c.args.q c.args.list c.args.other c.requires.lists one.first one.others some.some two.first two.others m.tree some.first_below some.others_below m.first_held m.others_held
+          c.args.questions.now.items c.push.new.self.items c.push_members.new.questions.items c.in_ok-push-in-Some.ensures.items a)
+          c.push_members.ensures.adds;
     }
-
-pub returns-in-None : goal.returns-in-None
-returns-in-None t c = record { adds = none_added c.args.draft.now c.args.q c.args.list c.args.other c.requires.lists c.args.questions.now.items (c.in-None.ensures.none refl) }

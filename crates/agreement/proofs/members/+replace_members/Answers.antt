@@ -28,7 +28,7 @@ pub replace_argument-requires-clause-left_is : goal.replace_argument-requires-cl
 replace_argument-requires-clause-left_is t c =
     let d = c.args.draft.now in
     let m = Two HCell (tree_at d.trees c.in-Some.link.now.left) (tree_at d.trees c.member_parts-one.result.others) in
-    left_is c.args.draft.now c.args.symbol c.args.before.now.items c.args.left c.args.list c.args.other c.in-Some.link.now c.in-Some.others.now c.args.links.now c.in-Some.ensures.cases.0 c.requires.can c.member_parts-one.result.first c.member_parts-one.result.others c.member_parts-two.result.first c.member_parts-two.result.others c.member_parts-one.ensures.tree c.member_parts-two.ensures.tree c.member_parts-one.ensures.others_held c.member_parts-two.ensures.others_held ∙ sym (ap (λ (z : List TermId). applied d.trees c.args.symbol (listed (trees_at d.trees z) m)) c.deref.ensures.value)
+    subst (λ (z : List TermId). tree_at d.trees c.args.left ≡ applied d.trees c.args.symbol (listed (trees_at d.trees z) m)) (sym c.deref.ensures.value) (left_is c.args.draft.now c.args.symbol c.args.before.now.items c.args.left c.args.list c.args.other c.in-Some.link.now c.in-Some.others.now c.args.links.now c.in-Some.ensures.cases.0 c.requires.can c.member_parts-one.result.first c.member_parts-one.result.others c.member_parts-two.result.first c.member_parts-two.result.others c.member_parts-one.ensures.tree c.member_parts-two.ensures.tree c.member_parts-one.ensures.others_held c.member_parts-two.ensures.others_held)
 
 pub replace_argument-requires-clause-shows : goal.replace_argument-requires-clause-shows
 replace_argument-requires-clause-shows t c = (link c.args.draft.now c.args.symbol c.args.before.now.items c.args.left c.args.list c.args.other c.in-Some.link.now c.in-Some.others.now c.args.links.now c.in-Some.ensures.cases.0 c.requires.can).shows
@@ -39,7 +39,7 @@ replace_members-requires t c =
     let less = ap length c.in-Some.ensures.cases.0 in
     let d = c.args.draft.now in
     let m = Two HCell (tree_at d.trees c.in-Some.link.now.right) (tree_at d.trees c.member_parts-one.result.others) in
-    (omega (arith, less), go_on c.args.draft.now c.args.symbol c.args.before.now.items c.args.left c.args.list c.args.other c.in-Some.link.now c.in-Some.others.now c.args.links.now c.in-Some.ensures.cases.0 c.requires.can c.member_parts-one.result.first c.member_parts-one.result.others c.member_parts-two.result.first c.member_parts-two.result.others c.member_parts-one.ensures.tree c.member_parts-two.ensures.tree c.member_parts-one.ensures.others_held c.member_parts-two.ensures.others_held c.replace_argument.new.draft e.grows c.push.new.self.items c.in_ok-push-in-Some.ensures.items c.in_ok-made-in-Some.made.right e.pair (e.right_is ∙ ap (λ (z : List TermId). applied d.trees c.args.symbol (listed (trees_at d.trees z) m)) c.deref.ensures.value))
+    (omega (arith, less), go_on c.args.draft.now c.args.symbol c.args.before.now.items c.args.left c.args.list c.args.other c.in-Some.link.now c.in-Some.others.now c.args.links.now c.in-Some.ensures.cases.0 c.requires.can c.member_parts-one.result.first c.member_parts-one.result.others c.member_parts-two.result.first c.member_parts-two.result.others c.member_parts-one.ensures.tree c.member_parts-two.ensures.tree c.member_parts-one.ensures.others_held c.member_parts-two.ensures.others_held c.replace_argument.new.draft e.grows c.push.new.self.items c.in_ok-push-in-Some.ensures.items c.in_ok-made-in-Some.made.right e.pair (subst (λ (z : List TermId). tree_at c.replace_argument.new.draft.trees c.in_ok-made-in-Some.made.right ≡ applied d.trees c.args.symbol (listed (trees_at d.trees z) m)) c.deref.ensures.value e.right_is))
 
 pub chain-requires-clause-left : goal.chain-requires-clause-left
 chain-requires-clause-left t c = pair_later c.replace_argument.new.draft c.replace_members.new.draft c.in_ok-more-in-Some.ensures.grows c.args.left c.in_ok-made-in-Some.made.right c.in_ok-made-in-Some.ensures.pair

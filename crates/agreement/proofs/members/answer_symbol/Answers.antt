@@ -1,12 +1,11 @@
-use Rattle.std.proofs.Common.{◌≡◌, List, All, sym, ap, subst, ◌∙◌}
+use Rattle.std.proofs.Common.{List, All, sym, ap, subst, ◌∙◌}
 use Rattle.std.proofs.lemmas.List.Elements.{All-nil}
 use Rattle.trees.specs.declared.TermId.{TermId}
-use Rattle.trees.specs.Tree.{Tree}
 use Rattle.trees.specs.Node.{tree_at, trees_at, Holds}
 use Rattle.images.specs.Templates.{listed}
 use Rattle.congruence.specs.Applications.{applied}
 use Rattle.congruence.specs.Alike.{Shows}
-use Rattle.agreement.specs.Questions.{CanReplace, links_at}
+use Rattle.agreement.specs.Questions.{links_at}
 use Rattle.agreement.proofs.MemberParts.{symbol_right, symbol_paired}
 use Rattle.agreement.proofs.members.answer_symbol.Goals as goal
 

@@ -1,4 +1,5 @@
-use Rattle.std.proofs.Common.{◌≡◌, List, [], ◌∷◌, sym, subst, arith}
+use Rattle.std.proofs.Common.{◌≡◌, List, sym, subst, arith}
+use Rattle.std.proofs.lemmas.Result.{IfOk-weaker}
 use Rattle.trees.specs.Tree.{Tree, Three, HIf}
 use Rattle.trees.specs.Node.{tree_at, Holds}
 use Rattle.agreement.specs.Questions.{AreQuestions}
@@ -21,5 +22,5 @@ returns c =
     let hx : Holds d.trees x = omega (arith, c.in-If.ensures.below.1, p.right.held) in
     let hy : Holds d.trees y = omega (arith, c.in-If.ensures.below.2, p.right.held) in
     record {
-      parts = subst (AreQuestions d q) (sym c.in_ok-made-in-If.ensures.items) (if_asked d q c.requires.asked c.args.c c.args.a c.args.b k x y hc ha hb hk hx hy c.requires.left r c.requires.condition_below c.requires.then_below c.requires.else_below);
+      parts = IfOk-weaker c.from_slice.result _ _ (λ v i. subst (AreQuestions d q) (sym i) (if_asked d q c.requires.asked c.args.c c.args.a c.args.b k x y hc ha hb hk hx hy c.requires.left r c.requires.condition_below c.requires.then_below c.requires.else_below)) c.from_slice.ensures.items;
     }

@@ -1,4 +1,5 @@
-use Rattle.std.proofs.Common.{◌≡◌, List, [], ◌∷◌, sym, subst, arith}
+use Rattle.std.proofs.Common.{◌≡◌, List, sym, subst, arith}
+use Rattle.std.proofs.lemmas.Result.{IfOk-weaker}
 use Rattle.trees.specs.Tree.{Tree, Two, HJoin}
 use Rattle.trees.specs.Node.{tree_at, Holds}
 use Rattle.agreement.specs.Questions.{AreQuestions}
@@ -19,5 +20,5 @@ returns c =
     let hb : Holds d.trees b = omega (arith, c.in-Join.ensures.below.0, p.right.held) in
     let he : Holds d.trees e = omega (arith, c.in-Join.ensures.below.1, p.right.held) in
     record {
-      parts = subst (AreQuestions d q) (sym c.in_ok-made-in-Join.ensures.items) (join_asked d q c.requires.asked c.args.op op c.args.a c.args.c b e ha hc hb he c.requires.left r c.requires.first_below c.requires.second_below c.requires.parts.0 c.requires.parts.1);
+      parts = IfOk-weaker c.from_slice.result _ _ (λ v i. subst (AreQuestions d q) (sym i) (join_asked d q c.requires.asked c.args.op op c.args.a c.args.c b e ha hc hb he c.requires.left r c.requires.first_below c.requires.second_below c.requires.parts.0 c.requires.parts.1)) c.from_slice.ensures.items;
     }

@@ -1,7 +1,7 @@
-use Rattle.std.proofs.Common.{◌≡◌, List, [], ◌∷◌, sym, ap, subst, ◌∙◌, arith}
+use Rattle.std.proofs.Common.{◌≡◌, List, sym, subst, ◌∙◌, arith}
+use Rattle.std.proofs.lemmas.Result.{IfOk-weaker}
 use Rattle.trees.specs.Tree.{Tree, Two, HLet}
 use Rattle.trees.specs.Node.{tree_at, Holds}
-use Rattle.trees.specs.Binding.{inst}
 use Rattle.congruence.specs.instances.Instances.{IsInstance, IsClosedTerm}
 use Rattle.evidence.specs.Laws.{Extends_trans, AddsTrees_extends}
 use Rattle.congruence.proofs.Later.{tree_later, held_later}
@@ -48,6 +48,7 @@ returns-clause-parts c =
     let el : tree_at d2.trees q.left ≡ Two HLet V A = tree_later d d2 x q.left p.left.held ∙ c.requires.left in
     let er : tree_at d2.trees q.right ≡ Two HLet W B = tree_later d d2 x q.right p.right.held ∙ e ∙ cc (sym (tree_later d d1 x1 w hw), sym (tree_later d d1 x1 b hb)) in
     let ml : tree_at d2.trees l ≡ tree_at d1.trees l = tree_later d1 d2 x2 l c.in_ok-left-in-Let.ensures.held in
-    subst (AreQuestions d2 q) (sym c.in_ok-made-in-Let.ensures.items)
+    IfOk-weaker c.from_slice.result _ _ (λ v i. subst (AreQuestions d2 q) (sym i)
     (let_asked d2 q (asked_later d d2 x q c.requires.asked) V A W B l r el er (held_later d1 d2 x2 l c.in_ok-left-in-Let.ensures.held) c.in_ok-right-in-Let.ensures.held (ml ∙ c.in_ok-left-in-Let.ensures.tree) c.in_ok-right-in-Let.ensures.tree
-    (subst (IsInstance A V) (sym ml) c.in_ok-left-in-Let.ensures.keeps) c.in_ok-right-in-Let.ensures.keeps)
+    (subst (IsInstance A V) (sym ml) c.in_ok-left-in-Let.ensures.keeps) c.in_ok-right-in-Let.ensures.keeps))
+    c.from_slice.ensures.items

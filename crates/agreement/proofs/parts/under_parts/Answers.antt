@@ -1,7 +1,8 @@
-use Rattle.std.proofs.Common.{◌≡◌, [], ◌∷◌, sym, ap, subst, ◌∙◌, arith}
+use Rattle.std.proofs.Common.{◌≡◌, sym, ap, subst, ◌∙◌, arith}
+use Rattle.std.proofs.lemmas.Result.{IfOk-weaker}
 use Rattle.trees.specs.Tree.{Tree, Two}
 use Rattle.trees.specs.Node.{tree_at, Holds}
-use Rattle.trees.specs.Binding.{inst, Param}
+use Rattle.trees.specs.Binding.{Param}
 use Rattle.congruence.specs.instances.Instances.{IsInstance}
 use Rattle.evidence.specs.Laws.{Extends_trans, AddsTrees_extends}
 use Rattle.congruence.specs.Quantifiers.{quantifier_head}
@@ -55,8 +56,9 @@ returns-clause-parts c =
     = subst (λ (z : Tree). IsInstance (tree_at d3.trees a) (Param n TY) z) (sym l3) (subst (λ (z : Tree). IsInstance (tree_at d3.trees a) z (tree_at d2.trees l)) t1 (subst (λ (z : Tree). IsInstance z (tree_at d1.trees term) (tree_at d2.trees l)) (a1 ∙ sym a3) c.in_ok-left.ensures.keeps)) in
     let ir : IsInstance (tree_at d3.trees b) (Param n TY) (tree_at d3.trees r)
     = subst (λ (z : Tree). IsInstance (tree_at d3.trees b) z (tree_at d3.trees r)) t2 (subst (λ (z : Tree). IsInstance z (tree_at d2.trees term) (tree_at d3.trees r)) (b2 ∙ sym b3) c.in_ok-right.ensures.keeps) in
-    subst (AreQuestions d3 q) (sym c.in_ok-made.ensures.items)
+    IfOk-weaker c.from_slice.result _ _ (λ v i. subst (AreQuestions d3 q) (sym i)
     (under_asked d3 q (asked_later d d3 x q c.requires.asked) u TY a b l r
     (tree_later d d3 x q.left p.left.held ∙ c.requires.left ∙ ap (Two (quantifier_head u) TY) (sym a3)) (tree_later d d3 x q.right p.right.held ∙ er ∙ ap (Two (quantifier_head u) TY) (sym b3))
     (held_later d2 d3 x3 l c.in_ok-left.ensures.held) c.in_ok-right.ensures.held
-    (l3 ∙ c.in_ok-left.ensures.tree ∙ cc (a1, a3, t1)) (c.in_ok-right.ensures.tree ∙ cc (b2, b3, t2)) il ir)
+    (l3 ∙ c.in_ok-left.ensures.tree ∙ cc (a1, a3, t1)) (c.in_ok-right.ensures.tree ∙ cc (b2, b3, t2)) il ir))
+    c.from_slice.ensures.items
