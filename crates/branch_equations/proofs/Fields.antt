@@ -2,7 +2,7 @@
 use Rattle.std.proofs.Common.{◌≡◌, ℕ, ◌+◌, Bool, true, false, if◌then◌else◌, List, [], ◌∷◌, ◌++◌, map, All, Some, inl, inr, subst, refl, sym, ap, ◌∙◌, append_assoc}
 use Rattle.std.specs.List.{list_all}
 use Rattle.std.proofs.lemmas.List.Elements.{All-cons, All-nil}
-use Rattle.tasks.proofs.plain_laws.Bools.{and_first, and_second}
+use Rattle.plain_laws.proofs.Bools.{and_first, and_second}
 use Rattle.trees.specs.declared.Sort.{Sort}
 use Rattle.trees.specs.declared.Sort.TheVariants as sort
 use Rattle.trees.specs.Tree.{Tree, Leaf, One, Two, Three, Head, HCell, HFun, HPatAny, HPatVar, HPatAlias, HPatCon}

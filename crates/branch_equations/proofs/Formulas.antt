@@ -2,7 +2,7 @@
 use Rattle.std.proofs.Common.{◌≡◌, ◌⊎◌, ℕ, ◌<◌, ◌≤◌, suc, Bool, true, false, if◌then◌else◌, List, [], ◌∷◌, map, length, All, Option, Some, None, inl, inr, subst, refl, sym, ap, ◌∙◌, arith}
 use Rattle.std.specs.List.{flat_map}
 use Rattle.std.proofs.lemmas.List.Elements.{All-cons, All-nil, All-append, All-weaker}
-use Rattle.tasks.proofs.plain_laws.Lists.{All-left, All-right}
+use Rattle.plain_laws.proofs.Lists.{All-left, All-right}
 use Rattle.trees.specs.declared.Op.TheVariants.{Iff}
 use Rattle.trees.specs.declared.Sort.{Sort}
 use Rattle.trees.specs.Sorts.{sort_of}

@@ -3,7 +3,7 @@ use Rattle.std.proofs.Common.{◌≡◌, ℕ, ◌+◌, ◌-◌, ◌<◌, zero, s
 use Rattle.std.proofs.lemmas.List.{length-append, append-nil, take-append-drop}
 use Rattle.std.specs.List.{list_all}
 use Rattle.std.proofs.lemmas.List.Elements.{All-append}
-use Rattle.tasks.proofs.plain_laws.Lists.{All-left, All-right}
+use Rattle.plain_laws.proofs.Lists.{All-left, All-right}
 use Rattle.trees.specs.declared.Sort.TheVariants.{Formula}
 use Rattle.trees.specs.Tree.{Tree}
 use Rattle.trees.specs.Binding.{inst_many}

@@ -3,8 +3,8 @@ use Rattle.std.proofs.Common.{◌≡◌, ◌≢◌, ℕ, zero, suc, ◌+◌, ◌
 use Rattle.std.specs.List.{list_all, list_any}
 use Rattle.std.proofs.lemmas.Bool.Decides.{nat_tests}
 use Rattle.tasks.proofs.plain_laws.Bools.{and_first, and_second}
-use Rattle.trees.specs.Tree.{Tree, One, Two, Three, HCell, HArm, HPatAny, HPatVar, HPatCon, pat_vars}
-use Rattle.trees.specs.Binding.{Change, change}
+use Rattle.tasks.specs.trees.Tree.{Tree, One, Two, Three, HCell, HArm, HPatAny, HPatVar, HPatCon, pat_vars}
+use Rattle.tasks.specs.trees.Binding.{Change, change}
 use Rattle.tasks.specs.Equations.{cells}
 use Rattle.branch_equations.specs.Branches.{ConstructorBranch, is_plain_field, is_variable_field, bound_fields, are_different}
 use Rattle.branch_instances.specs.Chosen.{branch_pattern, arms_of, has_plain_fields, chosen_branch}

@@ -3,9 +3,9 @@ use Rattle.std.proofs.Common.{◌≡◌, ℕ, zero, suc, ◌+◌, ◌-◌, Bool,
 use Rattle.std.specs.List.{list_all}
 use Rattle.std.proofs.lemmas.List.{map-append}
 use Rattle.tasks.proofs.plain_laws.Bools.{and_first, and_second}
-use Rattle.trees.specs.Tree.{Tree, Leaf, One, Two, Three, Head, HFun, HPatAny, HPatVar, binders_over}
-use Rattle.trees.specs.Binding.{change, one_by, typing, inst_types, inst_many, AreTypes, AreNoPatterns}
-use Rattle.trees.proofs.Many.{length_map, inst_types_inst_many}
+use Rattle.tasks.specs.trees.Tree.{Tree, Leaf, One, Two, Three, Head, HFun, HPatAny, HPatVar, binders_over}
+use Rattle.tasks.specs.trees.Binding.{change, one_by, typing, inst_types, inst_many, AreTypes, AreNoPatterns}
+use Rattle.tasks.proofs.trees.Many.{length_map, inst_types_inst_many}
 use Rattle.tasks.specs.Equations.{cells, for_all}
 use Rattle.inlining.proofs.Equations.{equation_types}
 use Rattle.branch_equations.specs.Branches.{ConstructorBranch, is_plain_field, is_variable_field, field_type, bound_fields, below_quantifiers, parameters_before, parameters_after, variables_above, branch_types, branch_fields, built_term, branch_parameters, pattern_fields, branch_sides, branch_equation}

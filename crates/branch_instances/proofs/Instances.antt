@@ -3,12 +3,12 @@
 use Rattle.std.proofs.Common.{◌≡◌, ◌⊎◌, inl, inr, ℕ, zero, suc, ◌+◌, ◌-◌, ◌<◌, ◌≤◌, true, List, [], ◌∷◌, ◌++◌, map, length, take, drop, slice_get, All, Option, Some, None, IfSome, refl, sym, ap, subst, ◌∙◌, arith}
 use Rattle.std.specs.List.{list_all}
 use Rattle.tasks.proofs.plain_laws.Bools.{and_first, and_second}
-use Rattle.trees.specs.declared.Op.TheVariants.{Iff}
-use Rattle.trees.specs.Tree.{Tree, One, Two, Three, Head, HBound, HCase, HFun, HPred, HEq, HJoin, HPatVar, HPatAny, binders_over, loose, pat_vars}
-use Rattle.trees.specs.Binding.{inst_types, inst_many, AreTypes, AreClosed}
-use Rattle.trees.specs.Sorts.{WellSorted}
-use Rattle.trees.proofs.Laws.{loose_inst_types}
-use Rattle.trees.proofs.Types.{only_types, loose_types, type_closed}
+use Rattle.tasks.specs.trees.declared.Op.TheVariants.{Iff}
+use Rattle.tasks.specs.trees.Tree.{Tree, One, Two, Three, Head, HBound, HCase, HFun, HPred, HEq, HJoin, HPatVar, HPatAny, binders_over, loose, pat_vars}
+use Rattle.tasks.specs.trees.Binding.{inst_types, inst_many, AreTypes, AreClosed}
+use Rattle.tasks.specs.trees.Sorts.{WellSorted}
+use Rattle.tasks.proofs.trees.Laws.{loose_inst_types}
+use Rattle.tasks.proofs.trees.Types.{only_types, loose_types, type_closed}
 use Rattle.tasks.specs.declared.signature.SymbolKind.{SymbolKind}
 use Rattle.tasks.specs.declared.signature.SymbolKind.TheVariants.{Function, Predicate}
 use Rattle.tasks.specs.Task.{SymbolTree, symbol_or, DefinitionTree}

@@ -3,10 +3,10 @@ use Rattle.std.proofs.Common.{◌≡◌, ℕ, zero, suc, ◌+◌, ◌-◌, ◌<�
 use Rattle.std.specs.List.{list_all}
 use Rattle.std.proofs.Math.Seq.{get_or-append_seam}
 use Rattle.std.proofs.lemmas.List.{length-append}
-use Rattle.trees.specs.Tree.{Tree, One, Two, Three, Head, HBound, HCase, HFun, binders_over, loose}
-use Rattle.trees.specs.Binding.{change, typing, inst_types, instantiating_many, inst_many, AreTypes, AreClosed}
-use Rattle.trees.proofs.Laws.{shift_closed, loose_inst_types}
-use Rattle.trees.proofs.Many.{many_at, closed_at, length_map, inst_many_closed, inst_many_under}
+use Rattle.tasks.specs.trees.Tree.{Tree, One, Two, Three, Head, HBound, HCase, HFun, binders_over, loose}
+use Rattle.tasks.specs.trees.Binding.{change, typing, inst_types, instantiating_many, inst_many, AreTypes, AreClosed}
+use Rattle.tasks.proofs.trees.Laws.{shift_closed, loose_inst_types}
+use Rattle.tasks.proofs.trees.Many.{many_at, closed_at, length_map, inst_many_closed, inst_many_under}
 use Rattle.tasks.specs.Equations.{cells}
 use Rattle.branch_equations.specs.Branches.{ConstructorBranch, is_plain_field, field_type, bound_fields, parameters_before, parameters_after, branch_types, variables_above, branch_fields, built_term, branch_parameters, pattern_fields, branch_sides, are_different}
 use Rattle.branch_equations.specs.Laws.{BranchesAtTerms}

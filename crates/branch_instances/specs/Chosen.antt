@@ -1,8 +1,8 @@
 -- A `match` of a constructor's application, and the body of the constructor's branch there.
 use Rattle.std.specs.Prelude.{◌≡◌, ℕ, ◌==◌, true, Bool, if◌then◌else◌, List, [], ◌∷◌, Option, Some, None}
 use Rattle.std.specs.List.{list_all}
-use Rattle.trees.specs.Tree.{Tree, Leaf, Two, Three, HEnd, HCell, HArm, HCase, HFun, HPatCon}
-use Rattle.trees.specs.Binding.{inst_many}
+use Rattle.tasks.specs.trees.Tree.{Tree, Leaf, Two, Three, HEnd, HCell, HArm, HCase, HFun, HPatCon}
+use Rattle.tasks.specs.trees.Binding.{inst_many}
 use Rattle.tasks.specs.Equations.{cells}
 use Rattle.branch_equations.specs.Branches.{ConstructorBranch, is_plain_field, bound_fields}
 

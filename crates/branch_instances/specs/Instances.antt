@@ -1,8 +1,8 @@
 -- What the equation of a branch says at types and closed terms.
 use Rattle.std.specs.Prelude.{◌≡◌, ◌⊎◌, ℕ, List}
-use Rattle.trees.specs.declared.Op.TheVariants.{Iff}
-use Rattle.trees.specs.Tree.{Tree, Two, Three, Head, HFun, HPred, HEq, HJoin}
-use Rattle.trees.specs.Binding.{inst_types, inst_many}
+use Rattle.tasks.specs.trees.declared.Op.TheVariants.{Iff}
+use Rattle.tasks.specs.trees.Tree.{Tree, Two, Three, Head, HFun, HPred, HEq, HJoin}
+use Rattle.tasks.specs.trees.Binding.{inst_types, inst_many}
 use Rattle.tasks.specs.Equations.{cells}
 use Rattle.branch_instances.specs.Chosen.{IsChosenOf}
 

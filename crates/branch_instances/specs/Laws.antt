@@ -1,8 +1,8 @@
 -- The laws of the crate, as statements.
 use Rattle.std.specs.Prelude.{◌≡◌, ℕ, ◌<◌, true, List, map, length, slice_get, Some}
 use Rattle.std.specs.List.{list_all}
-use Rattle.trees.specs.Tree.{Tree, One, Two, HBound, HCase}
-use Rattle.trees.specs.Binding.{inst_types, AreTypes, AreClosed}
+use Rattle.tasks.specs.trees.Tree.{Tree, One, Two, HBound, HCase}
+use Rattle.tasks.specs.trees.Binding.{inst_types, AreTypes, AreClosed}
 use Rattle.tasks.specs.declared.facts.Fact.{Fact}
 use Rattle.tasks.specs.declared.facts.Fact.TheVariants as fact
 use Rattle.tasks.specs.Task.{symbol_or, DefinitionTree, ConstructorTree, TaskTree, PropositionTree}

@@ -1,0 +1,10 @@
+pub mod FieldsOf
+pub mod MatchParts
+pub mod Chosen
+pub mod Asked
+pub mod Follows
+pub mod OpenHoles
+pub mod Replaced
+pub mod Moved
+pub mod OwnFields
+pub mod FirstBranches
