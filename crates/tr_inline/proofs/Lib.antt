@@ -7,3 +7,6 @@ pub mod Named
 pub mod ByBodies
 pub mod Limits
 pub mod PartlyInlined
+pub mod ClosedUses
+pub use Rattle.full_bodies.proofs as full_bodies
+pub use Rattle.proof_scripts.proofs as proof_scripts

@@ -4,6 +4,7 @@
 //! Contract: the task of the equation, and the laws of a transformation.
 #![tactic(auto)]
 
+mod closed_uses;
 mod formulas;
 mod inline;
 mod lemmas;
@@ -11,5 +12,7 @@ mod passes;
 mod unfolding;
 mod uses;
 
+pub use closed_uses::{UnfoldedUse, unfold_closed};
 pub use full_bodies::InlineMode;
 pub use inline::Inline;
+pub use proof_scripts::{Line, Word, derive};

@@ -31,8 +31,13 @@ struct UnfoldedAt {
     right: TermId,
 }
 
-// The body of a definition at the types and the arguments of a use.
-fn unfolded_use(draft: &mut Draft, def: Def, at: UseParts, e: TermId) -> Result<TermId, AllocError>
+/// The body of a definition at the types and the arguments of a use.
+pub(crate) fn unfolded_use(
+    draft: &mut Draft,
+    def: Def,
+    at: UseParts,
+    e: TermId,
+) -> Result<TermId, AllocError>
     requires defined { IsDefinedIn draft.old def }
     requires used { AreUseParts draft.old.trees def.symbol e at }
     requires sorted { WellSorted (tree_at draft.old.trees e) }
