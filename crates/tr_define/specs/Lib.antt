@@ -1,1 +1,2 @@
 pub mod Kept
+pub use Rattle.spelled_groups.specs as spelled_groups

@@ -8,3 +8,4 @@ mod inductive;
 
 pub use definitions::Definitions;
 pub use inductive::InductiveGroups;
+pub use spelled_groups::push_in_place;
