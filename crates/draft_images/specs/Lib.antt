@@ -1,0 +1,2 @@
+pub use Rattle.rewriting.specs as rewriting
+pub mod Images
