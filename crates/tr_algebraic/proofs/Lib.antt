@@ -1,0 +1,4 @@
+pub mod Composed
+pub mod Facts
+pub mod Parameters
+pub mod Gluing
