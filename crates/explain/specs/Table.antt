@@ -24,7 +24,6 @@ row_of code = if code == 10 then fault_row 1 Bytes (codes "no token begins here,
     else (if code == 13 then fault_row 1 Tokens (codes "nested deeper than 200")
     else (if code == 14 then fault_row 1 Tokens (codes "declaration of a program")
     else (if code == 15 then fault_row 1 Nothing (codes "file longer than 67,108,864 bytes")
-    else (if code == 16 then fault_row 1 Nothing (codes "transformation that isn't built")
     else (if code == 20 then fault_row 2 Tokens (codes "unknown name")
     else (if code == 21 then fault_row 2 Tokens (codes "name that is taken")
     else (if code == 22 then fault_row 2 Tokens (codes "formula where a term is due, term where a formula is due, or alternative with other names")
@@ -53,4 +52,4 @@ row_of code = if code == 10 then fault_row 1 Bytes (codes "no token begins here,
     else (if code == 82 then fault_row 2 Nothing (codes "symbol without a template")
     else (if code == 90 then fault_row 2 Nothing (codes "another number of refutations than of problems")
     else (if code == 91 then fault_row 2 Lines (codes "wrong line; after the last line: the steps don't end in the start")
-    else None))))))))))))))))))))))))))))))))))
+    else None)))))))))))))))))))))))))))))))))

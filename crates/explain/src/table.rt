@@ -48,7 +48,6 @@ pub(crate) fn row_of(code: usize) -> Option<Row>
         13 => make_row(1, Counts::Tokens, "nested deeper than 200"),
         14 => make_row(1, Counts::Tokens, "declaration of a program"),
         15 => make_row(1, Counts::Nothing, "file longer than 67,108,864 bytes"),
-        16 => make_row(1, Counts::Nothing, "transformation that isn't built"),
         20 => make_row(2, Counts::Tokens, "unknown name"),
         21 => make_row(2, Counts::Tokens, "name that is taken"),
         22 => make_row(

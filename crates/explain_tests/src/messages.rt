@@ -3,7 +3,7 @@
 use explain::explain;
 
 // The text of the file `f`, a fault in it, and the message; nothing where the numbers are no fault.
-static MESSAGES: [(&str, &[usize], &str); 49] = [
+static MESSAGES: [(&str, &[usize], &str); 48] = [
     (
         "goal \"p\"",
         &[10, 5],
@@ -40,11 +40,6 @@ static MESSAGES: [(&str, &[usize], &str); 49] = [
         "abc",
         &[15, 0],
         "f: file longer than 67,108,864 bytes (refused: 15 0)\n",
-    ),
-    (
-        "theory T",
-        &[16, 1],
-        "f: transformation that isn't built (refused: 16 1)\n",
     ),
     (
         "theory T\n  goal g: p /\\ r\nend",

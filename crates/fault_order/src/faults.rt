@@ -21,8 +21,6 @@ pub enum Fault {
     ProgramDecl { token: usize },
     /// 15: a file of more than 67,108,864 bytes.
     TooLong { file: usize },
-    /// 16: the transformation at this stage, counted from 1, isn't built.
-    NotBuilt { stage: usize },
     /// 20: a name or type variable isn't there.
     Unknown { decl: usize, token: usize },
     /// 21: a name is made twice.

@@ -1,6 +1,6 @@
 -- Each fault of a refusal has a row in the table of explanations, with as many numbers: by its form.
 use Rattle.std.proofs.Common.{refl}
-use Rattle.fault_order.specs.declared.faults.Fault.TheVariants.{Lexical, BigLiteral, Syntax, TooDeep, ProgramDecl, TooLong, NotBuilt, Unknown, Duplicate, WrongKind, Arity, Clash, Undetermined, NotExhaustive, BadClause, NotPositive, NotStructural, GroupTooWide, Uninhabited, BadSubstitution, DriverSyntax, UnknownTransformation, BadTemplate, UnknownSymbol, ImportCycle, UnknownPrinter, NoTheory, NoGoal, Misplaced, TooLarge, Polymorphic, Unprintable, NoSyntax, PartCount, WrongLine}
+use Rattle.fault_order.specs.declared.faults.Fault.TheVariants.{Lexical, BigLiteral, Syntax, TooDeep, ProgramDecl, TooLong, Unknown, Duplicate, WrongKind, Arity, Clash, Undetermined, NotExhaustive, BadClause, NotPositive, NotStructural, GroupTooWide, Uninhabited, BadSubstitution, DriverSyntax, UnknownTransformation, BadTemplate, UnknownSymbol, ImportCycle, UnknownPrinter, NoTheory, NoGoal, Misplaced, TooLarge, Polymorphic, Unprintable, NoSyntax, PartCount, WrongLine}
 use Rattle.fault_rows.specs.Explained.{EachIsExplained}
 
 pub explained : EachIsExplained
@@ -10,7 +10,6 @@ explained (Syntax token) = refl
 explained (TooDeep token) = refl
 explained (ProgramDecl token) = refl
 explained (TooLong file) = refl
-explained (NotBuilt stage) = refl
 explained (Unknown decl token) = refl
 explained (Duplicate decl token) = refl
 explained (WrongKind decl token) = refl

@@ -8,6 +8,7 @@ mod making;
 mod names;
 mod texts;
 
+pub use driver_parts::Driver;
 pub use fault::PartFault;
 pub use making::problems_of;
 pub use names::name_texts;

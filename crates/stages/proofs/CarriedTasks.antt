@@ -68,11 +68,9 @@ after_refused equation n there t ts e f = by (equation t) e f
   where
     by : (r : Result (List TaskTree) Refusal) (e : CarryFault) → IsCarryFault (at_stage n r) e → IsCarryFault (at_stage n (map_ok (λ us. there ++ us) (and_then r (λ us. map_ok (λ vs. us ++ vs) (all_tasks equation ts))))) e
     by (Err q) fault.Memory h = tt
-    by (Err q) (fault.NotBuilt k) h = h
     by (Err q) (fault.Misplaced k d) h = h
     by (Err q) (fault.TooLarge k) h = h
     by (Ok us) fault.Memory h = tt
-    by (Ok us) (fault.NotBuilt k) h = absurd h
     by (Ok us) (fault.Misplaced k d) h = absurd (cc)
     by (Ok us) (fault.TooLarge k) h = absurd (cc)
 
@@ -85,11 +83,9 @@ once_refused equation n ts e f = by (all_tasks equation ts) e f
   where
     by : (r : Result (List TaskTree) Refusal) (e : CarryFault) → IsCarryFault (at_stage n r) e → IsCarryFault (at_stage n (and_then r limited)) e
     by (Err q) fault.Memory h = tt
-    by (Err q) (fault.NotBuilt k) h = h
     by (Err q) (fault.Misplaced k d) h = h
     by (Err q) (fault.TooLarge k) h = h
     by (Ok us) fault.Memory h = tt
-    by (Ok us) (fault.NotBuilt k) h = absurd h
     by (Ok us) (fault.Misplaced k d) h = absurd (cc)
     by (Ok us) (fault.TooLarge k) h = absurd (cc)
 
@@ -103,11 +99,9 @@ carried_refused equations equation n ts e f = by (at_stage n (carried_once equat
   where
     by : (r : Result (List TaskTree) StageRefusal) (e : CarryFault) → IsCarryFault r e → IsCarryFault (and_then r (carried equations (n + 1))) e
     by (Err q) fault.Memory h = tt
-    by (Err q) (fault.NotBuilt k) h = h
     by (Err q) (fault.Misplaced k d) h = h
     by (Err q) (fault.TooLarge k) h = h
     by (Ok us) fault.Memory h = tt
-    by (Ok us) (fault.NotBuilt k) h = absurd h
     by (Ok us) (fault.Misplaced k d) h = absurd (cc)
     by (Ok us) (fault.TooLarge k) h = absurd (cc)
 

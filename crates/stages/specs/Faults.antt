@@ -1,12 +1,11 @@
 -- What the faults of this crate say.
-use Rattle.std.specs.Prelude.{◌≡◌, ℕ, List, Result, Err}
+use Rattle.std.specs.Prelude.{◌≡◌, ℕ, Result, Err}
 use Rattle.evidence.specs.Stages.{Refusal}
 use Rattle.evidence.specs.Stages as refusal
 use Rattle.evidence.specs.declared.stage.StageFault.{StageFault}
 use Rattle.evidence.specs.declared.stage.StageFault.TheVariants as stage_fault
 use Rattle.stages.specs.declared.fault.CarryFault.{CarryFault}
 use Rattle.stages.specs.declared.fault.CarryFault.TheVariants as fault
-use Rattle.transformations.specs.declared.transformation.Transformation.{Transformation}
 use Rattle.stages.specs.Carried.{StageRefusal}
 
 -- the fault of a transformation that is the stage with this number
@@ -21,13 +20,5 @@ refusal_at n r = record { stage = n; refusal = r }
 -- want of memory, or the first refusal
 abbrev pub IsCarryFault : {A : Type 0} → Result A StageRefusal → CarryFault → Type 0
 IsCarryFault said fault.Memory = Unit {0}
-IsCarryFault said (fault.NotBuilt stage) = ⊥
 IsCarryFault said (fault.Misplaced stage decl) = said ≡ Err (refusal_at stage (refusal.Misplaced decl))
 IsCarryFault said (fault.TooLarge stage) = said ≡ Err (refusal_at stage refusal.TooLarge)
-
--- want of memory, or the number of the first transformation that isn't built
-abbrev pub IsListFault : Result (List Transformation) ℕ → CarryFault → Type 0
-IsListFault said fault.Memory = Unit {0}
-IsListFault said (fault.NotBuilt stage) = said ≡ Err stage
-IsListFault said (fault.Misplaced stage decl) = ⊥
-IsListFault said (fault.TooLarge stage) = ⊥

@@ -1,5 +1,5 @@
 // Tasks carried through stages.
-// It depends on the transformations that are built; the program depends on it.
+// It depends on the transformations; the program depends on it.
 ghost use Rattle.std.specs.Prelude.{map, Ok, IfOk, IfErr};
 ghost use Rattle.tasks.specs.trees.Node.{Grows};
 ghost use Rattle.tasks.specs.Meaning.{task_at, tasks_at, TaskHeld};

@@ -11,8 +11,6 @@ use std::alloc::{AllocError, AllocFailed};
 #[derive(Clone, Copy)]
 pub enum CarryFault {
     Memory,
-    /// The transformation of this stage isn't built.
-    NotBuilt { stage: usize },
     /// The stage doesn't take the declaration with this place.
     Misplaced { stage: usize, decl: usize },
     /// After the stage a task is too large, or all are together.

@@ -1,5 +1,5 @@
 // Refutations of the tasks that a task becomes, brought back through the stages to a derivation of the task.
-// It depends on the laws of the transformations that are built; the program depends on it.
+// It depends on the laws of the transformations; the program depends on it.
 ghost use Rattle.std.specs.Prelude.{◌≡◌, ◌≤◌, ◌++◌, ◌∷◌, [], length, reverse, IfOk, map};
 ghost use Rattle.tasks.specs.Meaning.{task_at, tasks_at, TaskHeld, TasksHeld};
 ghost use Rattle.tasks.specs.Valid.{IsValid};

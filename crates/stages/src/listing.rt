@@ -1,14 +1,13 @@
 // The stages of a driver for a task: the removals, and its transformations.
-// It depends on the transformations that are built; the carrying of tasks depends on it.
+// It depends on the transformations; the carrying of tasks depends on it.
 ghost use Rattle.std.specs.List.{list_any};
 ghost use Rattle.std.specs.Str.{bytes_eq};
-ghost use Rattle.std.specs.Prelude.{◌≡◌, ◌+◌, ◌++◌, List, Ok, Err, IfOk, MatchResult, OnOk};
+ghost use Rattle.std.specs.Prelude.{◌≡◌, ◌++◌, List, IfOk, OnOk, map};
 ghost use Rattle.tasks.specs.trees.Tree.{Tree};
 ghost use Rattle.tasks.specs.Meaning.{declaration_at, declarations_at, task_at};
-ghost use Rattle.stages.specs.Listing.{AreStagesPushed, IsPushedOne, is_removed_of, name_if, removed_names, removed_of, stages_of};
-ghost use Rattle.stages.specs.Faults.{IsListFault};
+ghost use Rattle.stages.specs.Listing.{is_removed_of, name_if, removed_names, removed_of, stages_of};
+ghost use Rattle.transformations.specs.Words.{transformation_of};
 
-use crate::fault::CarryFault;
 use driver_items::Trans;
 use driver_parts::Driver;
 use std::alloc::{AllocError, Global};
@@ -102,25 +101,12 @@ fn removed_names(
     Ok(names)
 }
 
-// Puts the transformation of a name after the others, as the stage with this number.
-fn push_one(stages: &mut Vec<Transformation>, name: Trans, number: usize) -> Result<(), CarryFault>
-    ensures { IsPushedOne stages.old.items name number stages.new.items result }
+// Puts the transformations of names after the others.
+fn push_stages(stages: &mut Vec<Transformation>, names: &[Trans]) -> Result<(), AllocError>
+    ensures { OnOk result (stages.new.items ≡ stages.old.items ++ map transformation_of names.now) }
 {
-    match transformation_of(name) {
-        Some(stage) => {
-            stages.push(stage)?;
-            Ok(())
-        }
-        None => Err(CarryFault::NotBuilt { stage: number }),
-    }
-}
-
-// Puts the transformations of names after the others. The first that isn't built is refused, by its number.
-fn push_built(stages: &mut Vec<Transformation>, names: &[Trans]) -> Result<(), CarryFault>
-    ensures { AreStagesPushed stages.old.items names.now stages.new.items result }
-{
-    for (place, name) in names.iter().enumerate() {
-        push_one(stages, *name, place + 1)?;
+    for name in names {
+        stages.push(transformation_of(*name))?;
     }
     Ok(())
 }
@@ -128,22 +114,20 @@ fn push_built(stages: &mut Vec<Transformation>, names: &[Trans]) -> Result<(), C
 /// The stages of a driver for a task: the removal of the propositions that the driver removes from it, then the driver's
 /// transformations in order.
 ///
-/// `NotBuilt` is the first transformation that isn't built (`transformation_of`), counted from 1; else only want of memory
-/// refuses.
+/// Only want of memory refuses.
 pub fn stages_of(
     alloc: Global,
     driver: &Driver,
     task: &Task,
-) -> Result<Vec<Transformation>, CarryFault>
-    ensures { MatchResult result (λ v. (s : List Tree) → stages_of driver.now (task_at s task.now)
-        ≡ Ok v.items)
-        (λ e. (s : List Tree) → IsListFault (stages_of driver.now (task_at s task.now)) e) }
+) -> Result<Vec<Transformation>, AllocError>
+    ensures { IfOk result (λ v. (s : List Tree) → v.items
+        ≡ stages_of driver.now (task_at s task.now)) }
 {
     let props = removed_names(alloc, driver, task)?;
     let mut stages = Vec::new(alloc);
     stages.push(Transformation::Remove(Remove {
         props: Seq::from_vec(props),
     }))?;
-    push_built(&mut stages, driver.stages.as_slice())?;
+    push_stages(&mut stages, driver.stages.as_slice())?;
     Ok(stages)
 }

@@ -1,8 +1,10 @@
--- The transformations that are built, one line each: its equation, and that its tasks keep what is declared.
+-- The transformations, one line each: its equation, and that its tasks keep what is declared.
 use Rattle.std.specs.Prelude.{List, All}
 use Rattle.tasks.specs.Task.{TaskTree}
 use Rattle.tasks.specs.Valid.{IsValid}
 use Rattle.evidence.specs.Stages.{Gives, Keeps, TaskEquation, StageEquation, stage_equation}
+use Rattle.tr_algebraic.specs.Equation.{algebraic_equation}
+use Rattle.tr_algebraic.specs.Kept.{algebraic_task_keeps}
 use Rattle.tr_define.specs.Kept.{definitions_equation, definitions_keep, inductives_equation, inductives_keep}
 use Rattle.tr_discriminate.specs.Equation.{discriminate_equation}
 use Rattle.tr_discriminate.specs.Kept.{discriminate_keeps}
@@ -14,13 +16,14 @@ use Rattle.tr_introduce.specs.Introduce.{introduce_equation}
 use Rattle.tr_introduce.specs.Kept.{introduce_keeps}
 use Rattle.tr_let.specs.Kept.{lets_equation, lets_keep}
 use Rattle.tr_match.specs.Kept.{matches_equation, matches_keep}
+use Rattle.tr_recursion.specs.Kept.{recursions_equation, recursions_keep}
 use Rattle.tr_remove.specs.Kept.{remove_keeps}
 use Rattle.tr_remove.specs.Remove.{remove_equation}
 use Rattle.tr_simplify.specs.Kept.{simplified_equation, simplified_keep}
 use Rattle.tr_split_goals.specs.Goals.{split_equation}
 use Rattle.tr_split_goals.specs.Kept.{split_keeps}
 use Rattle.transformations.specs.declared.transformation.Transformation.{Transformation}
-use Rattle.transformations.specs.declared.transformation.Transformation.TheVariants.{Remove, Split, Introduce, Definitions, InductiveGroups, Inline, Lets, Matches, Conditionals, SimplifiedFormulas, Discriminate}
+use Rattle.transformations.specs.declared.transformation.Transformation.TheVariants.{Remove, Split, Introduce, Definitions, InductiveGroups, Inline, Lets, Matches, Conditionals, SimplifiedFormulas, Discriminate, Recursion, AlgebraicTypes}
 
 -- what is known of a transformation by itself
 pub record TransformationLaw : Type 0 where
@@ -39,6 +42,8 @@ law_of (Matches its) = record { equation = matches_equation; keeps = matches_kee
 law_of (Conditionals its) = record { equation = if_equation; keeps = if_keeps }
 law_of (SimplifiedFormulas its) = record { equation = simplified_equation; keeps = simplified_keep }
 law_of (Discriminate its) = record { equation = discriminate_equation; keeps = discriminate_keeps }
+law_of (Recursion its) = record { equation = recursions_equation; keeps = recursions_keep }
+law_of (AlgebraicTypes its) = record { equation = algebraic_equation; keeps = algebraic_task_keeps }
 
 abbrev pub task_equation_of : Transformation → TaskEquation
 task_equation_of x = (law_of x).equation

@@ -1,4 +1,4 @@
-//! The transformations that are built, as one type, with the words that name them in a driver.
+//! The transformations, as one type, with the words that name them in a driver.
 //!
 //! Contract: all laws of a transformation, for each of them; which of them a word names.
 #![tactic(auto)]

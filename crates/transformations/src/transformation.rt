@@ -1,10 +1,11 @@
-// The transformations that are built, as one type.
+// The transformations, as one type.
 // Each is a crate of its own; the words of drivers depend on them.
 ghost use Rattle.transformations.specs.Transformations.{keeps_of, task_equation_of};
 
 use evidence::{Draft, StageFault, Transform};
 use std::alloc::{AllocError, Global};
 use tasks::{Fact, Store, Task, TermId};
+use tr_algebraic::AlgebraicTypes;
 use tr_define::{Definitions, InductiveGroups};
 use tr_discriminate::Discriminate;
 use tr_if::Conditionals;
@@ -12,11 +13,12 @@ use tr_inline::Inline;
 use tr_introduce::Introduce;
 use tr_let::Lets;
 use tr_match::Matches;
+use tr_recursion::Recursion;
 use tr_remove::Remove;
 use tr_simplify::SimplifiedFormulas;
 use tr_split_goals::Split;
 
-/// A transformation that is built.
+/// A transformation of tasks.
 #[derive(Drop)]
 pub enum Transformation {
     Remove(Remove),
@@ -30,6 +32,8 @@ pub enum Transformation {
     Conditionals(Conditionals),
     SimplifiedFormulas(SimplifiedFormulas),
     Discriminate(Discriminate),
+    Recursion(Recursion),
+    AlgebraicTypes(AlgebraicTypes),
 }
 
 impl Transform for Transformation {
@@ -48,6 +52,8 @@ impl Transform for Transformation {
             Transformation::Conditionals(its) => its.make(alloc, store, task),
             Transformation::SimplifiedFormulas(its) => its.make(alloc, store, task),
             Transformation::Discriminate(its) => its.make(alloc, store, task),
+            Transformation::Recursion(its) => its.make(alloc, store, task),
+            Transformation::AlgebraicTypes(its) => its.make(alloc, store, task),
         }
     }
 
@@ -74,6 +80,8 @@ impl Transform for Transformation {
                 its.fact(from, to, name, types, formula, draft)
             }
             Transformation::Discriminate(its) => its.fact(from, to, name, types, formula, draft),
+            Transformation::Recursion(its) => its.fact(from, to, name, types, formula, draft),
+            Transformation::AlgebraicTypes(its) => its.fact(from, to, name, types, formula, draft),
         }
     }
 
@@ -96,6 +104,8 @@ impl Transform for Transformation {
             Transformation::Conditionals(its) => its.glue(from, to, ends, draft),
             Transformation::SimplifiedFormulas(its) => its.glue(from, to, ends, draft),
             Transformation::Discriminate(its) => its.glue(from, to, ends, draft),
+            Transformation::Recursion(its) => its.glue(from, to, ends, draft),
+            Transformation::AlgebraicTypes(its) => its.glue(from, to, ends, draft),
         }
     }
 
