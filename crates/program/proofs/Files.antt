@@ -17,7 +17,7 @@ use Rattle.rule_rows.specs.Meaning.{steps_at, StepsHeld}
 use Rattle.written_files.proofs.kernel.Growth.{steps_later, steps_held_later}
 use Rattle.stages.specs.evidence.Stages.{task_or, no_task, parts_at, part_or, PartsHeld, PartsClose}
 use Rattle.written_files.specs.kernel.Right.{Closes}
-use Rattle.driver_parts.specs.declared.driver.Driver.{Driver}
+use Rattle.part_texts.specs.driver_parts.declared.driver.Driver.{Driver}
 use Rattle.statuses.specs.fault_order.Answers.{Answers}
 use Rattle.statuses.specs.fault_order.Order.{StageMeaning, Answer, After}
 use Rattle.program.specs.Order.{PartFile, FirstFiles, name_with_number}

@@ -8,7 +8,7 @@ use Rattle.written_files.specs.name_tables.Tables.{task_names}
 use Rattle.written_files.specs.step_files.Lines.{StepsOf}
 use Rattle.stages.specs.Lifted.{HandedHasSequents}
 use Rattle.program.specs.Lifted.{IsLifted}
-use Rattle.driver_parts.specs.declared.driver.Driver.{Driver}
+use Rattle.part_texts.specs.driver_parts.declared.driver.Driver.{Driver}
 use Rattle.statuses.specs.fault_order.Answers.{Answers, IsStageAnswer}
 use Rattle.statuses.specs.fault_order.Order.{RunStop, refused, StageMeaning, Answer}
 use Rattle.source_goals.specs.Order.{GoalSettingTree}

@@ -6,7 +6,7 @@ use Rattle.rule_rows.specs.Trees.{StepTree}
 use Rattle.stages.specs.evidence.Stages.{task_or}
 use Rattle.written_files.specs.name_entries.declared.names.NameEntry.{NameEntry}
 use Rattle.written_files.specs.name_tables.Tables.{task_names}
-use Rattle.driver_parts.specs.declared.driver.Driver.{Driver}
+use Rattle.part_texts.specs.driver_parts.declared.driver.Driver.{Driver}
 use Rattle.part_texts.specs.printed_problems.Problems.{problem_of}
 use Rattle.part_texts.specs.declared.fault.PartFault.{PartFault}
 use Rattle.part_texts.specs.declared.fault.PartFault.TheVariants as part_fault
@@ -21,7 +21,7 @@ use Rattle.statuses.specs.fault_order.declared.faults.RunFault.{RunFault}
 use Rattle.statuses.specs.fault_order.declared.faults.RunFault.TheVariants as run_fault
 use Rattle.statuses.specs.fault_order.Order.{RunStop, refused, absent, misused, Stage, StageMeaning, Answer, After, fetched, if_short, ShortFile, WholeFile, HasOneAnswer}
 use Rattle.source_goals.specs.Order.{Goal, GoalSettingTree, GoalUnder, AreDetermined}
-use Rattle.program.specs.Order.{or_not_built, or_stage_refused, Carried, Printable, PrintableParts, ProblemTexts, ProblemTables, PrintText, NamesText, accepted, AreSteps, Checks, Derivation, CheckText, if_counted, RefutesPart, PartFile, name_with_number, FirstFiles, Lifts, Handed, RefutationsRead, Lifting, LiftText, word_with_number, TextOf, AnswerBy, AnswerOf}
+use Rattle.program.specs.Order.{or_stage_refused, Carried, Printable, PrintableParts, ProblemTexts, ProblemTables, PrintText, NamesText, accepted, AreSteps, Checks, Derivation, CheckText, if_counted, RefutesPart, PartFile, name_with_number, FirstFiles, Lifts, Handed, RefutationsRead, Lifting, LiftText, StressText, word_with_number, TextOf, AnswerBy, AnswerOf}
 use Rattle.statuses.proofs.fault_order.OneStage.{one_answer, one_after}
 use Rattle.program.specs.Only.{IsDueAlone, IsOnlyAnswer, IsOnlyStop}
 use Rattle.source_goals.proofs.OneSource.{one_goal, one_short_file}
@@ -30,11 +30,11 @@ use Rattle.program.proofs.Checking.{one_outcome, one_wrong, one_list}
 use Rattle.statuses.specs.Words.{command_of}
 use Rattle.statuses.specs.fault_order.declared.faults.Fault.TheVariants.{Polymorphic, Unprintable, NoSyntax, WrongLine}
 use Rattle.statuses.specs.declared.words.Command.{Command}
-use Rattle.statuses.specs.declared.words.Command.TheVariants.{Print, Names, Check, Lift}
+use Rattle.statuses.specs.declared.words.Command.TheVariants.{Print, Names, Check, Lift, Stress}
 use Rattle.tasks.proofs.plain_laws.Options.{if_some as told}
 
 one_carried : (g : GoalSettingTree) → HasOneAnswer (Carried g)
-one_carried g = one_after (Answer (or_not_built (stages_of g.driver g.task))) (λ stages. Answer (or_stage_refused (carried_task (map equation_of stages) g.task))) (one_answer _) (λ stages. one_answer _)
+one_carried g = one_answer _
 
 -- where a part can't be printed
 abbrev part_stop : PartFault → RunStop
@@ -190,11 +190,17 @@ pub stop_lift : (determined : AreDetermined) → (src drv theory goal : List ℕ
 stop_lift determined src drv theory goal names files limit =
     stop_after (GoalUnder src drv theory goal files limit) (λ g. Lifting names g files limit) (one_setting determined src drv theory goal files limit) (λ g. stop_lifting names g files limit)
 
+stop_stress : (n : ℕ) (files : Files) (limit : Option ℕ) → OneStop (StressText n files limit)
+stop_stress n files limit (Ok a) (Ok b) x y = tt
+stop_stress n files limit (Ok a) (Err stop) x y = absurd y
+stop_stress n files limit (Err stop) q x y = absurd x
+
 stop_text : (determined : AreDetermined) → (command : Command) (words : List (List ℕ)) (files : Files) (limit : Option ℕ) → OneStop (TextOf command words files limit)
 stop_text determined Print words files limit = one_stop (TextOf Print words files limit) (one_print determined (word_with_number words 2) (word_with_number words 3) (word_with_number words 4) (word_with_number words 5) files limit)
 stop_text determined Names words files limit = one_stop (TextOf Names words files limit) (one_names determined (word_with_number words 2) (word_with_number words 3) (word_with_number words 4) (word_with_number words 5) files limit)
 stop_text determined Check words files limit = one_stop (TextOf Check words files limit) (one_check determined (word_with_number words 2) (word_with_number words 3) (word_with_number words 4) (word_with_number words 5) files limit)
 stop_text determined Lift words files limit = stop_lift determined (word_with_number words 2) (word_with_number words 3) (word_with_number words 4) (word_with_number words 5) (drop 6 words) files limit
+stop_text determined (Stress n) words files limit = stop_stress n files limit
 
 stop_by : (determined : AreDetermined) → (command : Option Command) (words : List (List ℕ)) (files : Files) (limit : Option ℕ) → OneStop (AnswerBy command words files limit)
 stop_by determined None words files limit = one_stop (Answer (Err misused)) (one_answer (Err misused))

@@ -1,8 +1,8 @@
 -- What a run comes to. Whatever source, driver and goal the program accepts, what it prints is the goal's task carried through the
 -- driver's transformations by their equations; handed, for each printed problem, a file that refutes it in the calculus, it writes a
 -- derivation of the goal from the goal's own theory; every other file is refused at its first wrong line, every other source for its
--- first named fault. What the words and the files ask for, and the order of faults, is `AnswerOf`; here is which status comes of it,
--- and what the sinks gain.
+-- first named fault. `stress` writes what `lift` comes to over files that it makes. What the words and the files ask for, and the order
+-- of faults, is `AnswerOf`; here is which status comes of it, and what the sinks gain.
 use Rattle.std.specs.Prelude.{◌≡◌, ◌≢◌, ◌<◌, ◌⊎◌, ℕ, IfSome, List, None, Result, Ok, Err}
 use Rattle.statuses.specs.outside.State.{LibraryState, SinkState, Gains, GainsPrefix, Rose}
 use Rattle.statuses.specs.fault_order.Order.{RunStop, refused, absent, unread, misused}

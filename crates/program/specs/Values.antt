@@ -48,7 +48,6 @@ parts_in s (Err e) = Err e
 -- why there is no text, where a task isn't carried through
 abbrev pub carry_fault : CarryFault → RunFault
 carry_fault of_carry.Memory = run_fault.Memory
-carry_fault (of_carry.NotBuilt stage) = run_fault.Refused (fault.NotBuilt stage)
 carry_fault (of_carry.Misplaced stage decl) = run_fault.Refused (fault.Misplaced stage decl)
 carry_fault (of_carry.TooLarge stage) = run_fault.Refused (fault.TooLarge stage)
 

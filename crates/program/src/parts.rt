@@ -10,8 +10,7 @@ ghost use Rattle.program.specs.Order.{Carried, PrintableParts, Printable};
 ghost use Rattle.program.specs.Lifted.{IsStaged};
 ghost use Rattle.program.specs.Values.{carry_fault, part_fault, parts_in, setting_at, tasks_in};
 
-use driver_parts::Driver;
-use part_texts::{PartFault, Problem, problems_of};
+use part_texts::{Driver, PartFault, Problem, problems_of};
 use source_goals::GoalSetting;
 use stages::{CarryFault, TaskLevels, Transformation, carry, stages_of};
 use statuses::{Fault, RunFault};
@@ -38,7 +37,6 @@ fn carry_fault(fault: CarryFault) -> RunFault
 {
     match fault {
         CarryFault::Memory => RunFault::Memory,
-        CarryFault::NotBuilt { stage } => RunFault::Refused(Fault::NotBuilt { stage }),
         CarryFault::Misplaced { stage, decl } => {
             RunFault::Refused(Fault::Misplaced { stage, decl })
         }
@@ -77,10 +75,7 @@ fn carry_task(
     ensures staged { IfOk result (IsStaged store.new (task_at store.old setting.now.task)) }
     ensures grows { Grows store.old store.new }
 {
-    let stages = match stages_of(alloc, &setting.driver, &setting.task) {
-        Ok(stages) => stages,
-        Err(fault) => return Err(carry_fault(fault)),
-    };
+    let stages = stages_of(alloc, &setting.driver, &setting.task)?;
     match carry(alloc, store, &stages, &setting.task) {
         Ok(carried) => Ok(StagedTask { stages, carried }),
         Err(fault) => Err(carry_fault(fault)),

@@ -14,8 +14,7 @@ ghost use Rattle.stages.specs.evidence.Stages.{PartsClose};
 ghost use Rattle.program.specs.Values.{steps_in, handed_in};
 
 use crate::steps::read_steps;
-use driver_parts::Driver;
-use part_texts::Problem;
+use part_texts::{Driver, Problem};
 use rule_rows::Step;
 use statuses::{Library, RunFault, Seq, fetch_short};
 use std::alloc::Global;

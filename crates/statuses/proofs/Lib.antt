@@ -1,2 +1,3 @@
 pub use Rattle.fault_order.proofs as fault_order
 pub mod Gaining
+pub mod Range

@@ -1,7 +1,7 @@
 -- A fault's code, then its numbers in the order of its fields.
 use Rattle.std.specs.Prelude.{ℕ, List, [], ◌∷◌}
 use Rattle.fault_order.specs.declared.faults.Fault.{Fault}
-use Rattle.fault_order.specs.declared.faults.Fault.TheVariants.{Lexical, BigLiteral, Syntax, TooDeep, ProgramDecl, TooLong, NotBuilt, Unknown, Duplicate, WrongKind, Arity, Clash, Undetermined, NotExhaustive, BadClause, NotPositive, NotStructural, GroupTooWide, Uninhabited, BadSubstitution, DriverSyntax, UnknownTransformation, BadTemplate, UnknownSymbol, ImportCycle, UnknownPrinter, NoTheory, NoGoal, Misplaced, TooLarge, Polymorphic, Unprintable, NoSyntax, PartCount, WrongLine}
+use Rattle.fault_order.specs.declared.faults.Fault.TheVariants.{Lexical, BigLiteral, Syntax, TooDeep, ProgramDecl, TooLong, Unknown, Duplicate, WrongKind, Arity, Clash, Undetermined, NotExhaustive, BadClause, NotPositive, NotStructural, GroupTooWide, Uninhabited, BadSubstitution, DriverSyntax, UnknownTransformation, BadTemplate, UnknownSymbol, ImportCycle, UnknownPrinter, NoTheory, NoGoal, Misplaced, TooLarge, Polymorphic, Unprintable, NoSyntax, PartCount, WrongLine}
 
 abbrev pub numbers : Fault → List ℕ
 numbers (Lexical byte) = 10 ∷ byte ∷ []
@@ -10,7 +10,6 @@ numbers (Syntax token) = 12 ∷ token ∷ []
 numbers (TooDeep token) = 13 ∷ token ∷ []
 numbers (ProgramDecl token) = 14 ∷ token ∷ []
 numbers (TooLong file) = 15 ∷ file ∷ []
-numbers (NotBuilt stage) = 16 ∷ stage ∷ []
 numbers (Unknown decl token) = 20 ∷ decl ∷ token ∷ []
 numbers (Duplicate decl token) = 21 ∷ decl ∷ token ∷ []
 numbers (WrongKind decl token) = 22 ∷ decl ∷ token ∷ []

@@ -1,9 +1,12 @@
 -- The shape of the words.
 use Rattle.std.specs.Prelude.{ℕ, Bool, true, false, not, List, [], ◌∷◌, length, Option, Some, None, if◌then◌else◌, nat_le, ◌==◌, ◌&&◌, codes}
+use Rattle.std.specs.Prelude.{ℤ, pos}
+use Rattle.std.specs.Option.{option_map}
 use Rattle.std.specs.Str.{bytes_eq}
+use Rattle.integer_words.specs.Integers.{integer}
 use Rattle.statuses.specs.declared.words.Row.{Row}
 use Rattle.statuses.specs.declared.words.Command.{Command}
-use Rattle.statuses.specs.declared.words.Command.TheVariants.{Print, Names, Check, Lift}
+use Rattle.statuses.specs.declared.words.Command.TheVariants.{Print, Names, Check, Lift, Stress}
 
 -- A word is plain if it isn't empty and doesn't begin with `-`.
 abbrev pub is_plain_word : List ℕ → Bool
@@ -14,7 +17,7 @@ abbrev pub all_plain : List (List ℕ) → Bool
 all_plain [] = true
 all_plain (w ∷ ws) = is_plain_word w && all_plain ws
 
--- A command's name, how many operands come after it, and whether any number more may.
+-- A command's name, how many operands come after it, and whether any number more may. `stress` has no row.
 pub record CommandRow : Type 0 where
   pub name : List ℕ
   pub operands : ℕ
@@ -44,9 +47,23 @@ abbrev pub command_among : List CommandRow → List ℕ → ℕ → Option Comma
 command_among [] name n = None
 command_among (row ∷ rows) name n = if bytes_eq name row.name then (if fits_row row n then Some row.command else None) else command_among rows name n
 
+-- an integer from 1 to 200
+abbrev pub from_1_to_200 : Option ℤ → Option ℕ
+from_1_to_200 (Some (pos n)) = if nat_le 1 n && nat_le n 200 then Some n else None
+from_1_to_200 _ = None
+
+-- N of `stress`: decimal digits without leading zeros
+abbrev pub part_count : List ℕ → Option ℕ
+part_count word = from_1_to_200 (integer word)
+
+-- `stress` with its one operand
+abbrev pub stress_of : List (List ℕ) → Option Command
+stress_of (number ∷ []) = option_map Stress (part_count number)
+stress_of _ = None
+
 -- the command with this name and these operands
 abbrev pub command_named : List ℕ → List (List ℕ) → Option Command
-command_named name operands = command_among command_rows name (length operands)
+command_named name operands = if bytes_eq name (codes "stress") then stress_of operands else command_among command_rows name (length operands)
 
 -- the command of the words: the program's name, a command and its operands
 abbrev pub command_of : List (List ℕ) → Option Command

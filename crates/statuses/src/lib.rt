@@ -10,6 +10,7 @@ mod status;
 mod words;
 
 pub use fault_order::{Fault, RunFault, fetch_short, fetch_whole};
+pub use lines::line_of;
 pub use outside::{Library, Seq, Sink};
 pub use sinks::{finish, report};
 pub use status::Status;

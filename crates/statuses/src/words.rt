@@ -1,7 +1,9 @@
 // The words: the program's name, a command and its operands.
 // They depend on nothing; a run asks them first.
-ghost use Rattle.std.specs.Prelude.{◌≡◌, map, string_bytes};
-ghost use Rattle.statuses.specs.Words.{command_of, is_plain_word, all_plain, command_row, command_among, command_named};
+ghost use Rattle.std.specs.Prelude.{◌≡◌, ◌≤◌, map, string_bytes, IfSome};
+ghost use Rattle.statuses.specs.Words.{command_of, is_plain_word, all_plain, command_row, command_among, command_named, part_count, stress_of};
+
+use integer_words::integer;
 
 /// A command that is built.
 #[derive(Clone, Copy)]
@@ -14,6 +16,8 @@ pub enum Command {
     Check,
     /// `lift SRC DRV THEORY GOAL REF...`
     Lift,
+    /// `stress N`, with this N, 1 to 200
+    Stress(u64),
 }
 
 // Whether a word isn't empty and doesn't begin with `-`.
@@ -90,9 +94,41 @@ fn find_command(rows: &[Row], name: &str, operands: usize) -> Option<Command>
     None
 }
 
+// The integer of a word, where it is from 1 to 200.
+fn part_count(word: &[u8]) -> Option<u64>
+    ensures { result ≡ part_count word.now }
+{
+    match integer(word) {
+        Some(n) => {
+            if 1 <= n && n <= 200 {
+                Some(n as u64)
+            } else {
+                None
+            }
+        }
+        None => None,
+    }
+}
+
+// `stress` with its operand.
+fn stress_of(operands: &[String]) -> Option<Command>
+    ensures { result ≡ stress_of (map string_bytes operands.now) }
+{
+    match operands {
+        [number] => match part_count(number.as_bytes()) {
+            Some(parts) => Some(Command::Stress(parts)),
+            None => None,
+        },
+        _ => None,
+    }
+}
+
 fn read_named(name: &str, operands: &[String]) -> Option<Command>
     ensures { result ≡ command_named name.now (map string_bytes operands.now) }
 {
+    if name == "stress" {
+        return stress_of(operands);
+    }
     find_command(&COMMANDS, name, operands.len())
 }
 
