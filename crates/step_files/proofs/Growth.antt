@@ -7,16 +7,17 @@ use Rattle.tasks.specs.trees.declared.TermId.{TermId}
 use Rattle.tasks.specs.trees.declared.Sort.TheVariants.{Kind}
 use Rattle.tasks.specs.trees.Tree.{Tree}
 use Rattle.tasks.specs.trees.Node.{tree_at, Holds, Grows}
+use Rattle.tasks.specs.trees.Sorts.{sort_of}
 use Rattle.binders.specs.Visits.{HoldTypes, typing_stays_ready, trees_stay}
 use Rattle.tasks.specs.declared.task.Task.{Task}
 use Rattle.tasks.specs.Task.{TaskTree}
 use Rattle.tasks.specs.Vocabulary.{of_task}
 use Rattle.tasks.specs.Meaning.{trees_at, task_at, TaskHeld}
-use Rattle.tasks.proofs.Growth.{all_held_later, trees_later, task_later}
+use Rattle.tasks.proofs.Growth.{held_later, all_held_later, trees_later, task_later}
 use Rattle.rule_rows.specs.declared.rule.Step.{Step}
 use Rattle.rule_rows.specs.Trees.{StepTree}
 use Rattle.rule_rows.specs.Meaning.{step_at, steps_at, StepHeld, StepsHeld}
-use Rattle.kernel.proofs.Growth.{steps_held_later, steps_later}
+use Rattle.kernel.proofs.Growth.{step_held_later, step_later, steps_held_later, steps_later}
 use Rattle.name_entries.specs.declared.names.NameEntry.{NameEntry}
 use Rattle.tree_lines.proofs.Growing.{types_pushed}
 use Rattle.step_lines.specs.declared.thing.MadeThing.{MadeThing}
@@ -44,6 +45,20 @@ line_refused t names tallest r line h = at (line_thing t names r.earlier line) h
   at : (o : Option Thing) → ((x : Thing) → o ≡ Some x → ThingFits x → ⊥) → IsSomeAnd o (IsGood t tallest r.steps) → ⊥
   at None k g = absurd g
   at (Some x) k g = k x refl (good_fits t tallest r.steps x g)
+
+-- what a line made stays
+module _ (s s' : List Tree) (g : Grows s s') where
+  pub thing_held_later : (x : MadeThing) → ThingHeld s x → ThingHeld s' x
+  thing_held_later (made.Type y) h = (held_later s s' g y h.0, ap sort_of (g.same y.0 h.0) ∙ h.1)
+  thing_held_later (made.Pattern p) h = held_later s s' g p h
+  thing_held_later (made.Expression e) h = held_later s s' g e h
+  thing_held_later (made.Derived st) h = step_held_later s s' g st h
+
+  pub thing_later : (x : MadeThing) → ThingHeld s x → thing_at s' x ≡ thing_at s x
+  thing_later (made.Type y) h = ap TypeOf (g.same y.0 h.0)
+  thing_later (made.Pattern p) h = ap PatternOf (g.same p.0 h)
+  thing_later (made.Expression e) h = ap ExpressionOf (g.same e.0 h)
+  thing_later (made.Derived st) h = ap StepOf (step_later s s' g st h)
 
 module _ (s s' : List Tree) (g : Grows s s') (r : Read) (h : ReadHeld s r) where
   pub read_later : ReadHeld s' r

@@ -18,8 +18,9 @@ ghost use Rattle.step_files.specs.Reading.{ReaderHeld, MakesGood, ReadHeld, read
 use crate::marks::{are_marked, has_mark, is_open};
 use crate::read::Read;
 use crate::words::split;
-use kernel::{right_step, right_typed_step};
+use kernel::right_step;
 use name_entries::NameEntry;
+use quick_steps::is_right_step;
 use rule_rows::{Rule, Step};
 use std::alloc::{AllocError, Global};
 use step_lines::{MadeThing, made_by_line};
@@ -138,43 +139,53 @@ fn step_marked(store: &Store, task: &Task, marks: &[bool], step: &Step) -> bool
 }
 
 // Whether a step is right. Trees that are marked aren't typed again; where one isn't, all of the step's are.
-fn is_right(store: &Store, x: &Reader<'_>, marks: &[bool], before: &[Step], step: &Step) -> bool
-    requires reader { ReaderHeld store.now x.now }
-    requires marks { AreMarkedTyped (task_at store.now x.now.task.now) store.now marks.now }
-    requires before_held { StepsHeld store.now before.now }
-    requires step_held { StepHeld store.now step.now }
-    ensures { IsTrue result ↔ IsRight (task_at store.now x.now.task.now)
-        (steps_at store.now before.now) (step_at store.now step.now) }
+fn is_right(
+    alloc: Global,
+    store: &mut Store,
+    x: &Reader<'_>,
+    marks: &[bool],
+    before: &[Step],
+    step: &Step,
+) -> Result<bool, AllocError>
+    requires reader { ReaderHeld store.old x.now }
+    requires marks { AreMarkedTyped (task_at store.old x.now.task.now) store.old marks.now }
+    requires before_held { StepsHeld store.old before.now }
+    requires step_held { StepHeld store.old step.now }
+    ensures right { IfOk result (λ b. IsTrue b ↔ IsRight (task_at store.old x.now.task.now)
+        (steps_at store.old before.now) (step_at store.old step.now)) }
+    ensures grows { Grows store.old store.new }
 {
     if !step_marked(store, x.task, marks, step) {
-        return right_step(store, x.task, before, step);
+        return Ok(right_step(store, x.task, before, step));
     }
     let look = Lookup::with_index(x.task, x.index);
-    right_typed_step(store, &look, before, step)
+    is_right_step(alloc, store, &look, before, step)
 }
 
 // Whether a thing is good over the steps before it.
 fn is_good(
-    store: &Store,
+    alloc: Global,
+    store: &mut Store,
     x: &Reader<'_>,
     marks: &mut Vec<bool>,
     before: &[Step],
     thing: &MadeThing,
 ) -> Result<bool, AllocError>
-    requires reader { ReaderHeld store.now x.now }
-    requires marks { AreMarkedTyped (task_at store.now x.now.task.now) store.now marks.old.items }
-    requires before_held { StepsHeld store.now before.now }
-    requires thing_held { ThingHeld store.now thing.now }
-    ensures good { IfOk result (λ b. IsTrue b ↔ IsGood (task_at store.now x.now.task.now)
-        x.now.tallest (steps_at store.now before.now) (thing_at store.now thing.now)) }
-    ensures marks { OnOk result (AreMarkedTyped (task_at store.now x.now.task.now) store.now
+    requires reader { ReaderHeld store.old x.now }
+    requires marks { AreMarkedTyped (task_at store.old x.now.task.now) store.old marks.old.items }
+    requires before_held { StepsHeld store.old before.now }
+    requires thing_held { ThingHeld store.old thing.now }
+    ensures good { IfOk result (λ b. IsTrue b ↔ IsGood (task_at store.old x.now.task.now)
+        x.now.tallest (steps_at store.old before.now) (thing_at store.old thing.now)) }
+    ensures marks { OnOk result (AreMarkedTyped (task_at store.old x.now.task.now) store.new
         marks.new.items) }
+    ensures grows { Grows store.old store.new }
 {
     match thing {
         MadeThing::Type(ty) => is_good_tree(store, x, marks, *ty),
         MadeThing::Pattern(p) => is_good_tree(store, x, marks, *p),
         MadeThing::Expression(e) => is_good_tree(store, x, marks, *e),
-        MadeThing::Derived(step) => Ok(is_right(store, x, marks, before, step)),
+        MadeThing::Derived(step) => is_right(alloc, store, x, marks, before, step),
     }
 }
 
@@ -231,7 +242,7 @@ pub(crate) fn right_thing(
     let Some(thing) = line_thing(alloc, store, x, read, line)? else {
         return Ok(None);
     };
-    if is_good(store, x, marks, &read.steps, &thing)? {
+    if is_good(alloc, store, x, marks, &read.steps, &thing)? {
         Ok(Some(thing))
     } else {
         Ok(None)

@@ -9,9 +9,10 @@ ghost use Rattle.tasks.specs.Vocabulary.{of_task};
 ghost use Rattle.kernel.specs.Open.{OpenIn, IsOpen};
 ghost use Rattle.step_files.specs.Marks.{has_mark, AreMarkedTyped};
 
+use quick_steps::is_top_open;
 use std::alloc::AllocError;
 use tasks::{Index, Lookup, Parts, Store, Task, TermId};
-use typing::{Vocabulary, is_open_typed};
+use typing::Vocabulary;
 
 /// Whether a tree is marked, and so typed as far as it goes.
 #[tactic(auto, using(crate::proofs::Marking::marked_open))]
@@ -80,7 +81,9 @@ fn top_is_open(
         marks.new.items) }
 {
     let look = Lookup::with_index(task, index);
-    if !is_open_typed(store, &Vocabulary::OfTask(&look), id) {
+    let alloc = *marks.allocator();
+    let open = is_top_open(alloc, store, &Vocabulary::OfTask(&look), id)?;
+    if !open {
         return Ok(false);
     }
     mark(marks, id)?;

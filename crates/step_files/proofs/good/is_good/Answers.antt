@@ -21,3 +21,8 @@ pub returns-in-Expression-clause-good : goal.returns-in-Expression-clause-good
 returns-in-Expression-clause-good c =
     let s = c.args.store.now in
     subst (λ (x : MadeThing). IfOk c.is_good_tree-in-Expression.result (λ b. IsTrue b ↔ IsGood (task_at s c.args.x.now.task.now) c.args.x.now.tallest (steps_at s c.args.before.now) (thing_at s x))) (sym c.in-Expression.is) c.is_good_tree-in-Expression.ensures.good
+
+pub returns-in-Derived-clause-good : goal.returns-in-Derived-clause-good
+returns-in-Derived-clause-good c =
+    let s = c.args.store.now in
+    subst (λ (x : MadeThing). IfOk c.is_right.result (λ b. IsTrue b ↔ IsGood (task_at s c.args.x.now.task.now) c.args.x.now.tallest (steps_at s c.args.before.now) (thing_at s x))) (sym c.in-Derived.is) c.is_right.ensures.right
