@@ -4,6 +4,7 @@ import time
 from . import arithmetic, equations
 from . import terms as t
 from .closure import Closure
+from .shapes import Shapes
 
 
 class Open(Exception):
@@ -58,6 +59,7 @@ class Branch:
 
     def __init__(self, problem, deadline=None, hints=None):
         self.problem, self.table, self.deadline, self.hints = problem, problem.table, deadline, hints
+        problem.shapes = self.shapes = problem.shapes or Shapes(problem.asserts)
         self.closure, self.sums, self.simplex = Closure(self.table), arithmetic.Sums(self.table), arithmetic.Simplex()
         self.trail = self.closure.trail
         self.put, self.push = self.closure.put, self.closure.push

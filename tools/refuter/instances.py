@@ -3,7 +3,8 @@
 Where a formula has patterns, they are matched with the terms of the branch, up to its equations (matching as in Simplify, up
 to congruence). A formula without patterns, and each formula where all else is done, is taken at the terms of its sort
 that there are, the earliest and smallest first. Bounds of integers give terms too: of `y < t` under a quantifier over y come
-t, t - 1 and t + 1. A prover's own list of instances goes before all.
+t, t - 1 and t + 1. The cases of an algebraic type are taken at terms of which a constructor would say more: arguments of functions
+that are defined by constructors, and sides of inequalities. A prover's own list of instances goes before all.
 """
 from itertools import islice, product
 
@@ -12,9 +13,12 @@ from . import terms as t
 
 
 class Universal:
-    """A universal formula: the sorts of its variables, its body, and its patterns, each a list of open terms."""
+    """A universal formula: the sorts of its variables, its body, and its patterns, each a list of open terms.
 
-    def __init__(self, formula, table):
+    `age` is how much older its instances are than the terms that they are at: nothing where they say what a constructor gives.
+    """
+
+    def __init__(self, formula, table, shapes):
         self.formula = formula
         self.sorts, self.body = t.prefix_of(formula)
         self.patterns = patterns_of(self.body, len(self.sorts), table)
@@ -23,6 +27,12 @@ class Universal:
         self.sums = sums_of(self.body, len(self.sorts), table)
         outside = [it for it, depth in t.subtrees(self.body) if not depth and it.op == "eq"]
         self.equations = [it for it in outside if is_whole(it, len(self.sorts))]
+        self.cases, self.differing = shapes.cases(self.body, len(self.sorts)), shapes.differing(self.body)
+        self.compared = shapes.compared(self.body)
+        defined = shapes.defined(self.body) or shapes.symbol(self.body)
+        self.age = 0 if self.differing or defined else 1
+        if defined and defined.data not in shapes.projections and is_whole(defined, len(self.sorts)):
+            self.patterns = [[defined]]
 
 
 def variables_of(tree, depth, count, seen=None):
@@ -195,6 +205,35 @@ def matched(universal, closure, most):
         for env in islice(match_list(patterns, {}, closure), most):
             if len(env) == count:
                 yield tuple(env[count - 1 - at] for at in range(count))
+
+
+def has_constructor(term, closure, shapes):
+    return any(map(shapes.is_built, closure.members.get(closure.find(term), (term,))))
+
+
+def cased(universal, universals, branch):
+    """Gives the terms at which the cases of a type may help, one of each class, where no constructor is known."""
+    sort, closure, shapes = universal.sorts[0], branch.closure, branch.shapes
+    terms = [it.args[at] for name, at in shapes.asked for it in closure.heads.get(name, ())]
+    terms += [side for it in branch.unequal for side in it.args[0].args]
+    terms += [it for other in universals for it in other.compared]
+    if len(universal.cases) == 1:
+        terms += closure.new_terms
+    seen = set()
+    for it in terms:
+        if it.sort == sort and closure.find(it) not in seen and not has_constructor(it, closure, shapes):
+            seen.add(closure.find(it))
+            yield (it,)
+
+
+def equal_sides(universal, closure):
+    """Gives tuples at which a formula says of two equal terms of the branch that they differ."""
+    first, second = universal.differing
+    for one in list(closure.heads.get(first.data, ())):
+        for two in list(closure.members.get(closure.find(one), ())):
+            if two.op == "sym" and two.data == second.data:
+                for env in match_all(universal.differing, (one, two), {}, closure):
+                    yield tuple(env[len(universal.sorts) - 1 - at] for at in range(len(universal.sorts)))
 
 
 def listed(universal, candidates, most):

@@ -38,6 +38,7 @@ class Problem:
 
     def __init__(self, table):
         self.table, self.sorts, self.symbols, self.asserts, self.params, self.sensitive = table, [], {}, [], 0, 0
+        self.shapes = None
 
 
 def parts_of(text):

@@ -4,6 +4,7 @@ import threading
 import time
 
 from . import branch, provers, tableau
+from .shapes import Shapes
 
 OWN = [
     branch.Limits(age=1, instances=60, listed=0, rounds=0, splits=60),
@@ -12,6 +13,8 @@ OWN = [
     branch.Limits(age=5, instances=1500, listed=50, rounds=6, splits=8000),
     branch.Limits(age=8, instances=5000, listed=100, rounds=12, splits=50000),
 ]
+# Where types have cases, an attempt that follows them some steps, by patterns alone.
+CASES = branch.Limits(age=4, instances=400, listed=0, rounds=0, splits=400)
 HINTED = [
     branch.Limits(age=0, instances=300, listed=0, rounds=0, splits=1500),
     branch.Limits(age=1, instances=500, listed=12, rounds=2, splits=3000),
@@ -62,6 +65,12 @@ def hinted(problem, formulas, command, deadline):
     return None
 
 
+def attempts(problem):
+    """Returns the limits of the attempts before any prover is asked."""
+    has_cases = bool(Shapes(problem.asserts).constructors)
+    return [OWN[0], CASES, *OWN[1:3]] if has_cases else OWN[:3]
+
+
 def refute(problem, seconds=10.0, commands=()):
     """Looks for a refutation of a problem with these provers, for so many seconds of a processor. Returns what was found."""
     begin = time.process_time()
@@ -69,11 +78,11 @@ def refute(problem, seconds=10.0, commands=()):
     try:
         first = min(deadline, begin + max(0.5, seconds / 8))
         try:
-            for limits in OWN[:3]:
+            for limits in attempts(problem):
                 node = attempt(problem, formulas, limits, first)
                 if node is not None:
                     return Found(node, "own search")
-                tried += 1
+                tried += limits in OWN
         except branch.Late:
             pass
         for command in commands:

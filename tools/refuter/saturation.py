@@ -66,7 +66,7 @@ class Saturation(Branch):
 
     def universal(self, formula):
         if formula not in self.known:
-            self.known[formula] = instances.Universal(formula, self.table)
+            self.known[formula] = instances.Universal(formula, self.table, self.shapes)
         return self.known[formula]
 
     def constant(self, formula, it, negated, age, wraps):

@@ -8,7 +8,7 @@ leaf ends, and the next has greater limits.
 from . import instances
 from . import proofs as p
 from . import terms as t
-from .branch import Open, sides_of
+from .branch import Open
 from .combination import Combination
 
 
@@ -104,22 +104,13 @@ class Search(Combination):
         found, seen = [], set()
         for universal in self.universals:
             base = self.age.get(universal.formula, 0)
-            given = self.hints(universal) if self.hints else ()
-            free = not universal.patterns
-            ways = [(given, True), (instances.matched(universal, self.closure, 200), False)]
-            ways.append((instances.bounds(universal, self.closure, self.relations, self.table), False))
-            ways.append((instances.separated(universal, self.closure, self.unequal), False))
-            if universal.sums:
-                ways.append((instances.solutions(universal, self.solved(), self.table), False))
-            if free:
-                ways.append((instances.listed(universal, self.candidates, 12 + self.limits.listed), False))
-            for tuples, trusted in ways:
+            for tuples, trusted in self.ways_of(universal):
                 for terms in tuples:
                     key = (universal.formula, terms)
                     if key in seen or key in self.taken:
                         continue
                     seen.add(key)
-                    age = 1 + max([base] + [self.term_age.get(it, 0) for it in terms])
+                    age = universal.age + max([base] + [self.term_age.get(it, 0) for it in terms])
                     if age > self.limits.age and not trusted:
                         continue
                     body = t.instance(universal.body, list(terms)[::-1])
@@ -130,6 +121,23 @@ class Search(Combination):
                     found.append((rank, age, body.size, universal, terms))
         found.sort(key=lambda it: it[:3])
         return found
+
+    def ways_of(self, universal):
+        """Returns the lists of terms at which to take a universal formula, each with whether a prover named them."""
+        given = self.hints(universal) if self.hints else ()
+        if universal.cases:
+            ways = [(given, True), (instances.cased(universal, self.universals, self), False)]
+        elif universal.differing and len(universal.patterns) and len(universal.patterns[0]) > 1:
+            return [(given, True), (instances.equal_sides(universal, self.closure), False)]
+        else:
+            ways = [(given, True), (instances.matched(universal, self.closure, 200), False)]
+            ways.append((instances.bounds(universal, self.closure, self.relations, self.table), False))
+            ways.append((instances.separated(universal, self.closure, self.unequal), False))
+        if universal.sums:
+            ways.append((instances.solutions(universal, self.solved(), self.table), False))
+        if not universal.patterns:
+            ways.append((instances.listed(universal, self.candidates, 12 + self.limits.listed), False))
+        return ways
 
     def candidates(self, sort):
         """Returns the terms of a sort on the branch, one of each class, the earliest and smallest first; a parameter of its own

@@ -11,6 +11,17 @@ infix_gt_7 predicate int.Int.(>)
 infix_gt_eq_8 predicate int.Int.(>=)
 """
 
+# Lists of integers with their length, as eliminate_recursion and eliminate_algebraic write them.
+LIST = (
+    "(declare-sort list_9 0)(declare-fun nil_10 () list_9)(declare-fun cons_11 (Int list_9) list_9)(declare-fun consq1_12 (list_9) Int)"
+    "(declare-fun consq2_13 (list_9) list_9)(declare-fun length_14 (list_9) Int)"
+    "(assert (forall ((x0 Int)) (forall ((x1 list_9)) (= (consq1_12 (cons_11 x0 x1)) x0))))"
+    "(assert (forall ((x0 Int)) (forall ((x1 list_9)) (= (consq2_13 (cons_11 x0 x1)) x1))))"
+    "(assert (forall ((x0 Int)) (forall ((x1 list_9)) (not (= nil_10 (cons_11 x0 x1))))))"
+    "(assert (forall ((x0 list_9)) (or (= x0 nil_10) (= x0 (cons_11 (consq1_12 x0) (consq2_13 x0))))))"
+    "(assert (= (length_14 nil_10) 0))"
+    "(assert (forall ((x0 Int)) (forall ((x1 list_9)) (= (length_14 (cons_11 x0 x1)) (+ 1 (length_14 x1))))))"
+)
 ROWS = [
     ("a fact", "(declare-fun p_1 () Bool)(assert p_1)(assert (not p_1))(check-sat)", 0, True),
     (
@@ -67,17 +78,32 @@ ROWS = [
     ("the next number", "(assert (not (forall ((x0 Int)) (exists ((x1 Int)) (< x0 x1)))))", 0, True),
     (
         "a list of one number",
-        "(declare-sort list_9 0)(declare-fun nil_10 () list_9)(declare-fun cons_11 (Int list_9) list_9)(declare-fun consq1_12 (list_9) Int)"
-        "(declare-fun consq2_13 (list_9) list_9)(declare-fun length_14 (list_9) Int)"
-        "(assert (forall ((x0 Int)) (forall ((x1 list_9)) (= (consq1_12 (cons_11 x0 x1)) x0))))"
-        "(assert (forall ((x0 Int)) (forall ((x1 list_9)) (= (consq2_13 (cons_11 x0 x1)) x1))))"
-        "(assert (forall ((x0 Int)) (forall ((x1 list_9)) (not (= nil_10 (cons_11 x0 x1))))))"
-        "(assert (forall ((x0 list_9)) (or (= x0 nil_10) (= x0 (cons_11 (consq1_12 x0) (consq2_13 x0))))))"
-        "(assert (= (length_14 nil_10) 0))"
-        "(assert (forall ((x0 Int)) (forall ((x1 list_9)) (= (length_14 (cons_11 x0 x1)) (+ 1 (length_14 x1))))))"
-        "(assert (forall ((x0 list_9)) (>= (length_14 x0) 0)))"
-        "(assert (not (= (length_14 (cons_11 1 nil_10)) 1)))(check-sat)",
+        LIST + "(assert (forall ((x0 list_9)) (>= (length_14 x0) 0)))(assert (not (= (length_14 (cons_11 1 nil_10)) 1)))(check-sat)",
         0,
+        True,
+    ),
+    (
+        "a list without length",
+        LIST + "(declare-fun c0 () list_9)(assert (forall ((x0 list_9)) (>= (length_14 x0) 0)))"
+        "(assert (not (=> (= (length_14 c0) 0) (= c0 nil_10))))",
+        0,
+        True,
+    ),
+    (
+        "a list of two by its length",
+        LIST + "(declare-fun c0 () list_9)(assert (forall ((x0 list_9)) (>= (length_14 x0) 0)))(assert (= (length_14 c0) 2))"
+        "(assert (not (exists ((x0 Int)) (exists ((x1 Int)) (= c0 (cons_11 x0 (cons_11 x1 nil_10)))))))",
+        1,
+        True,
+    ),
+    (
+        "two constructors of one value",
+        "(declare-sort t_9 0)(declare-fun a_10 (Int) t_9)(declare-fun b_11 (Int) t_9)(declare-fun aq1_12 (t_9) Int)(declare-fun bq1_13 (t_9) Int)"
+        "(declare-fun c0 () t_9)(declare-fun c1 () Int)(declare-fun c2 () Int)(assert (forall ((x0 Int)) (= (aq1_12 (a_10 x0)) x0)))"
+        "(assert (forall ((x0 Int)) (= (bq1_13 (b_11 x0)) x0)))(assert (forall ((x0 Int)) (forall ((x1 Int)) (not (= (a_10 x0) (b_11 x1))))))"
+        "(assert (forall ((x0 t_9)) (or (= x0 (a_10 (aq1_12 x0))) (= x0 (b_11 (bq1_13 x0))))))"
+        "(assert (= c0 (a_10 c1)))(assert (not (not (= c0 (b_11 c2)))))",
+        1,
         True,
     ),
     (

@@ -10,8 +10,9 @@ import unittest
 from .. import arithmetic, lazy, parts, provers, reader, refute, writer
 from .. import terms as t
 from ..closure import Closure
+from ..shapes import Shapes
 from .check import File, Wrong
-from .problems import INTS, ROWS
+from .problems import INTS, LIST, ROWS
 
 TABLE = reader.Table(INTS.splitlines())
 
@@ -44,6 +45,22 @@ class Reading(unittest.TestCase):
         for text in ("(assert p)", "(assert (not (p_1 2)))", "(assert", ")", "", "(assert true)"):
             with self.assertRaises(reader.Unreadable):
                 problem_of(text)
+
+
+class Types(unittest.TestCase):
+    GOAL = "(assert (not (= nil_10 nil_10)))"
+
+    def test_shapes(self):
+        made = Shapes(problem_of(LIST + self.GOAL).asserts)
+        self.assertEqual(made.constructors, {"nil_10", "cons_11"})
+        self.assertEqual(made.projections, {"consq1_12", "consq2_13"})
+        self.assertEqual(made.asked, {("consq1_12", 0), ("consq2_13", 0), ("length_14", 0)})
+
+    def test_other_shapes(self):
+        inverse = "(declare-sort t_1 0)(declare-fun f_2 (t_1) t_1)(declare-fun g_3 (t_1) t_1)(assert (forall ((x0 t_1)) (= x0 (f_2 (g_3 x0)))))"
+        for text in (inverse + "(assert (not true))", LIST.replace("(consq2_13 (cons_11 x0 x1)) x1", "x1 x1") + self.GOAL):
+            made = Shapes(problem_of(text).asserts)
+            self.assertEqual((made.constructors, made.asked), (set(), set()))
 
 
 class Searching(unittest.TestCase):
@@ -183,7 +200,7 @@ class Provers(unittest.TestCase):
         for found in (provers.z3_instances(problem, z3), provers.cvc_instances(problem, cvc)):
             self.assertEqual([(sorts, words) for sorts, words, _ in found], [(["t_1"], ["c0"])])
             given = provers.hints(problem, problem.asserts, found)
-            universal = refute.tableau.instances.Universal(problem.asserts[0], TABLE)
+            universal = refute.tableau.instances.Universal(problem.asserts[0], TABLE, Shapes(problem.asserts))
             self.assertEqual(given(universal), [(t.param(0, "t_1"),)])
 
     def test_installed_provers(self):
