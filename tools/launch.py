@@ -13,7 +13,7 @@ LINES_A_MINUTE = 1500
 CRATES_A_MINUTE = 4
 USAGE = "usage: why3lift print|names SRC DRV THEORY GOAL | lift SRC DRV THEORY GOAL REF... | check SRC THEORY GOAL DER | stress N"
 # How many words a command has; `lift` has one more for each refutation.
-FORMS = {"print": 5, "names": 5, "lift": 5, "check": 5}
+FORMS = {"print": 5, "names": 5, "lift": 5, "check": 5, "stress": 2}
 
 
 def tell(text):
@@ -120,6 +120,8 @@ def is_usage(words):
     count = FORMS.get(words[0] if words else "")
     if count is None or len(words) < count or (len(words) > count and words[0] != "lift"):
         return True
+    if words[0] == "stress" and not re.fullmatch("[1-9][0-9]?|1[0-9][0-9]|200", words[1]):
+        return True
     try:
         return any(not it or it.startswith("-") or not it.encode() for it in words)
     except UnicodeEncodeError:
@@ -184,8 +186,14 @@ def fault_words(code):
 def tell_words(words, numbers):
     """Says in one line what a refusal of the trial run means, and which command shows the place."""
     file = file_of_refusal(words, numbers)
-    shows = f"; ./why3lift-explain {file} {' '.join(map(str, numbers))} says where" if file else ""
+    shows = f"; ./why3lift-unproved explain {file} {' '.join(map(str, numbers))} says where" if file else ""
     tell(f"why3lift-unproved: {fault_words(numbers[0])}{shows}")
+
+
+def missing_words(words, line, number):
+    """Says which file a line `absent` or `read fault` is about."""
+    why = "no such file" if line == "absent" else "can't be read"
+    return f"{file_of(words, number)}: {why}"
 
 
 def explain(words, line):
@@ -200,10 +208,7 @@ def explain(words, line):
         if file is not None:
             subprocess.run([binary_of("why3lift_explain"), file, *map(str, numbers)], stdout=sys.stderr, check=False)
     elif found[1]:
-        why = "no such file" if found[1] == "absent" else "can't be read"
-        tell(f"{file_of(words, numbers[0])}: {why}")
-    elif words[:1] == ["stress"]:
-        tell("stress isn't built yet")
+        tell(missing_words(words, found[1], numbers[0]))
 
 
 def run_proved(words):
@@ -255,25 +260,29 @@ def tell_answer(words, lines, crate):
     for line in lines:
         if not re.match(r"checked: |run=|rt: |case=", line):
             tell(line)
-        if line.startswith("refused: ") and crate == "why3lift":
-            tell_words(words, [int(it) for it in line.split()[1:]])
+        found = re.fullmatch(r"(refused|absent|read fault): ([0-9 ]+)", line)
+        if found and crate == "why3lift":
+            numbers = [int(it) for it in found[2].split()]
+            if found[1] == "refused":
+                tell_words(words, numbers)
+            else:
+                tell(f"why3lift-unproved: {missing_words(words, found[1], numbers[0])}")
 
 
 def run_unproved(words):
     """Runs the sources of why3lift, or after the word `explain` those of why3lift-explain, by a trial run. Without words it
     takes commands from standard input, a line each, where that is no terminal.
     """
-    crate = "why3lift"
+    crate, places = "why3lift", places_of(words)
     if words[:1] == ["explain"]:
         crate, words, places = "why3lift_explain", words[1:], [0]
     elif not words and not sys.stdin.isatty():
         commands = [it.split() for it in sys.stdin if it.strip() and not it.startswith("#")]
-        return run_commands(commands or [[]])
-    elif is_usage(words):
+        if commands:
+            return run_commands(commands)
+    if crate == "why3lift" and is_usage(words):
         tell(USAGE)
         return 2
-    else:
-        places = places_of(words)
     if not shutil.which("rt"):
         tell("why3lift-unproved: the toolchain's command rt isn't there")
         return 70
@@ -293,7 +302,8 @@ def run_commands(commands):
     if right and not shutil.which("rt"):
         tell("why3lift-unproved: the toolchain's command rt isn't there")
         return 70
-    tell("why3lift-unproved: nothing was proved; one trial run for all commands takes a minute or two")
+    if right:
+        tell("why3lift-unproved: nothing was proved; one trial run for all commands takes a minute or two")
     answers = iter(tried(right)) if right else iter(())
     worst = 0
     for words in commands:
