@@ -1,6 +1,6 @@
 // Evidence of the laws of algebraic types: their negations, refuted.
 // It depends on scripts and on the cases of a term; facts of a task in which algebraic types are symbols are cited by it.
-ghost use Rattle.std.specs.Prelude.{◌≡◌, ℕ, ◌≤◌, [], ◌∷◌, IfOk};
+ghost use Rattle.std.specs.Prelude.{◌≡◌, ℕ, ◌≤◌, [], ◌∷◌, length, IfOk};
 ghost use Rattle.trees.specs.Tree.{Two, HEq, above_params};
 ghost use Rattle.trees.specs.Node.{tree_at, Holds};
 ghost use Rattle.tasks.specs.Task.{neg};
@@ -72,10 +72,14 @@ fn refute_equation(
     )
 }
 
-// The negation of a law of projections or of distinctness, refuted, where parameters below this number are in it.
-fn refute_open_law(draft: &mut Draft, formula: TermId, fresh: usize) -> Result<usize, AllocError>
+// The negation of a law of projections or of distinctness, refuted, where as many parameters as there are opened types are in it.
+fn refute_open_law(
+    draft: &mut Draft,
+    formula: TermId,
+    opened: &mut Vec<TermId>,
+) -> Result<usize, AllocError>
     requires formula { IsFormulaAt draft.old formula }
-    requires below { above_params (tree_at draft.old.trees formula) ≤ fresh }
+    requires below { above_params (tree_at draft.old.trees formula) ≤ length opened.old.items }
     requires shape { (n : ℕ) × Quantified (IsProjectedOrApart draft.old.task) n
         (tree_at draft.old.trees formula) }
     requires begins { BeginsOpenLaw (tree_at draft.old.trees formula) }
@@ -85,11 +89,10 @@ fn refute_open_law(draft: &mut Draft, formula: TermId, fresh: usize) -> Result<u
 {
     match draft.store().node(formula) {
         Node::Forall(ty, body) => {
-            let Some(next) = fresh.checked_add(1) else {
-                return Err(AllocError);
-            };
+            let fresh = opened.len();
+            opened.push(ty)?;
             let inner = open_body(draft, formula, ty, body, fresh)?;
-            let step = refute_open_law(draft, inner, next)?;
+            let step = refute_open_law(draft, inner, opened)?;
             let made = by_new_parameter(draft, formula, ty, body, fresh, step)?;
             Ok(made)
         }
@@ -114,13 +117,14 @@ pub fn refute_law(draft: &mut Draft, kind: LawKind, formula: TermId) -> Result<u
         (neg (tree_at draft.old.trees formula) ∷ [])) }
     ensures grows { Extends draft.old draft.new }
 {
+    let mut opened = Vec::new(draft.allocator());
     match kind {
         LawKind::Projection => {
-            let made = refute_open_law(draft, formula, 0)?;
+            let made = refute_open_law(draft, formula, &mut opened)?;
             Ok(made)
         }
         LawKind::Distinctness => {
-            let made = refute_open_law(draft, formula, 0)?;
+            let made = refute_open_law(draft, formula, &mut opened)?;
             Ok(made)
         }
         LawKind::Exhaustion => {

@@ -1,4 +1,4 @@
-use Rattle.std.proofs.Common.{ℕ, sym, ap, subst, arith}
+use Rattle.std.proofs.Common.{ℕ, [], ◌∷◌, length, length-append, sym, ap, subst, arith}
 use Rattle.trees.specs.Node.{tree_at}
 use Rattle.trees.specs.Binding.{Param}
 use Rattle.tasks.specs.Task.{TaskTree}
@@ -16,10 +16,10 @@ refute_open_law-requires t c =
     let d1 = c.open_body.new.draft in
     let i = c.in_ok-inner-in-Forall in
     let e = rw c.store.ensures at c.in-Forall.ensures.tree in
-    let k = next_of (IsProjectedOrApart d.task) (open_stays d.task) (none_leads d.task) (tree_at d.trees c.args.formula) (tree_at d.trees c.in-Forall.ty) (tree_at d.trees c.in-Forall.body) (Param c.args.fresh (tree_at d.trees c.in-Forall.ty)) e c.requires.shape in
+    let k = next_of (IsProjectedOrApart d.task) (open_stays d.task) (none_leads d.task) (tree_at d.trees c.args.formula) (tree_at d.trees c.in-Forall.ty) (tree_at d.trees c.in-Forall.body) (Param c.len-fresh.result (tree_at d.trees c.in-Forall.ty)) e c.requires.shape in
     let k1 = subst (IsNext (IsProjectedOrApart d.task) (tree_at d.trees c.args.formula)) (sym i.ensures.tree) k in
     let shape = subst (λ (u : TaskTree). (n : ℕ) × Quantified (IsProjectedOrApart u) n (tree_at d1.trees i.inner)) (sym i.ensures.grows.task) k1.shape in
-    (omega (arith, k1.less, c.decreases), (i.ensures.formula, (omega (arith, i.ensures.below, c.in-Some.ensures), (shape, open_begins d1.task shape.0 (tree_at d1.trees i.inner) shape.1))))
+    (omega (arith, k1.less, c.decreases), (i.ensures.formula, (omega (arith, i.ensures.below, c.len-fresh.ensures, ap length c.in_ok-push-in-Forall.ensures.items, length-append c.args.opened.now.items (c.in-Forall.ty ∷ [])), (shape, open_begins d1.task shape.0 (tree_at d1.trees i.inner) shape.1))))
 
 pub returns-in_err-made-in-Forall-clause-grows : goal.returns-in_err-made-in-Forall-clause-grows
 returns-in_err-made-in-Forall-clause-grows t c =
