@@ -1,18 +1,24 @@
 -- What making patterns' terms needs stays as a store grows, and is there for the parts of a pattern.
-use Rattle.std.proofs.Common.{◌≡◌, ℕ, suc, ◌+◌, ◌⊎◌, inl, inr, List, [], ◌∷◌, ◌++◌, map, length, get_or, All, Some, None, Result, Ok, Err, OnOk, subst, refl, sym, ap, ◌∙◌, arith}
+use Rattle.std.proofs.Common.{◌≡◌, ℕ, suc, ◌==◌, Bool, true, false, if◌then◌else◌, ◌+◌, ◌<◌, ◌⊎◌, inl, inr, List, [], ◌∷◌, ◌++◌, map, length, get_or, All, Some, None, Result, Ok, Err, OnOk, subst, refl, sym, ap, ◌∙◌, arith}
+use Rattle.std.proofs.lemmas.Bool.{eqb-true}
 use Rattle.std.proofs.lemmas.List.{length-map, map-append, append_assoc, append-nil}
 use Rattle.trees.specs.declared.TermId.{TermId}
+use Rattle.trees.specs.declared.Node.{Node}
+use Rattle.trees.specs.declared.Node.TheVariants as node
+use Rattle.trees.specs.declared.Op.TheVariants.{And}
 use Rattle.trees.specs.declared.Sort.{Sort}
-use Rattle.trees.specs.declared.Sort.TheVariants.{Kind, Term, Pattern}
-use Rattle.trees.specs.Tree.{Tree, Leaf, One, Two, Three, HEq, HCell, HPatVar, HPatAlias, HPatCon}
-use Rattle.trees.specs.Node.{tree_at, trees_at, Holds, Grows}
+use Rattle.trees.specs.declared.Sort.TheVariants.{Kind, Term, Formula, Pattern}
+use Rattle.trees.specs.declared.Sort.TheVariants as sorts
+use Rattle.trees.specs.Tree.{Tree, Leaf, One, Two, Three, HEnd, HFun, HJoin, HEq, HCell, HPatVar, HPatAlias, HPatCon, loose}
+use Rattle.trees.specs.Node.{tree_at, trees_at, node_tree, Holds, Grows}
 use Rattle.trees.specs.Sorts.{Fits, sort_of, first_sort, type_of, IsListOf, IsList}
 use Rattle.trees.specs.Binding.{inst_types}
 use Rattle.binders.specs.Visits.{AreHeldOfSort, HoldTerms, held_stays, trees_stay}
 use Rattle.tasks.specs.declared.lookup.Lookup.{Lookup}
-use Rattle.tasks.specs.Task.{TaskTree}
+use Rattle.tasks.specs.Task.{TaskTree, symbol_or}
+use Rattle.tasks.specs.Conjunctions.{conjunction}
 use Rattle.tasks.specs.Looking.{LookupHeld}
-use Rattle.tasks.specs.MatchTests.{constructor_projections, apply_list, field, fields, rebuilt, con_equation, tests, pattern_terms}
+use Rattle.tasks.specs.MatchTests.{result_at, constructor_projections, apply_list, field, fields, rebuilt, con_equation, tests, pattern_terms}
 use Rattle.tasks.specs.Equations.{cells}
 use Rattle.tasks.specs.Typing.{members, TypedUnder}
 use Rattle.tasks.specs.Valid.{IsValid, AreProjections}
@@ -81,8 +87,62 @@ module _ (s s' : List Tree) (g : Grows s s') where
         count = subst (λ (e : Tree). IsCount e (length ts)) (sym q) h.count;
       }
 
+-- ---- lists of terms, and applications
+no_list : (a : Sort) → a ≡ Term → a ≡ sorts.List → ⊥
+no_list a q e = cc
+
+pub cell_fits : (a b : Tree) → sort_of a ≡ Term → IsList Term b → Fits (Two HCell a b)
+cell_fits a b q l = ((no_list (sort_of a) q, subst (λ (z : Sort). IsListOf z (sort_of b) (first_sort b)) (sym q) l), tt)
+
+pub cells_step : (s s1 : List Tree) (g : Grows s s1) (ids rest : List TermId) (first tail : TermId) (e : Tree) → HoldTerms s ids → ids ≡ first ∷ rest → e ≡ Two HCell (tree_at s1 first) (tree_at s1 tail) → tree_at s1 tail ≡ cells (trees_at s rest)
+    → e ≡ cells (trees_at s ids)
+cells_step s s1 g ids rest first tail e h q m r =
+    let f : HoldTerms s (first ∷ rest) = subst (HoldTerms s) q h in
+    m ∙ ap (λ (z : Tree). Two HCell z (tree_at s1 tail)) (g.same first.0 f.0.0) ∙ ap (Two HCell (tree_at s first)) r ∙ ap (λ is. cells (trees_at s is)) (sym q)
+
+pub empty_is : (ids : List TermId) (b : Bool) → b ≡ (length ids == 0) → b ≡ true → ids ≡ []
+empty_is [] b e t = refl
+empty_is (i ∷ ids) b e t = absurd (let z : length (i ∷ ids) ≡ 0 = eqb-true (length (i ∷ ids)) 0 (sym e ∙ t) in omega (arith, z))
+
+pub not_empty : (n : ℕ) (b : Bool) → b ≡ (n == 0) → b ≡ false → n ≡ 0 → ⊥
+not_empty n b p q z = let e : (n == 0) ≡ true = ap (λ (m : ℕ). m == 0) z in cc
+
+longer_conjunction : (a : Tree) (s : List Tree) (rest : List TermId) → (length rest ≡ 0 → ⊥) → conjunction (a ∷ trees_at s rest) ≡ Two (HJoin And) a (conjunction (trees_at s rest))
+longer_conjunction a s [] n = absurd (n refl)
+longer_conjunction a s (i ∷ rest) n = refl
+
+-- a conjunction of more than one formula
+pub conjunction_step : (s s1 : List Tree) (g : Grows s s1) (ids rest : List TermId) (first more : TermId) (e : Tree) → AreHeldOfSort Formula s ids → ids ≡ first ∷ rest → (length rest ≡ 0 → ⊥) → e ≡ Two (HJoin And) (tree_at s1 first) (tree_at s1 more) → tree_at s1 more ≡ conjunction (trees_at s rest)
+    → e ≡ conjunction (trees_at s ids)
+conjunction_step s s1 g ids rest first more e h q n m r =
+    let f : AreHeldOfSort Formula s (first ∷ rest) = subst (AreHeldOfSort Formula s) q h in
+    m ∙ ap (λ (z : Tree). Two (HJoin And) z (tree_at s1 more)) (g.same first.0 f.0.0) ∙ ap (Two (HJoin And) (tree_at s first)) r ∙ sym (ap (λ is. conjunction (trees_at s is)) q ∙ longer_conjunction (tree_at s first) s rest n)
+
+some_same : (a b : Tree) → Some a ≡ Some b → a ≡ b
+some_same a b q = cc
+
+pub result_kind : (t : TaskTree) (k : ℕ) (e : Tree) → HasClosedResult t k → (symbol_or t.symbols k).result ≡ Some e → sort_of e ≡ Kind
+result_kind t k e h q = ap sort_of (some_same e h.result (sym q ∙ h.is)) ∙ h.kind
+
+pub applied_fits : (f : ℕ) (s s1 : List Tree) (g : Grows s s1) (types args : TermId) (c : Tree) → Holds s types → IsList Kind (tree_at s types) → Holds s args → IsList Term (tree_at s args) → sort_of c ≡ Kind
+    → Fits (Three (HFun f) (tree_at s1 types) (tree_at s1 args) c)
+applied_fits f s s1 g types args c ht kt ha ka q = (subst (IsList Kind) (sym (g.same types.0 ht)) kt, subst (IsList Term) (sym (g.same args.0 ha)) ka, q)
+
+result_is : (t : TaskTree) (f : ℕ) (r types : Tree) → HasClosedResult t f → (symbol_or t.symbols f).result ≡ Some r → result_at (symbol_or t.symbols f).result types ≡ inst_types r (members types)
+result_is t f r types h b =
+    let z : loose r ≡ 0 = ap loose (some_same r h.result (sym b ∙ h.is)) ∙ h.closed in
+    ap (λ o. result_at o types) b ∙ ap (λ (n : ℕ). if n == 0 then inst_types r (members types) else Leaf HEnd) z
+
+pub applied_is : (t : TaskTree) (f : ℕ) (s s1 : List Tree) (g : Grows s s1) (x : At) (args : TermId) (e r ty : Tree) → AtHeld s x → HasClosedResult t f → Holds s args → e ≡ Three (HFun f) (tree_at s1 x.types) (tree_at s1 args) ty
+    → ty ≡ inst_types r (trees_at s x.members.now) → (symbol_or t.symbols f).result ≡ Some r → e ≡ apply_list t f (tree_at s x.types) (tree_at s args)
+applied_is t f s s1 g x args e r ty h c k q a b =
+    q
+    ∙ ap (λ (z : Tree). Three (HFun f) z (tree_at s1 args) ty) (g.same x.types.0 h.types)
+    ∙ ap (λ (z : Tree). Three (HFun f) (tree_at s x.types) z ty) (g.same args.0 k)
+    ∙ ap (Three (HFun f) (tree_at s x.types) (tree_at s args)) (a ∙ ap (inst_types r) h.are ∙ sym (result_is t f r (tree_at s x.types) c b))
+
 -- ---- counts
-count_one : (p : Tree) → sort_of p ≡ Pattern → IsCount p 1
+pub count_one : (p : Tree) → sort_of p ≡ Pattern → IsCount p 1
 count_one (Leaf h) k = tt
 count_one (One HPatVar a) k = refl
 count_one (One HPatAlias a) k = refl
@@ -324,6 +384,23 @@ first_held sort s (i ∷ ids) t h n q = rw q h.0
 
 pub var_single : (s : List Tree) (l : Lookup) (p : TermId) (ts : List TermId) (a : Tree) → CanAsk s l p ts → tree_at s p ≡ One HPatVar a → length ts ≡ 1
 var_single s l p ts a h e = subst (λ (z : Tree). IsCount z (length ts)) e h.count
+
+pub cell_some : (s : List Tree) (l : Lookup) (p : TermId) (ts : List TermId) (a b : Tree) → CanAsk s l p ts → tree_at s p ≡ Two HCell a b → 0 < length ts
+cell_some s l p ts a b h e = let n : length ts ≡ length (members b) + 1 = subst (λ (z : Tree). IsCount z (length ts)) e h.count in omega (arith, n)
+
+-- what is no cell has no members
+pub no_members : (s : List Tree) (n : Node) → ((a b : TermId) → n ≡ node.Cell a b → ⊥) → members (node_tree s n) ≡ []
+no_members s (node.Cell a b) l = absurd (l a b refl)
+no_members s _ l = refl
+
+-- what is of no form that has parts has no tests and no variables
+pub no_part : (t : TaskTree) (s : List Tree) (n : Node) (ss : List Tree) → ((a : TermId) → n ≡ node.PatVar a → ⊥) → ((a : TermId) → n ≡ node.PatAlias a → ⊥) → ((a b : TermId) → n ≡ node.Cell a b → ⊥) → ((k : ℕ) (a b c : TermId) → n ≡ node.PatCon k a b c → ⊥)
+    → (tests t (node_tree s n) ss ≡ []) × (pattern_terms t (node_tree s n) ss ≡ [])
+no_part t s (node.PatVar a) ss v i l c = absurd (v a refl)
+no_part t s (node.PatAlias a) ss v i l c = absurd (i a refl)
+no_part t s (node.Cell a b) ss v i l c = absurd (l a b refl)
+no_part t s (node.PatCon k a b d) ss v i l c = absurd (c k a b d refl)
+no_part t s _ ss v i l c = (refl, refl)
 
 pub fields_length : (s s' : List Tree) (ids : List TermId) (t : TaskTree) (js : List ℕ) (types term : Tree) → trees_at s' ids ≡ fields t js types term → length ids ≡ length js
 fields_length s s' ids t js types term q = sym (length-map ids (tree_at s')) ∙ ap length q ∙ length-map js (λ j. field t j types term)
