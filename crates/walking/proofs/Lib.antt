@@ -19,3 +19,4 @@ pub mod RestPlaces
 pub mod Visible
 pub mod VisiblePlaces
 pub mod RememberedLinks
+pub mod LinkedSides
