@@ -8,7 +8,7 @@ use Rattle.tasks.proofs.outside.Passed.{no_value}
 use Rattle.evidence.proofs.Formulas.{formula_later}
 use Rattle.congruence.proofs.Later.{held_later, tree_later, closed_later, node_later}
 use Rattle.walking.proofs.PlacesLater.{link_later}
-use Rattle.walking.proofs.LinkedSides.{equal_formula, link_sides, right_sort, one_again, two_again, sort_again}
+use Rattle.walking.proofs.LinkedSides.{equal_formula, link_sides, right_sort, two_again, sort_again}
 use Rattle.trees.specs.declared.Sort.TheVariants.{Term}
 use Rattle.trees.specs.Sorts.{type_of}
 use Rattle.walking.proofs.walking.link_equal.Goals as goal

@@ -1,4 +1,4 @@
-use Rattle.std.proofs.Common.{subst, sym, ap, ◌∙◌}
+use Rattle.std.proofs.Common.{subst}
 use Rattle.trees.specs.Tree.{Two, HJoin}
 use Rattle.trees.specs.Node.{tree_at}
 use Rattle.tasks.specs.Valid.{IsGroundFormula}
@@ -6,11 +6,10 @@ use Rattle.evidence.specs.Laws.{Extends_trans, AddsTrees_extends}
 use Rattle.walking.proofs.Places.{link_formula, join_link}
 use Rattle.tasks.proofs.outside.Passed.{no_value}
 use Rattle.evidence.proofs.Formulas.{formula_later}
-use Rattle.congruence.proofs.Later.{held_later, tree_later, closed_later, node_later}
+use Rattle.congruence.proofs.Later.{held_later, closed_later, node_later}
 use Rattle.walking.proofs.PlacesLater.{link_later}
-use Rattle.walking.proofs.LinkedSides.{join_formula, link_sides, right_sort, one_again, two_again, sort_again}
+use Rattle.walking.proofs.LinkedSides.{join_formula, link_sides, right_sort, two_again, sort_again}
 use Rattle.trees.specs.declared.Sort.TheVariants.{Formula}
-use Rattle.trees.specs.Sorts.{type_of}
 use Rattle.walking.proofs.walking.link_join.Goals as goal
 
 pub add-requires-clause-fits : goal.add-requires-clause-fits

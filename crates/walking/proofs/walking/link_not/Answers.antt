@@ -5,11 +5,10 @@ use Rattle.evidence.specs.Laws.{Extends_trans, AddsTrees_extends}
 use Rattle.walking.proofs.Places.{under_formula, link_formula, not_link}
 use Rattle.tasks.proofs.outside.Passed.{no_value}
 use Rattle.evidence.proofs.Formulas.{formula_later}
-use Rattle.congruence.proofs.Later.{held_later, tree_later, closed_later, node_later}
+use Rattle.congruence.proofs.Later.{held_later, tree_later, closed_later}
 use Rattle.walking.proofs.PlacesLater.{link_later}
-use Rattle.walking.proofs.LinkedSides.{not_formula, link_sides, right_sort, one_again, two_again, sort_again}
+use Rattle.walking.proofs.LinkedSides.{not_formula, link_sides, right_sort, one_again, sort_again}
 use Rattle.trees.specs.declared.Sort.TheVariants.{Formula}
-use Rattle.trees.specs.Sorts.{type_of}
 use Rattle.walking.proofs.walking.link_not.Goals as goal
 
 pub add-requires-clause-fits : goal.add-requires-clause-fits
