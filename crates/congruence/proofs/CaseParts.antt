@@ -3,21 +3,22 @@
 use Rattle.std.proofs.Common.{◌≡◌, ℕ, [], ◌∷◌, None, inr, refl, sym, ap, subst, ◌∙◌}
 use Rattle.trees.specs.declared.TermId.{TermId}
 use Rattle.trees.specs.declared.Op.TheVariants.{Iff}
-use Rattle.trees.specs.declared.Sort.TheVariants.{Formula}
+use Rattle.trees.specs.declared.Sort.TheVariants.{Term, Formula}
 use Rattle.trees.specs.Tree.{Tree, Leaf, One, Two, Three, HNum, HBound, HParam, HPatAny, HPatVar, HPatAlias, HCell, HLet, HCase, HArm, HFun, HIf, HPatCon, HJoin}
 use Rattle.trees.specs.Node.{tree_at, Holds}
 use Rattle.trees.specs.Binding.{inst_many}
 use Rattle.trees.specs.Sorts.{sort_of, type_of, yield, yield_type, IsExpression}
 use Rattle.tasks.specs.Task.{TaskTree, neg}
 use Rattle.tasks.specs.MatchTests.{test, bind}
-use Rattle.tasks.specs.Valid.{IsGround}
+use Rattle.tasks.specs.Valid.{IsGround, IsGroundFormula}
 use Rattle.tasks.specs.Typing.{TypedUnder}
 use Rattle.tasks.specs.Vocabulary.{of_task}
-use Rattle.rule_rows.specs.Forms.{alike}
+use Rattle.rule_rows.specs.Forms.{alike, equal}
 use Rattle.evidence.specs.Drafts.{DraftTree, Extends, Refutes, IsFormulaAt}
 use Rattle.evidence.specs.Laws.{Extends_trans}
 use Rattle.evidence.proofs.Rules.{refutes_later}
 use Rattle.evidence.proofs.Formulas.{formula_later}
+use Rattle.proof_scripts.specs.Added.{AreComparable}
 use Rattle.images.proofs.Images.{expression_sort, expression_type}
 use Rattle.congruence.specs.Alike.{IsClosedAt, ArePair, HasHalves}
 use Rattle.congruence.specs.declared.conditionals.Conditional.{Conditional}
@@ -67,9 +68,28 @@ formula_pair d l r f g = record {
 pub closed_formula : (d : DraftTree) (id : TermId) → IsClosedAt d id → sort_of (tree_at d.trees id) ≡ Formula → IsFormulaAt d id
 closed_formula d id c s = record { held = c.held; ground = record { sort = s; typed = c.ground.typed; ground = c.ground.ground } }
 
+-- and what is a pair with a formula
+pub part_formula : (d : DraftTree) (l r : TermId) → ArePair d l r → sort_of (tree_at d.trees l) ≡ Formula → IsFormulaAt d r
+part_formula d l r p s = closed_formula d r p.right (p.sort ∙ s)
+
 -- halves of equal trees
 pub halves_here : (d : DraftTree) (l r m n : Tree) (i j : ℕ) → l ≡ m → r ≡ n → HasHalves d m n i j → HasHalves d l r i j
 halves_here d l r m n i j p q h = subst (λ (z : Tree). HasHalves d z r i j) (sym p) (subst (λ (z : Tree). HasHalves d m z i j) (sym q) h)
+
+-- ---- claims as they are made
+pub iff_made : (d d1 : DraftTree) (x : Extends d d1) (id l r : TermId) → Holds d1.trees id → tree_at d1.trees id ≡ Two (HJoin Iff) (tree_at d.trees l) (tree_at d.trees r) → IsFormulaAt d l → IsFormulaAt d r → IsFormulaAt d1 id
+iff_made d d1 x id l r h q f g =
+    let made : IsGroundFormula d.task (Two (HJoin Iff) (tree_at d.trees l) (tree_at d.trees r)) = record { sort = refl; typed = (((f.ground.sort, g.ground.sort), tt), tt, f.ground.typed, g.ground.typed); ground = (f.ground.ground, g.ground.ground) } in
+    record { held = h; ground = subst (λ (t : TaskTree). IsGroundFormula t (tree_at d1.trees id)) (sym x.task) (subst (IsGroundFormula d.task) (sym q) made) }
+
+pub equal_made : (d d1 : DraftTree) (x : Extends d d1) (id l r : TermId) → Holds d1.trees id → tree_at d1.trees id ≡ equal (tree_at d.trees l) (tree_at d.trees r) → ArePair d l r → sort_of (tree_at d.trees l) ≡ Term → IsFormulaAt d1 id
+equal_made d d1 x id l r h q p s =
+    let made : IsGroundFormula d.task (equal (tree_at d.trees l) (tree_at d.trees r)) = record { sort = refl; typed = (((s, p.sort ∙ s), tt), sym p.type, p.left.ground.typed, p.right.ground.typed); ground = (p.left.ground.ground, p.right.ground.ground) } in
+    record { held = h; ground = subst (λ (t : TaskTree). IsGroundFormula t (tree_at d1.trees id)) (sym x.task) (subst (IsGroundFormula d.task) (sym q) made) }
+
+-- a pair is what a `match` by its parts takes
+pub pair_comparable : (d : DraftTree) (l r : TermId) → ArePair d l r → AreComparable d l r
+pair_comparable d l r p = record { left = record { held = p.left.held; ground = p.left.ground }; right = record { held = p.right.held; ground = p.right.ground }; sort = p.sort; type = p.type }
 
 -- ---- pairs
 pub pair_turned : (d : DraftTree) (l r : TermId) → ArePair d l r → ArePair d r l
@@ -121,7 +141,7 @@ module _ (d d1 : DraftTree) (x : Extends d d1) where
     else_part = pair_later d d1 x k.whole k.else_part p.else_part;
   }
 
-  same_alike : (a b : TermId) → Holds d.trees a → Holds d.trees b → alike (tree_at d.trees a) (tree_at d.trees b) ≡ alike (tree_at d1.trees a) (tree_at d1.trees b)
+  pub same_alike : (a b : TermId) → Holds d.trees a → Holds d.trees b → alike (tree_at d.trees a) (tree_at d.trees b) ≡ alike (tree_at d1.trees a) (tree_at d1.trees b)
   same_alike a b ha hb = ap (λ (z : Tree). alike z (tree_at d.trees b)) (sym (tree_later d d1 x a ha)) ∙ ap (alike (tree_at d1.trees a)) (sym (tree_later d d1 x b hb))
 
   pub values_later : (k : Conditional) (v : CaseValues) → IsConditional d k → HasValues d k v → HasValues d1 k v

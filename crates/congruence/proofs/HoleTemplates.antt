@@ -117,7 +117,7 @@ module _ (d d1 : DraftTree) (x : Extends d d1) where
         ),
       )
 
-  equal_later : (l r : TermId) → Holds d.trees l → Holds d.trees r → neg (equal (tree_at d1.trees l) (tree_at d1.trees r)) ≡ neg (equal (tree_at d.trees l) (tree_at d.trees r))
+  pub equal_later : (l r : TermId) → Holds d.trees l → Holds d.trees r → neg (equal (tree_at d1.trees l) (tree_at d1.trees r)) ≡ neg (equal (tree_at d.trees l) (tree_at d.trees r))
   equal_later l r hl hr = cc (tree_later d d1 x l hl, tree_later d d1 x r hr)
 
   pub apart_later : (id l r : TermId) → Holds d.trees id → Holds d.trees l → Holds d.trees r → tree_at d.trees id ≡ neg (equal (tree_at d.trees l) (tree_at d.trees r)) → tree_at d1.trees id ≡ neg (equal (tree_at d1.trees l) (tree_at d1.trees r))

@@ -1,12 +1,12 @@
 -- What is said of a draft stays as the draft extends.
-use Rattle.std.proofs.Common.{◌≡◌, ℕ, sym, ap, subst, ◌∙◌, arith}
+use Rattle.std.proofs.Common.{◌≡◌, ℕ, [], ◌∷◌, sym, ap, subst, ◌∙◌, arith}
 use Rattle.trees.specs.declared.TermId.{TermId}
 use Rattle.trees.specs.Tree.{Tree, Two, Head}
 use Rattle.trees.specs.Node.{tree_at, Holds}
 use Rattle.trees.specs.Sorts.{sort_of, type_of}
-use Rattle.tasks.specs.Task.{TaskTree}
+use Rattle.tasks.specs.Task.{TaskTree, neg}
 use Rattle.kernel.specs.Right.{IsGroundExpression}
-use Rattle.evidence.specs.Drafts.{DraftTree, Extends}
+use Rattle.evidence.specs.Drafts.{DraftTree, Extends, Refutes}
 use Rattle.evidence.proofs.Rules.{refutes_later}
 use Rattle.congruence.specs.declared.alike.AlikeBy.{AlikeBy}
 use Rattle.congruence.specs.declared.alike.AlikeBy.TheVariants as alike
@@ -31,6 +31,13 @@ module _ (d d1 : DraftTree) (x : Extends d d1) where
   shows_later (alike.Terms k) l r h = (h.0, refutes_later d d1 x k _ h.1)
   shows_later (alike.Formulas i j) l r h = (h.0, halves_later l r i j h.1)
 
+  -- shown of the later trees, it is shown of these
+  pub shows_before : (e : DraftTree) (w : AlikeBy) (a b : TermId) → Holds d.trees a → Holds d.trees b → Shows e w (tree_at d1.trees a) (tree_at d1.trees b) → Shows e w (tree_at d.trees a) (tree_at d.trees b)
+  shows_before e w a b ha hb h = subst (λ (z : Tree). Shows e w z (tree_at d.trees b)) (tree_later a ha) (subst (λ (z : Tree). Shows e w (tree_at d1.trees a) z) (tree_later b hb) h)
+
+  pub shows_after : (e : DraftTree) (w : AlikeBy) (a b : TermId) → Holds d.trees a → Holds d.trees b → Shows e w (tree_at d.trees a) (tree_at d.trees b) → Shows e w (tree_at d1.trees a) (tree_at d1.trees b)
+  shows_after e w a b ha hb h = subst (λ (z : Tree). Shows e w z (tree_at d1.trees b)) (sym (tree_later a ha)) (subst (λ (z : Tree). Shows e w (tree_at d.trees a) z) (sym (tree_later b hb)) h)
+
   pub closed_later : (id : TermId) → IsClosedAt d id → IsClosedAt d1 id
   closed_later id c = record {
     held = held_later id c.held;
@@ -50,3 +57,11 @@ module _ (d d1 : DraftTree) (x : Extends d d1) where
 
   pub shows_at : (w : AlikeBy) (a b : TermId) → Holds d.trees a → Holds d.trees b → Shows d w (tree_at d.trees a) (tree_at d.trees b) → Shows d1 w (tree_at d1.trees a) (tree_at d1.trees b)
   shows_at w a b ha hb h = subst (λ (z : Tree). Shows d1 w z (tree_at d1.trees b)) (sym (tree_later a ha)) (subst (λ (z : Tree). Shows d1 w (tree_at d.trees a) z) (sym (tree_later b hb)) (shows_later w _ _ h))
+
+-- halves by two steps, of which the second is of the trees of the first one's draft
+pub halves_made : (d d1 d2 : DraftTree) (x : Extends d d1) (y : Extends d1 d2) (l r : TermId) (i j : ℕ) → Holds d.trees l → Holds d.trees r → Refutes d1 i (tree_at d.trees l ∷ neg (tree_at d.trees r) ∷ []) → Refutes d2 j (tree_at d1.trees r ∷ neg (tree_at d1.trees l) ∷ [])
+    → HasHalves d2 (tree_at d.trees l) (tree_at d.trees r) i j
+halves_made d d1 d2 x y l r i j hl hr f s = record {
+  there = refutes_later d1 d2 y i _ f;
+  back = subst (λ (z : Tree). Refutes d2 j (z ∷ neg (tree_at d.trees l) ∷ [])) (tree_later d d1 x r hr) (subst (λ (z : Tree). Refutes d2 j (tree_at d1.trees r ∷ neg z ∷ [])) (tree_later d d1 x l hl) s);
+}

@@ -1,6 +1,7 @@
 pub use Rattle.instances.proofs as instances
 pub mod Later
 pub mod Scripts
+pub mod PlainScripts
 pub mod NewParameters
 pub mod HoleTemplates
 pub mod EquationHoles

@@ -2,9 +2,9 @@
 use Rattle.std.proofs.Common.{◌≡◌, ℕ, false, Option, Some, IsSomeAnd, List, [], ◌∷◌, ◌++◌, slice_get, refl, sym, ap, subst, ◌∙◌}
 use Rattle.std.proofs.lemmas.List.Elements.{All-nil}
 use Rattle.trees.specs.declared.TermId.{TermId}
-use Rattle.trees.specs.declared.Op.TheVariants.{And, Imp}
+use Rattle.trees.specs.declared.Op.TheVariants.{And, Imp, Iff}
 use Rattle.trees.specs.declared.Sort.{Sort}
-use Rattle.trees.specs.declared.Sort.TheVariants.{Term}
+use Rattle.trees.specs.declared.Sort.TheVariants.{Term, Formula}
 use Rattle.trees.specs.Tree.{Tree, Two, Three, HJoin, HForall, HExists, HLet, HIf}
 use Rattle.trees.specs.Node.{tree_at, Holds}
 use Rattle.trees.specs.Binding.{inst, Param}
@@ -25,6 +25,10 @@ use Rattle.congruence.proofs.Later.{tree_later}
 -- a claim of two terms is their equation
 pub claim_equal : (a b : Tree) → sort_of a ≡ Term → alike a b ≡ equal a b
 claim_equal a b q = ap (λ (s : Sort). alike_by s a b) q
+
+-- a claim of two formulas is their equivalence
+pub claim_iff : (a b : Tree) → sort_of a ≡ Formula → alike a b ≡ Two (HJoin Iff) a b
+claim_iff a b q = ap (λ (s : Sort). alike_by s a b) q
 
 template_some : (t : TaskTree) (a e : Tree) → TemplateFor t a e → IsSomeAnd (type_of a) (λ ty. IsTemplate t ty e)
 template_some t a e h = subst (λ (o : Option Tree). IsSomeAnd o (λ ty. IsTemplate t ty e)) (sym h.1.0) h.1.1
@@ -47,10 +51,10 @@ module _ (d : DraftTree) where
   clash_first : (s : List Tree) (i j : ℕ) (a : Tree) (ls : List LineTree) (ts : List (List Tree)) → slice_get s i ≡ Some a → slice_get s j ≡ Some (neg a) → Follows d [] ls ts → Follows d [] (clash i j ∷ ls) (s ∷ ts)
   clash_first s i j a ls ts p q h = (clash_line d.task s i j a p q, tt, h)
 
-  one_kept : (s : List Tree) (i k : ℕ) (a : Tree) → slice_get s i ≡ Some a → Refutes d k (a ∷ []) → RefutesAt d s (i ∷ []) k
+  pub one_kept : (s : List Tree) (i k : ℕ) (a : Tree) → slice_get s i ≡ Some a → Refutes d k (a ∷ []) → RefutesAt d s (i ∷ []) k
   one_kept s i k a q r = record { kept = a ∷ []; are = ap (λ (o : Option Tree). o ∷ []) (sym q); refutes = r }
 
-  two_kept : (s : List Tree) (i j k : ℕ) (a b : Tree) → slice_get s i ≡ Some a → slice_get s j ≡ Some b → Refutes d k (a ∷ b ∷ []) → RefutesAt d s (i ∷ j ∷ []) k
+  pub two_kept : (s : List Tree) (i j k : ℕ) (a b : Tree) → slice_get s i ≡ Some a → slice_get s j ≡ Some b → Refutes d k (a ∷ b ∷ []) → RefutesAt d s (i ∷ j ∷ []) k
   two_kept s i j k a b p q r = record { kept = a ∷ b ∷ []; are = cc (p, q); refutes = r }
 
   -- ---- a term in the place of an equal one

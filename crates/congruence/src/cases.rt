@@ -170,8 +170,7 @@ fn under_terms(
 {
     let between = apart(draft, left.part, right.whole)?;
     let step = replaced_second(draft, left.part, right, between, lemma)?;
-    let made = replaced_first(draft, left, right, goal, step)?;
-    Ok(made)
+    replaced_first(draft, left, right, goal, step)
 }
 
 // [c; L; not x'], from [c; not (L <-> x)] and [x; not x'].
@@ -315,8 +314,7 @@ fn under_formulas(
 {
     let first = case_halves(draft, left, right.part, parts.there)?;
     let second = case_halves(draft, right, left.part, parts.back)?;
-    let made = under_cases(draft, left, right, goal, first, second)?;
-    Ok(made)
+    under_cases(draft, left, right, goal, first, second)
 }
 
 // [not (L <-> R); c; c'], from what the two are under these, and evidence for the parts.
@@ -342,8 +340,7 @@ fn formulas_under(
     ensures grows { Extends draft.old draft.new }
 {
     let halves = make_halves(draft, left.part, right.part, parts)?;
-    let made = under_formulas(draft, left, right, goal, halves)?;
-    Ok(made)
+    under_formulas(draft, left, right, goal, halves)
 }
 
 // [not (L ~ R); c; c'], from what the two are under these, and `x ~ x'`.
@@ -370,13 +367,9 @@ fn under(
     match draft.store().sort(left.whole) {
         Sort::Term => {
             let lemma = equal_step(draft, left.part, right.part, parts)?;
-            let made = under_terms(draft, left, right, goal, lemma)?;
-            Ok(made)
+            under_terms(draft, left, right, goal, lemma)
         }
-        _ => {
-            let made = formulas_under(draft, left, right, goal, parts)?;
-            Ok(made)
-        }
+        _ => { formulas_under(draft, left, right, goal, parts) }
     }
 }
 
@@ -458,8 +451,7 @@ fn under_conditions(
         part: right.then_part,
         value: right_value,
     };
-    let made = under(draft, one, other, goal, parts)?;
-    Ok(made)
+    under(draft, one, other, goal, parts)
 }
 
 // [not (L ~ R); not c; not c'].
@@ -506,8 +498,7 @@ fn under_negations(
         part: right.else_part,
         value: right_value,
     };
-    let made = under(draft, one, other, goal, parts)?;
-    Ok(made)
+    under(draft, one, other, goal, parts)
 }
 
 // [not (L ~ R)].
@@ -551,7 +542,7 @@ fn decided(
         links.else_part,
     )?;
     let halves = make_halves(draft, left.condition, right.condition, links.condition)?;
-    let made = by_conditions(
+    by_conditions(
         draft,
         goal,
         left.condition,
@@ -559,8 +550,7 @@ fn decided(
         halves,
         yes,
         no,
-    )?;
-    Ok(made)
+    )
 }
 
 /// Two conditionals whose conditions are equivalent and whose parts are alike, from what each is under its condition.
@@ -584,8 +574,7 @@ pub fn alike_cases(
 {
     let goal = denial(draft, left.whole, right.whole)?;
     let step = decided(draft, left, left_values, right, right_values, goal, links)?;
-    let made = alike_by_step(draft, left.whole, right.whole, step)?;
-    Ok(made)
+    alike_by_step(draft, left.whole, right.whole, step)
 }
 
 /// Two `if`s whose conditions are equivalent and whose parts are alike.
@@ -607,8 +596,7 @@ pub fn alike_ifs(
 {
     let one = if_values(draft, left)?;
     let two = if_values(draft, right)?;
-    let made = alike_cases(draft, left, one, right, two, links)?;
-    Ok(made)
+    alike_cases(draft, left, one, right, two, links)
 }
 
 /// Two `match`es with more branches than one, where the tests of their first patterns are equivalent, the first bodies are alike at
@@ -631,8 +619,7 @@ pub fn alike_matches(
 {
     let one = match_values(draft, left)?;
     let two = match_values(draft, right)?;
-    let made = alike_cases(draft, left, one, right, two, links)?;
-    Ok(made)
+    alike_cases(draft, left, one, right, two, links)
 }
 
 // [not (E ~ a)], where E is a `match` with one branch, and `a` its body at the pattern's terms.
@@ -663,6 +650,5 @@ pub fn alike_branch(draft: &mut Draft, whole: TermId, inner: TermId) -> Result<A
     ensures grows { Extends draft.old draft.new }
 {
     let step = unfold_branch(draft, whole, inner)?;
-    let made = alike_by_step(draft, whole, inner, step)?;
-    Ok(made)
+    alike_by_step(draft, whole, inner, step)
 }

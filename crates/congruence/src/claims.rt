@@ -39,8 +39,7 @@ pub(crate) fn denial(draft: &mut Draft, l: TermId, r: TermId) -> Result<TermId, 
     ensures grows { AddsTrees draft.old draft.new }
 {
     let claimed = claim(draft, l, r)?;
-    let made = negation(draft, claimed)?;
-    Ok(made)
+    negation(draft, claimed)
 }
 
 // [l; not r], from `l <-> r`.
@@ -221,14 +220,8 @@ pub fn step_of_alike(
     ensures grows { Extends draft.old draft.new }
 {
     match draft.store().sort(l) {
-        Sort::Term => {
-            let made = equal_step(draft, l, r, by)?;
-            Ok(made)
-        }
-        _ => {
-            let made = formulas_step(draft, l, r, by)?;
-            Ok(made)
-        }
+        Sort::Term => { equal_step(draft, l, r, by) }
+        _ => { formulas_step(draft, l, r, by) }
     }
 }
 
@@ -242,8 +235,7 @@ fn formulas_step(draft: &mut Draft, l: TermId, r: TermId, by: AlikeBy) -> Result
     ensures grows { Extends draft.old draft.new }
 {
     let halves = make_halves(draft, l, r, by)?;
-    let made = iff_step(draft, l, r, halves)?;
-    Ok(made)
+    iff_step(draft, l, r, halves)
 }
 
 /// Evidence by a step that refutes the negation of `l = r`, or of `l <-> r`.
@@ -261,6 +253,5 @@ pub fn alike_by_step(
     ensures grows { Extends draft.old draft.new }
 {
     let claimed = claim(draft, l, r)?;
-    let made = alike_claimed(draft, l, r, claimed, step)?;
-    Ok(made)
+    alike_claimed(draft, l, r, claimed, step)
 }

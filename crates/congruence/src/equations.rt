@@ -94,8 +94,7 @@ fn equal_first(
     ensures grows { Extends draft.old draft.new }
 {
     let hole = hole_first(draft, left, middle, a, b, c)?;
-    let made = alike_replaced(draft, hole, left, middle, a, b, alike)?;
-    Ok(made)
+    alike_replaced(draft, hole, left, middle, a, b, alike)
 }
 
 // An equation whose second side is replaced.
@@ -123,8 +122,7 @@ fn equal_second(
     ensures grows { Extends draft.old draft.new }
 {
     let hole = hole_second(draft, middle, right, b, c, e)?;
-    let made = alike_replaced(draft, hole, middle, right, c, e, alike)?;
-    Ok(made)
+    alike_replaced(draft, hole, middle, right, c, e, alike)
 }
 
 // The equation with one side replaced.
@@ -184,6 +182,5 @@ pub fn alike_equal(
     let middle = middle_equation(draft, left, a, b, c)?;
     let one = equal_first(draft, left, middle, a, b, c, first)?;
     let two = equal_second(draft, middle, right, b, c, e, second)?;
-    let made = chain(draft, left, middle, right, one, two)?;
-    Ok(made)
+    chain(draft, left, middle, right, one, two)
 }

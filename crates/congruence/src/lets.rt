@@ -66,6 +66,5 @@ pub fn alike_let(
     ensures grows { Extends draft.old draft.new }
 {
     let step = unfold_let(draft, whole, inner, value, body)?;
-    let made = alike_by_step(draft, whole, inner, step)?;
-    Ok(made)
+    alike_by_step(draft, whole, inner, step)
 }

@@ -64,8 +64,7 @@ pub(crate) fn apart(draft: &mut Draft, l: TermId, r: TermId) -> Result<TermId, A
     ensures grows { AddsTrees draft.old draft.new }
 {
     let link = equation(draft, l, r)?;
-    let apart = negation(draft, link)?;
-    Ok(apart)
+    negation(draft, link)
 }
 
 // [not (left = right)], from `a = b`, of which `left` and `middle` are instances of one tree, and a step for `middle`.

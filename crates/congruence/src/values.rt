@@ -64,8 +64,7 @@ pub fn alike_value(
     ensures grows { Extends draft.old draft.new }
 {
     let hole = hole_value(draft, left, right, a, b, body)?;
-    let made = alike_replaced(draft, hole, left, right, a, b, alike)?;
-    Ok(made)
+    alike_replaced(draft, hole, left, right, a, b, alike)
 }
 
 // `match [] with arms end`.
@@ -119,6 +118,5 @@ pub fn alike_scrutinee(
     ensures grows { Extends draft.old draft.new }
 {
     let hole = hole_scrutinee(draft, left, right, a, b, arms)?;
-    let made = alike_replaced(draft, hole, left, right, a, b, alike)?;
-    Ok(made)
+    alike_replaced(draft, hole, left, right, a, b, alike)
 }

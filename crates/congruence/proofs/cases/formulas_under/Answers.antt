@@ -1,45 +1,47 @@
 use Rattle.std.proofs.Common.{◌∙◌, ap}
+use Rattle.std.proofs.lemmas.Result.{IfOk-weaker}
 use Rattle.trees.specs.Sorts.{sort_of}
 use Rattle.evidence.specs.Laws.{Extends_trans}
 use Rattle.evidence.proofs.Formulas.{formula_later}
 use Rattle.congruence.proofs.Later.{tree_later, pair_later}
-use Rattle.congruence.proofs.CaseParts.{case_later, no_iff_later, goal_before, halves_here}
+use Rattle.congruence.proofs.CaseParts.{parts_pair, case_later, no_iff_later, goal_before, halves_here}
 use Rattle.congruence.proofs.cases.formulas_under.Goals as goal
 
-pub under_formulas-requires-clause-left : goal.under_formulas-requires-clause-left
-under_formulas-requires-clause-left c = case_later c.args.draft.now c.make_halves.new.draft c.in_ok-halves.ensures.grows c.args.left c.requires.left
+pub make_halves-requires : goal.make_halves-requires
+make_halves-requires c =
+    let d = c.args.draft.now in
+    let a = c.args.left in
+    let b = c.args.right in
+    let r = c.requires in
+    record { pair = parts_pair d a.whole b.whole a.part b.part r.sides r.left.pair r.right.pair; formula = r.left.pair.sort ∙ r.formula; shows = r.parts }
 
-pub under_formulas-requires-clause-right : goal.under_formulas-requires-clause-right
-under_formulas-requires-clause-right c = case_later c.args.draft.now c.make_halves.new.draft c.in_ok-halves.ensures.grows c.args.right c.requires.right
-
-pub under_formulas-requires-clause-formula : goal.under_formulas-requires-clause-formula
-under_formulas-requires-clause-formula c = ap sort_of (tree_later c.args.draft.now c.make_halves.new.draft c.in_ok-halves.ensures.grows c.args.left.whole c.requires.sides.left.held) ∙ c.requires.formula
-
-pub under_formulas-requires-clause-sides : goal.under_formulas-requires-clause-sides
-under_formulas-requires-clause-sides c = pair_later c.args.draft.now c.make_halves.new.draft c.in_ok-halves.ensures.grows c.args.left.whole c.args.right.whole c.requires.sides
-
-pub under_formulas-requires-clause-goal : goal.under_formulas-requires-clause-goal
-under_formulas-requires-clause-goal c = formula_later c.args.draft.now c.make_halves.new.draft c.in_ok-halves.ensures.grows c.args.goal c.requires.goal
-
-pub under_formulas-requires-clause-goal_is : goal.under_formulas-requires-clause-goal_is
-under_formulas-requires-clause-goal_is c =
-    no_iff_later c.args.draft.now c.make_halves.new.draft c.in_ok-halves.ensures.grows c.args.goal c.args.left.whole c.args.right.whole c.requires.goal.held c.requires.sides.left.held c.requires.sides.right.held c.requires.goal_is
-
-pub under_formulas-requires-clause-parts : goal.under_formulas-requires-clause-parts
-under_formulas-requires-clause-parts c =
+pub under_formulas-requires : goal.under_formulas-requires
+under_formulas-requires c =
     let d = c.args.draft.now in
     let d1 = c.make_halves.new.draft in
-    let h = c.in_ok-halves.ensures.halves in
-    let l = tree_later d d1 c.in_ok-halves.ensures.grows c.args.left.part c.requires.left.pair.right.held in
-    let r = tree_later d d1 c.in_ok-halves.ensures.grows c.args.right.part c.requires.right.pair.right.held in
-    halves_here d1 _ _ _ _ c.in_ok-halves.halves.there c.in_ok-halves.halves.back l r h
+    let n = c.in_ok-halves in
+    let x = n.ensures.grows in
+    let a = c.args.left in
+    let b = c.args.right in
+    let r = c.requires in
+    record {
+      left = case_later d d1 x a r.left;
+      right = case_later d d1 x b r.right;
+      formula = ap sort_of (tree_later d d1 x a.whole r.sides.left.held) ∙ r.formula;
+      sides = pair_later d d1 x a.whole b.whole r.sides;
+      goal = formula_later d d1 x c.args.goal r.goal;
+      goal_is = no_iff_later d d1 x c.args.goal a.whole b.whole r.goal.held r.sides.left.held r.sides.right.held r.goal_is;
+      parts = halves_here d1 _ _ _ _ n.halves.there n.halves.back (tree_later d d1 x a.part r.left.pair.right.held) (tree_later d d1 x b.part r.right.pair.right.held) n.ensures.halves;
+    }
 
-pub returns-in_err-made-clause-grows : goal.returns-in_err-made-clause-grows
-returns-in_err-made-clause-grows c = Extends_trans _ _ _ c.in_ok-halves.ensures.grows c.in_err-made.ensures.grows
-
-pub returns-clause-refutes : goal.returns-clause-refutes
-returns-clause-refutes c =
-    goal_before c.args.draft.now c.make_halves.new.draft c.in_ok-halves.ensures.grows c.under_formulas.new.draft c.in_ok-made.made c.args.goal c.args.left.hypothesis c.args.right.hypothesis c.requires.goal.held c.requires.left.hypothesis.held c.requires.right.hypothesis.held c.in_ok-made.ensures.refutes
-
-pub returns-clause-grows : goal.returns-clause-grows
-returns-clause-grows c = Extends_trans _ _ _ c.in_ok-halves.ensures.grows c.in_ok-made.ensures.grows
+pub returns : goal.returns
+returns c =
+    let d = c.args.draft.now in
+    let d1 = c.make_halves.new.draft in
+    let d2 = c.under_formulas.new.draft in
+    let x = c.in_ok-halves.ensures.grows in
+    let r = c.requires in
+    record {
+      refutes = IfOk-weaker c.under_formulas.result _ _ (λ k h. goal_before d d1 x d2 k c.args.goal c.args.left.hypothesis c.args.right.hypothesis r.goal.held r.left.hypothesis.held r.right.hypothesis.held h) c.under_formulas.ensures.refutes;
+      grows = Extends_trans d d1 d2 x c.under_formulas.ensures.grows;
+    }

@@ -1,13 +1,18 @@
-use Rattle.std.proofs.Common.{◌∙◌}
+use Rattle.std.proofs.Common.{◌∙◌, [], ◌∷◌}
 use Rattle.trees.specs.Node.{tree_at}
-use Rattle.evidence.specs.Laws.{AddsTrees_extends}
-use Rattle.congruence.proofs.Later.{tree_later, pair_later}
+use Rattle.evidence.specs.Laws.{AddsTrees_extends, Extends_trans}
+use Rattle.proof_scripts.specs.declared.line.Word.TheVariants as word
+use Rattle.proof_scripts.specs.declared.line.Line.TheVariants as line
+use Rattle.congruence.proofs.Later.{tree_later, pair_later, held_later}
 use Rattle.congruence.proofs.CaseParts.{denied}
 use Rattle.congruence.proofs.Scripts.{let_follows}
+use Rattle.evidence.proofs.Formulas.{none_formulas, one_formula}
+use Rattle.congruence.proofs.PlainScripts.{held_lines, one_same}
+use Rattle.std.proofs.lemmas.Result.{IfOk-weaker}
 use Rattle.congruence.proofs.lets.unfold_let.Goals as goal
 
-pub derive-requires-clause-follow : goal.derive-requires-clause-follow
-derive-requires-clause-follow c =
+pub derive-requires : goal.derive-requires
+derive-requires c =
     let d = c.args.draft.now in
     let d1 = c.denial.new.draft in
     let n = c.in_ok-goal in
@@ -16,5 +21,20 @@ derive-requires-clause-follow c =
     let p = r.pair in
     let w = c.args.whole in
     let i = c.args.inner in
-    let_follows d1 (tree_at d1.trees n.goal) (tree_at d1.trees w) (tree_at d1.trees i) (tree_at d.trees c.args.value) (tree_at d.trees c.args.body) (pair_later d d1 x w i p).left.ground (tree_later d d1 x w p.left.held ∙ r.whole_is) (tree_later d d1 x i p.right.held ∙ r.inner_is)
-    (denied d d1 x n.goal w i p.left.held p.right.held n.ensures.tree)
+    record {
+      front = none_formulas d1;
+      tail = one_formula d1 n.goal n.ensures.formula;
+      lines = held_lines d1 (line.Rule (word.LetDef w) ∷ line.Rule (word.Clash 1 0) ∷ []) ((held_later d d1 x w p.left.held, tt), ((tt, tt), tt));
+      follow = let_follows d1 (tree_at d1.trees n.goal) (tree_at d1.trees w) (tree_at d1.trees i) (tree_at d.trees c.args.value) (tree_at d.trees c.args.body) (pair_later d d1 x w i p).left.ground (tree_later d d1 x w p.left.held ∙ r.whole_is) (tree_later d d1 x i p.right.held ∙ r.inner_is)
+          (denied d d1 x n.goal w i p.left.held p.right.held n.ensures.tree);
+    }
+
+pub returns : goal.returns
+returns c =
+    let d = c.args.draft.now in
+    let d1 = c.denial.new.draft in
+    let x = AddsTrees_extends d d1 c.in_ok-goal.ensures.grows in
+    record {
+      refutes = IfOk-weaker c.derive.result _ _ (λ k h. one_same c.derive.new.draft k _ _ c.in_ok-goal.ensures.tree h) c.derive.ensures.refutes;
+      grows = Extends_trans d d1 c.derive.new.draft x c.derive.ensures.grows;
+    }
