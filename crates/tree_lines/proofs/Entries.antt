@@ -25,6 +25,15 @@ entry_done names most place e h s places is acc a = ap (option_and_then (named_t
 pub entry_missing : (names : List NameEntry) (most place : ℕ) (e : NameEntry) → 0 < most → Some e ≡ slice_get names place → (places : List ℕ) → places ≡ e.types → None ≡ each (λ k. entry_type (most - 1) names k) places → None ≡ entry_type most names place
 entry_missing names most place e h s places is a = ap (option_and_then (named_type_at e.symbol)) (a ∙ ap (each (λ k. entry_type (most - 1) names k)) is) ∙ sym (entry_unfold names most place e h s)
 
+-- no entry, or none that may be looked at
+pub entry_absent : (names : List NameEntry) (most place : ℕ) → None ≡ slice_get names place → None ≡ entry_type most names place
+entry_absent names zero place e = refl
+entry_absent names (suc n) place e = rw (sym e) refl
+
+pub entry_zero : (names : List NameEntry) (most place : ℕ) → most ≡ 0 → None ≡ entry_type most names place
+entry_zero names zero place e = refl
+entry_zero names (suc n) place e = absurd (omega arith)
+
 -- one type more
 module _ (s s' : List Tree) (g : Grows s s') (types : List TermId) (ty : TermId) (o : Option TermId) (is : o ≡ Some ty) (held : HoldTypes s types) where
   pub types_more : IfSome o (IsTypeHeld s') → HoldTypes s' (types ++ ty ∷ [])

@@ -1,8 +1,11 @@
 pub mod Applying
 pub mod Branches
+pub mod Digits
 pub mod Entries
+pub mod Gets
 pub mod Growing
 pub mod Lists
 pub mod Making
+pub mod Others
 pub mod Places
 pub mod Sorted

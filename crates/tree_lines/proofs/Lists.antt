@@ -1,5 +1,5 @@
 -- Lists made of what each of a list is.
-use Rattle.std.proofs.Common.{◌≡◌, ℕ, ◌+◌, ◌<◌, ◌≤◌, List, [], ◌∷◌, ◌++◌, length, map, get_or, drop, Option, Some, None, refl, sym, ap, ◌∙◌, append_assoc, append-nil, arith}
+use Rattle.std.proofs.Common.{◌≡◌, ℕ, zero, suc, ◌+◌, ◌<◌, ◌≤◌, List, [], ◌∷◌, ◌++◌, length, map, get_or, drop, Option, Some, None, refl, sym, ap, ◌∙◌, append_assoc, append-nil, arith}
 use Rattle.std.proofs.lemmas.List.{drop_more, drop_all}
 use Rattle.std.specs.Option.{option_map, option_and_then}
 use Rattle.std.specs.Borrow.{Bor}
@@ -67,11 +67,18 @@ module _ {A B : Type 0} (p : LineWord → Option A) (q : LineWord → Option B) 
     pub pairs_no_first : i < length ws → None ≡ p (get_or ws i d).now → None ≡ all
     pairs_no_first lt e = ap (option_map (λ ps. acc ++ ps)) (first_missing (get_or ws i d).now (texts (drop (i + 1) ws)) e) ∙ (let k = rw (one_left lt) at h in k)
 
-    pub pairs_odd : i < length ws → length ws ≤ i + 1 → None ≡ all
-    pairs_odd lt le = let k = rw (one_left lt, drop_all (i + 1) ws le) at h in k
-
     pub pairs_no_second : (x : A) → i + 1 < length ws → Some x ≡ p (get_or ws i d).now → None ≡ q (get_or ws (i + 1) d).now → None ≡ all
     pairs_no_second x lt e e' = let k = rw (two_left lt, sym e, sym e') at h in k
+
+  one_word : (ws : List (Bor LineWord)) (i : ℕ) → i < length ws → length ws ≤ i + 1 → None ≡ pairs p q (texts (drop i ws))
+  one_word [] i lt le = absurd (omega arith)
+  one_word (w ∷ []) zero lt le = refl
+  one_word (w ∷ v ∷ ws) zero lt le = absurd (omega arith)
+  one_word (w ∷ ws) (suc i) lt le = one_word ws i (omega arith) (omega arith)
+
+  module _ (ws : List (Bor LineWord)) (i : ℕ) (acc : List (A × B)) (all : Option (List (A × B))) (h : option_map (λ ps. acc ++ ps) (pairs p q (texts (drop i ws))) ≡ all) where
+    pub pairs_odd : i < length ws → length ws ≤ i + 1 → None ≡ all
+    pairs_odd lt le = ap (option_map (λ ps. acc ++ ps)) (one_word ws i lt le) ∙ h
 
     pub pairs_done : length ws ≤ i → Some acc ≡ all
     pairs_done le = let k = rw (drop_all i ws le) at h in ap Some (sym (append-nil acc)) ∙ k

@@ -4,10 +4,11 @@ use Rattle.trees.specs.declared.TermId.{TermId}
 use Rattle.trees.specs.Tree.{Tree}
 use Rattle.trees.specs.Node.{tree_at}
 use Rattle.trees.proofs.Nodes.{Grows_trans}
+use Rattle.binders.specs.Visits.{HoldTypes}
 use Rattle.tasks.specs.Meaning.{trees_at}
 use Rattle.tree_lines.specs.Named.{named_type_at, entry_type}
 use Rattle.tree_lines.proofs.Lists.{each_missing, each_done}
-use Rattle.tree_lines.proofs.Entries.{entry_done, entry_missing, types_more, entries_more}
+use Rattle.tree_lines.proofs.Entries.{entry_done, entry_missing, entry_absent, entry_zero, types_more, entries_more}
 use Rattle.tree_lines.proofs.names.+type_of_entry.Goals as goal
 
 pub returns-in-None-clause-tree : goal.returns-in-None-clause-tree
@@ -45,3 +46,27 @@ returns-clause-tree t c =
     let done = each_done F places c.loop-under.under-index (trees_at s c.loop-under.types.items) _ c.loop-under-test.false c.loop-under.invariant.trees in
     let e = ap (λ (l : List TermId). named_type_at c.in-Some.entry.now.symbol (trees_at s l)) c.deref.ensures.value ∙ entry_done table c.args.most c.args.place c.in-Some.entry.now some c.in-Some.ensures places c.as_slice-under-items.ensures (trees_at s c.loop-under.types.items) done in
     subst (λ (m : Option Tree). IfOk c.type_of_symbol.result (λ o. option_map (tree_at c.type_of_symbol.new.store) o ≡ m)) e c.type_of_symbol.ensures.tree
+
+pub returns-then-most-eq0-clause-tree : goal.returns-then-most-eq0-clause-tree
+returns-then-most-eq0-clause-tree t c = entry_zero c.args.table.now c.args.most c.args.place c.if-most-eq0.true
+
+pub returns-in_default-clause-tree : goal.returns-in_default-clause-tree
+returns-in_default-clause-tree t c = entry_absent c.args.table.now c.args.most c.args.place c.in_default.ensures
+
+pub returns-in-None-clause-grows : goal.returns-in-None-clause-grows
+returns-in-None-clause-grows t c = Grows_trans c.args.store.now c.loop-under.store c.type_of_entry.new.store c.loop-under.invariant.grows c.in_ok-ty.ensures.grows
+
+pub returns-in_err-ty-clause-grows : goal.returns-in_err-ty-clause-grows
+returns-in_err-ty-clause-grows t c = Grows_trans c.args.store.now c.loop-under.store c.type_of_entry.new.store c.loop-under.invariant.grows c.in_err-ty.ensures.grows
+
+pub returns-in_err-push-in-Some-2-clause-grows : goal.returns-in_err-push-in-Some-2-clause-grows
+returns-in_err-push-in-Some-2-clause-grows t c = Grows_trans c.args.store.now c.loop-under.store c.type_of_entry.new.store c.loop-under.invariant.grows c.in_ok-ty.ensures.grows
+
+pub type_of_symbol-requires : goal.type_of_symbol-requires
+type_of_symbol-requires t c = subst (HoldTypes c.loop-under.store) (sym c.deref.ensures.value) c.loop-under.invariant.held
+
+pub returns-clause-held : goal.returns-clause-held
+returns-clause-held t c = c.type_of_symbol.ensures.held
+
+pub returns-clause-grows : goal.returns-clause-grows
+returns-clause-grows t c = Grows_trans c.args.store.now c.loop-under.store c.type_of_symbol.new.store c.loop-under.invariant.grows c.type_of_symbol.ensures.grows
