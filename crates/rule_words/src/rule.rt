@@ -56,12 +56,19 @@ macro_rules! word_rows {
     };
 }
 
+// The word in a rule's row.
+fn word_in_row(name: RuleName) -> &'static str
+    ensures { result.now ≡ (rule_row name).word }
+{
+    rule_table!(word_rows, name)
+}
+
 /// The word of a rule. It names that rule and no other.
 pub fn word_of(name: RuleName) -> &'static str
     ensures word { result.now ≡ (rule_row name).word }
     ensures reads_back { name_by_word result.now ≡ Some name }
 {
-    rule_table!(word_rows, name)
+    word_in_row(name)
 }
 
 macro_rules! kinds_of_form {
