@@ -58,3 +58,8 @@ GoesOnPlain byte before after percent = (bs : List ℕ) → pieces_from false be
 abbrev pub GoesOnEscaped : ℕ → List Piece → List ℕ → List Piece → List ℕ → Bool → Type 0
 GoesOnEscaped byte old before new after true = (bs : List ℕ) → pieces_onto old (pieces_from true before (byte ∷ bs)) ≡ pieces_onto new (pieces_from false after bs)
 GoesOnEscaped byte old before new after false = (bs : List ℕ) → pieces_from true before (byte ∷ bs) ≡ None
+
+-- what a byte does, wherever it is: whether a `%` is before the next byte, or none where the byte may not be there
+abbrev pub GoesOn : Bool → ℕ → List Piece → List ℕ → List Piece → List ℕ → Option Bool → Type 0
+GoesOn percent byte old before new after (Some next) = (bs : List ℕ) → pieces_onto old (pieces_from percent before (byte ∷ bs)) ≡ pieces_onto new (pieces_from next after bs)
+GoesOn percent byte old before new after None = (bs : List ℕ) → pieces_from percent before (byte ∷ bs) ≡ None

@@ -2,7 +2,7 @@
 // They depend on the driver; the steps of the reader depend on them.
 ghost use Rattle.std.specs.Prelude.{false, [], ◌≡◌, ◌++◌, ◌&&◌, IfOk, count_by};
 ghost use Rattle.driver_items.specs.Templates as spec;
-ghost use Rattle.driver_items.specs.Templates.{GoesOnEscaped, GoesOnPlain};
+ghost use Rattle.driver_items.specs.Templates.{GoesOn, GoesOnEscaped, GoesOnPlain};
 
 use crate::kinds::Piece;
 use outside::{Seq, Text};
@@ -53,6 +53,24 @@ fn take_escaped(
     Ok(true)
 }
 
+/// A byte; whether it is a `%` that the next byte goes with, or none where the byte may not be there.
+fn take_byte(
+    alloc: Global,
+    pieces: &mut Seq<Piece>,
+    literal: &mut Vec<u8>,
+    percent: bool,
+    byte: u8,
+) -> Result<Option<bool>, AllocError>
+    ensures { IfOk result (λ next. GoesOn percent byte pieces.old literal.old.items pieces.new
+        literal.new.items next) }
+{
+    if !percent {
+        return Ok(Some(take_plain(literal, byte)?));
+    }
+    let stands = take_escaped(alloc, pieces, literal, byte)?;
+    if stands { Ok(Some(false)) } else { Ok(None) }
+}
+
 /// The pieces of a template, unless `%` is before something else than a digit from 1 to 9 or `%`.
 fn pieces_of(alloc: Global, template: &[u8]) -> Result<Option<Seq<Piece>>, AllocError>
     ensures { IfOk result (λ r. r ≡ spec.pieces_from false [] template.now) }
@@ -61,13 +79,9 @@ fn pieces_of(alloc: Global, template: &[u8]) -> Result<Option<Seq<Piece>>, Alloc
     let mut literal = Vec::new(alloc);
     let mut percent = false;
     for byte in template {
-        if percent {
-            if !take_escaped(alloc, &mut pieces, &mut literal, *byte)? {
-                return Ok(None);
-            }
-            percent = false;
-        } else {
-            percent = take_plain(&mut literal, *byte)?;
+        match take_byte(alloc, &mut pieces, &mut literal, percent, *byte)? {
+            Some(next) => percent = next,
+            None => return Ok(None),
         }
     }
     if percent {
