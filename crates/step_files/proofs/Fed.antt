@@ -39,6 +39,10 @@ nothing : (w : List ℕ) → length w ≡ 0 → w ≡ []
 nothing [] e = refl
 nothing (c ∷ cs) e = absurd (omega (arith, e))
 
+-- nothing of a file is left
+pub fed_all : (front rest bytes : List ℕ) → front ++ rest ≡ bytes → length rest ≡ 0 → front ≡ bytes
+fed_all front rest bytes e n = sym (append-nil front) ∙ ap (λ l. front ++ l) (sym (nothing rest n)) ∙ e
+
 -- what is said of an answer, by two things that are
 pub both_ok : {Z : Type 0} {P Q R : Type 0} (r : Result Z ReadFault) → OnOk r P → OnOk r Q → (P → Q → R) → OnOk r R
 both_ok (Ok v) p q f = f p q

@@ -215,6 +215,34 @@ impl StepReader {
     }
 }
 
+// The most bytes that a reader is fed at once.
+const PIECE_SIZE: usize = 65_536;
+
+// Feeds the bytes of a file in pieces, up to the first one that is refused.
+fn feed_pieces(
+    reader: &mut StepReader,
+    store: &mut Store,
+    task: &Task,
+    names: &[NameEntry],
+    bytes: &[u8],
+) -> Result<(), ReadFault>
+    requires task { TaskHeld store.old task.now }
+    requires fed { IsFed store.old task.now names.now [] reader.old }
+    ensures fed { OnOk result (IsFed store.new task.now names.now bytes.now reader.new) }
+    ensures fault { IfErr result (IsReadFault (task_at store.old task.now) names.now
+        reader.old.tallest bytes.now) }
+    ensures tallest { reader.new.tallest ≡ reader.old.tallest }
+    ensures grows { Grows store.old store.new }
+{
+    let mut rest = bytes;
+    while !rest.is_empty() {
+        let (piece, others) = rest.split_at(rest.len().min(PIECE_SIZE));
+        reader.feed(store, task, names, piece)?;
+        rest = others;
+    }
+    Ok(())
+}
+
 /// The steps of a whole file, or its first wrong line. It refuses formulas that are taller than `tallest`.
 pub fn read_whole(
     alloc: Global,
@@ -237,7 +265,7 @@ pub fn read_whole(
     ensures grows { Grows store.old store.new }
 {
     let mut reader = StepReader::new(alloc, tallest);
-    match reader.feed(store, task, names, bytes) {
+    match feed_pieces(&mut reader, store, task, names, bytes) {
         Ok(()) => reader.finish(store, task, names),
         Err(fault) => Err(fault),
     }
