@@ -28,7 +28,7 @@ use Rattle.tree_writing.specs.Whole.{letter, tree_by, with_tree, nothing_before,
 use Rattle.written_files.specs.declared.words.Lines.{Lines}
 use Rattle.kernel.specs.tasks.Words.{IsLineWord}
 use Rattle.written_files.specs.Named.{AreWords}
-use Rattle.written_files.specs.Words.{StepBack}
+use Rattle.written_files.specs.Words.{PushesStep}
 use Rattle.written_files.specs.Written.{joined_words, ReadsTo, IsText, read_with, AddsSteps, AddsFirst}
 use Rattle.written_files.proofs.Plain.{line_plain}
 use Rattle.tree_writing.proofs.Whole.{whole_more}
@@ -153,15 +153,15 @@ pub first_none : (x : Lines) (steps : List Step) (text : List ℕ) → AddsFirst
 first_none x steps text t tallest r are right h = h
 
 -- the line of the next step was appended
-pub first_more : (x : Lines) (steps : List Step) (i : ℕ) (st : Step) (start old new : List ℕ) (ws : List LineWord) → i < length steps → st ≡ get_or steps i st → AreWords x.table.now → StepBack x st ws → new ≡ old ++ line_text (115 ∷ []) ws → AddsFirst x steps i start old → AddsFirst x steps (i + 1) start new
-first_more x steps i st start old new ws lt is words back text h t tallest r are right k =
+pub first_more : (x : Lines) (steps : List Step) (i : ℕ) (st : Step) (start old new : List ℕ) → i < length steps → st ≡ get_or steps i st → AreWords x.table.now → PushesStep x old new st → AddsFirst x steps i start old → AddsFirst x steps (i + 1) start new
+first_more x steps i st start old new lt is words p h t tallest r are right k =
     let s = x.store.now in
     let all = steps_at s steps in
     let there : step_at s st ≡ step_or all i = ap (step_at s) is ∙ sym (get_or-map (step_at s) steps i st no_step lt) in
     let long : i < length all = omega (arith, lt, length-map steps (step_at s)) in
     let good = subst (λ (q : StepTree). IsGood t tallest (take i all) (StepOf q)) (sym there) (right i long) in
-    let made : line_made t x.table.now r (codes "s" ∷ ws) ≡ Some (StepOf (step_at s st)) = ap (option_map StepOf) (back words t r are) in
-    let now = text_more t x.table.now tallest old new (read_with r (take i all)) (codes "s") ws (StepOf (step_at s st)) (h t tallest r are right k) text made good in
+    let made : line_made t x.table.now r (codes "s" ∷ p.words) ≡ Some (StepOf (step_at s st)) = ap (option_map StepOf) (p.back words t r are) in
+    let now = text_more t x.table.now tallest old new (read_with r (take i all)) (codes "s") p.words (StepOf (step_at s st)) (h t tallest r are right k) p.is made good in
     subst (λ (l : List StepTree). IsText t x.table.now tallest new (read_with r l)) (ap (λ (q : StepTree). take i all ++ q ∷ []) there ∙ sym (take_more all i no_step long)) now
 
 pub first_all : (x : Lines) (steps : List Step) (i : ℕ) (start new : List ℕ) → length steps ≤ i → AddsFirst x steps i start new → AddsSteps x steps start new

@@ -1,5 +1,5 @@
--- The words of a step's line, and what they refer to.
-use Rattle.std.specs.Prelude.{◌≡◌, ℕ, false, List, [], ◌∷◌, ◌++◌, All, Option, Some}
+-- The line of a step, its words, and what they refer to.
+use Rattle.std.specs.Prelude.{◌≡◌, ℕ, false, List, [], ◌∷◌, ◌++◌, codes, All, Option, Some}
 use Rattle.kernel.specs.trees.declared.Sort.TheVariants.{Kind}
 use Rattle.kernel.specs.trees.Tree.{Tree}
 use Rattle.kernel.specs.trees.Node.{tree_at, Holds}
@@ -20,6 +20,7 @@ use Rattle.tree_lines.specs.Lines.{Earlier}
 use Rattle.step_lines.specs.Steps.{is_colon, rule_of_words, step_of_line}
 use Rattle.tree_writing.specs.Spelt.{IsSpelt, AreNamesOf}
 use Rattle.tree_writing.specs.Referring.{AreLines, HasLine, Refers}
+use Rattle.tree_writing.specs.Text.{spaced, line_text}
 use Rattle.written_files.specs.declared.words.Lines.{Lines}
 use Rattle.written_files.specs.Named.{AreWords, rule_expressions, rule_symbols}
 
@@ -53,10 +54,22 @@ IsArgumentReady x (made.Integer n) = Unit {0}
 IsArgumentReady x (made.Expression e) = Holds x.store.now e × IsLineOf x.store.now x.numbers.now (tree_at x.store.now e)
 IsArgumentReady x (made.Type y) = Holds x.store.now y × IsTypeLine x.store.now x.numbers.now (tree_at x.store.now y)
 
--- the words of these arguments come at the end
-pub record PushesArguments (x : Lines) (old new : List LineWord) (args : List ArgumentTree) : Type 0 where
+-- the word of a number comes at the end of a text
+pub record PushesNumber (old new : List ℕ) (n : ℕ) : Type 0 where
+  pub word : LineWord
+  pub is : new ≡ old ++ spaced (word ∷ [])
+  pub writes : number_of word ≡ Some n
+
+-- the words of these numbers do
+pub record PushesNumbers (old new : List ℕ) (ns : List ℕ) : Type 0 where
   pub more : List LineWord
-  pub is : new ≡ old ++ more
+  pub is : new ≡ old ++ spaced more
+  pub numbers : each number_of more ≡ Some ns
+
+-- those of these arguments do
+pub record PushesArguments (x : Lines) (old new : List ℕ) (args : List ArgumentTree) : Type 0 where
+  pub more : List LineWord
+  pub is : new ≡ old ++ spaced more
   pub back : (r : Earlier) → AreLines x.store.now x.numbers.now r → WriteArguments x.table.now r args more
 
 -- none of these is a colon
@@ -65,25 +78,25 @@ NoColon [] = Unit {0}
 NoColon (w ∷ ws) = (is_colon w ≡ false) × NoColon ws
 
 -- a word that refers to a tree comes at the end
-pub record PushesReference (x : Lines) (old new : List LineWord) (e : Tree) : Type 0 where
+pub record PushesReference (x : Lines) (old new : List ℕ) (e : Tree) : Type 0 where
   pub word : LineWord
   pub number : ℕ
-  pub is : new ≡ old ++ word ∷ []
+  pub is : new ≡ old ++ spaced (word ∷ [])
   pub writes : number_of word ≡ Some number
   pub refers : Refers x.store.now x.numbers.now (sort_of e) number e
 
 -- words that refer to these formulas come at the end
-pub record PushesSequent (x : Lines) (old new : List LineWord) (es : List Tree) : Type 0 where
+pub record PushesSequent (x : Lines) (old new : List ℕ) (es : List Tree) : Type 0 where
   pub more : List LineWord
   pub ns : List ℕ
-  pub is : new ≡ old ++ more
+  pub is : new ≡ old ++ spaced more
   pub numbers : each number_of more ≡ Some ns
   pub back : (r : Earlier) → AreLines x.store.now x.numbers.now r → each (at_number r.expressions) more ≡ Some es
 
 -- the words of a rule come at the end
-pub record PushesRule (x : Lines) (old new : List LineWord) (rule : RuleTree) : Type 0 where
+pub record PushesRule (x : Lines) (old new : List ℕ) (rule : RuleTree) : Type 0 where
   pub more : List LineWord
-  pub is : new ≡ old ++ more
+  pub is : new ≡ old ++ spaced more
   pub plain : AreWords x.table.now → (t : TaskTree) (r : Earlier) → AreLines x.store.now x.numbers.now r → NoColon more
   pub back : AreWords x.table.now → (t : TaskTree) (r : Earlier) → AreLines x.store.now x.numbers.now r → rule_of_words t x.table.now r more ≡ Some rule
 
@@ -102,3 +115,9 @@ pub record StepReady (x : Lines) (st : StepTree) : Type 0 where
 -- words are read back as a step, wherever the trees of lines are those
 abbrev pub StepBack : Lines → Step → List LineWord → Type 0
 StepBack x st ws = AreWords x.table.now → (t : TaskTree) (r : Earlier) → AreLines x.store.now x.numbers.now r → step_of_line t x.table.now r ws ≡ Some (step_at x.store.now st)
+
+-- the line of a step comes at the end
+pub record PushesStep (x : Lines) (old new : List ℕ) (st : Step) : Type 0 where
+  pub words : List LineWord
+  pub is : new ≡ old ++ line_text (codes "s") words
+  pub back : StepBack x st words

@@ -16,12 +16,12 @@ ghost use Rattle.written_files.specs.Written.{AddsSteps, StepsReadBack};
 
 use crate::named::{are_words, name_symbols};
 use crate::roots::step_roots;
-use crate::words::{Lines, step_words};
+use crate::words::{Lines, push_step};
 use kernel::{Step, Store, Task};
 use name_tables::{NameEntry, task_names};
 use std::alloc::{AllocError, Global};
 use tree_lines::TableNames;
-use tree_writing::{SymbolNames, WrittenLines, push_line, written_trees};
+use tree_writing::{SymbolNames, WrittenLines, written_trees};
 
 // Appends the lines of steps.
 fn push_steps(
@@ -36,8 +36,7 @@ fn push_steps(
     ensures { OnOk result (AddsSteps x.now steps.now text.old.items text.new.items) }
 {
     for step in steps {
-        let words = step_words(alloc, x, step)?;
-        push_line(text, b's', &words)?;
+        push_step(alloc, x, text, step)?;
     }
     Ok(())
 }

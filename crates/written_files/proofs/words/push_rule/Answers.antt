@@ -3,7 +3,6 @@ use Rattle.kernel.specs.rule_rows.Meaning.{rule_at}
 use Rattle.rule_words.specs.declared.argument.Argument.{Argument}
 use Rattle.rule_words.specs.Arguments.{arguments_at}
 use Rattle.rule_words.specs.Rules.{name_by_word}
-use Rattle.tree_writing.specs.Referring.{words_of}
 use Rattle.tree_writing.proofs.Reading.{on_ok}
 use Rattle.written_files.specs.Words.{IsArgumentReady, PushesArguments}
 use Rattle.written_files.proofs.Pushing.{arguments_ready, rule_pushed}
@@ -21,9 +20,9 @@ returns c =
     let x = c.args.x.now in
     let s = x.store.now in
     let written = c.in_ok-written.written in
-    let old = words_of c.args.words.now.items in
-    let between = words_of c.push_word.new.words.items in
-    let new = words_of c.push_arguments.new.words.items in
+    let old = c.args.text.now.items in
+    let between = c.push_word.new.text.items in
+    let new = c.push_arguments.new.text.items in
     let word = c.as_bytes.result.now in
     on_ok c.push_arguments.result c.push_arguments.ensures
     (λ h. rule_pushed x old between new word written.name (arguments_at s written.arguments.items) (rule_at s c.args.rule.now) c.in_ok-push_word.ensures (ap name_by_word c.as_bytes.ensures.value ∙ c.word_of.ensures.reads_back) (c.in_ok-written.ensures.kinds s) (c.in_ok-written.ensures.reads_back s)

@@ -1,5 +1,4 @@
 use Rattle.std.proofs.Common.{[], IsSome, subst}
-use Rattle.tree_writing.specs.Referring.{words_of}
 use Rattle.tree_writing.proofs.Reading.{on_ok}
 use Rattle.written_files.proofs.Pushing.{symbol_pushed}
 use Rattle.written_files.proofs.words.push_symbol_name.Goals as goal
@@ -12,4 +11,4 @@ unreachable-requires c =
 pub returns : goal.returns
 returns c =
     on_ok c.push_word.result c.push_word.ensures
-    (λ h. symbol_pushed c.args.x.now (words_of c.args.words.now.items) (words_of c.push_word.new.words.items) c.in-Some.spelling.name.now c.args.symbol c.in-Some.spelling.whole h (c.in-Some.ensures.spells [] c.requires.names.none))
+    (λ h. symbol_pushed c.args.x.now c.args.text.now.items c.push_word.new.text.items c.in-Some.spelling.name.now c.args.symbol c.in-Some.spelling.whole h (c.in-Some.ensures.spells [] c.requires.names.none))

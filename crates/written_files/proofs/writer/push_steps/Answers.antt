@@ -1,15 +1,13 @@
-use Rattle.std.proofs.Common.{◌≡◌, ◌<◌, ◌++◌, ◌∷◌, [], length, get_or, sym, ap, subst, ◌∙◌, arith}
+use Rattle.std.proofs.Common.{◌≡◌, ◌<◌, length, get_or, sym, ap, subst, ◌∙◌, arith}
 use Rattle.std.proofs.lemmas.List.{get_or-map, length-map}
 use Rattle.kernel.specs.rule_rows.Trees.{no_step}
 use Rattle.kernel.specs.rule_rows.Meaning.{step_at, steps_at}
-use Rattle.tree_writing.specs.Referring.{words_of}
-use Rattle.tree_writing.specs.Text.{line_text}
 use Rattle.written_files.specs.Words.{StepReady}
 use Rattle.written_files.proofs.Texts.{first_more}
 use Rattle.written_files.proofs.writer.push_steps.Goals as goal
 
-pub step_words-requires-clause-ready : goal.step_words-requires-clause-ready
-step_words-requires-clause-ready c =
+pub push_step-requires-clause-ready : goal.push_step-requires-clause-ready
+push_step-requires-clause-ready c =
     let x = c.args.x.now in
     let s = x.store.now in
     let steps = c.args.steps.now in
@@ -25,5 +23,4 @@ loop-step-preserved c =
     let steps = c.args.steps.now in
     let i = c.loop-step.step-index in
     let lt : i < length steps = omega (arith, c.loop-step-test.true) in
-    let text = c.in_ok-push_line.ensures ∙ ap (λ l. c.loop-step.text.items ++ line_text (115 ∷ []) (words_of l)) c.deref.ensures.value in
-    first_more x steps i c.step-item.result c.args.text.now.items c.loop-step.text.items c.push_line.new.text.items (words_of c.in_ok-words.words.items) lt c.step-item.is c.requires.words c.in_ok-words.ensures text c.loop-step.invariant
+    first_more x steps i c.step-item.result c.args.text.now.items c.loop-step.text.items c.push_step.new.text.items lt c.step-item.is c.requires.words c.in_ok-push_step.ensures c.loop-step.invariant
