@@ -19,12 +19,12 @@ use Rattle.rule_rows.specs.declared.rule.Step.{Step}
 use Rattle.rule_rows.specs.Trees.{RuleTree, StepTree, no_step, step_or, sequents, rule_trees, rule_types}
 use Rattle.rule_rows.specs.Rows.{IsRuleRow}
 use Rattle.kernel.specs.Right.{IsRight, AreRight, Closes}
-use Rattle.rule_rows.specs.Meaning.{step_at, steps_at, StepsHeld}
+use Rattle.rule_rows.specs.Meaning.{rule_at, step_at, steps_at, StepsHeld}
 use Rattle.kernel.proofs.Growth.{steps_later, steps_held_later}
 use Rattle.kernel.proofs.Places.{step_or-at}
 use Rattle.rule_rows.proofs.Sequents.{map_twice}
 use Rattle.evidence.specs.Drafts.{DraftTree, Extends, Refutes, IsFormulaAt, AreFormulas}
-use Rattle.evidence.specs.Facts.{citing, CitesNone}
+use Rattle.evidence.specs.Facts.{citing, CitesNone, IsFact}
 use Rattle.evidence.specs.Stages.{TaskEquation, Gives, HaveSequents, StandFor, EndIn, HasSequents, KeepsDeclared, Keeps, IsAmong, IsOwnTask, InStage, Cites, PartsClose, PartsHeld, parts_at, part_or, task_or, no_task, sequent_of_step, start_of}
 use Rattle.evidence.proofs.Typed.{formulas_moved, trees_moved, types_moved}
 use Rattle.evidence.proofs.Moved.{row_other}
@@ -88,6 +88,60 @@ cites d t before st name types numbers premises kept r e f p =
         taken = rw n (record { within = stands.within; is = stands.is ∙ o.1.1 });
       },
     )
+
+-- what a step of the draft cites, itself a fact of the draft's task
+pub record OwnCited (d : DraftTree) (k : ℕ) (name : Fact) (types : List Tree) : Type 0 where
+  pub premise : ℕ
+  pub one : (step_or d.steps k).premises ≡ premise ∷ []
+  pub formula : Tree
+  pub fact : IsFact d.task d.task name types formula
+  pub taken : Refutes d premise ((step_or d.steps k).sequent ++ formula ∷ [])
+
+pub own_cited : (d : DraftTree) (k : ℕ) (name : Fact) (types : List Tree) → AreRight d.task d.steps → k < length d.steps → (step_or d.steps k).rule ≡ citing name types → OwnCited d k name types
+own_cited d k name types right within e =
+    let st = step_or d.steps k in
+    let before = take k d.steps in
+    let r = right k within in
+    let row : IsRuleRow d.task st.sequent (citing name types) (sequents before st.premises) = subst (λ (z : RuleTree). IsRuleRow d.task st.sequent z (sequents before st.premises)) e r.row in
+    let g = row_cited d.task st.sequent name types (sequents before st.premises) row in
+    let o = one_premise before st.premises (st.sequent ++ g.formula ∷ []) g.premise in
+    let early : o.0 < length before = All-head (λ z. z < length before) o.0 [] (subst (All (λ z. z < length before)) o.1.0 r.earlier) in
+    let l : length before ≡ k = length-take-le k d.steps (omega (arith, within)) in
+    let there : o.0 < k = omega arith in
+    let at : step_or before o.0 ≡ step_or d.steps o.0 = get_or-take k d.steps o.0 no_step there in
+    let own : All (IsTypeOver d.task 0) types = subst (All (IsTypeOver d.task 0)) (ap rule_types e ∙ types_citing name types) r.types in
+    record {
+      premise = o.0;
+      one = o.1.0;
+      formula = g.formula;
+      fact = record { said = g.said; ground = own };
+      taken = record { within = omega (arith, there, within); is = ap (λ (z : StepTree). z.sequent) (sym at) ∙ o.1.1 };
+    }
+
+-- so it is of the step in code
+pub record CitedAt (d : DraftTree) (st : Step) (name : Fact) (types : List Tree) : Type 0 where
+  pub premise : ℕ
+  pub one : st.premises ≡ premise ∷ []
+  pub front : List Tree
+  pub formula : Tree
+  pub fact : IsFact d.task d.task name types formula
+  pub taken : Refutes d premise (front ++ formula ∷ [])
+
+pub cited_at : (d : DraftTree) (steps : List Step) (k : ℕ) (st : Step) (name : Fact) (types : List Tree) → steps_at d.trees steps ≡ d.steps → AreRight d.task d.steps → st ≡ get_or steps k st → k < length d.steps → rule_at d.trees st.rule ≡ citing name types
+    → CitedAt d st name types
+cited_at d steps k st name types e right is within rule =
+    let n : length d.steps ≡ length steps = ap length (sym e) ∙ length-map steps (step_at d.trees) in
+    let l : k < length steps = omega arith in
+    let t : step_or d.steps k ≡ step_at d.trees st = ap (λ (q : List StepTree). step_or q k) (sym e) ∙ step_or-at d.trees steps k st is l in
+    let q = own_cited d k name types right within (ap (λ (z : StepTree). z.rule) t ∙ rule) in
+    record {
+      premise = q.premise;
+      one = ap (λ (z : StepTree). z.premises) (sym t) ∙ q.one;
+      front = (step_or d.steps k).sequent;
+      formula = q.formula;
+      fact = q.fact;
+      taken = q.taken;
+    }
 
 pub among_keeps : (q : TaskEquation) (from t : TaskTree) → IsValid from → ((ts : List TaskTree) → IsValid from → Gives q from ts → All (Keeps from) ts) → IsAmong (Gives q from) t → KeepsDeclared from t
 among_keeps q from t valid all a = (subst (Keeps from) a.there (all a.tasks valid a.is a.place no_task a.within)).declared

@@ -11,7 +11,7 @@ ghost use Rattle.evidence.specs.Drafts.{Extends, Refutes, IsFormulaAt, AreFormul
 ghost use Rattle.evidence.specs.Facts.{citing, CitesNone, IsFact};
 ghost use Rattle.evidence.specs.Stages.{Gives, IsOwnTask, InStage, StandFor, HasSequents, Cites, parts_at, PartsHeld, PartsClose};
 
-use crate::by::{keep_but, last_formula, negation};
+use crate::by::{by_fact, keep_but, last_formula, negation};
 use crate::{Draft, Transform};
 use outside::Seq;
 use rule_rows::{Rule, Step};
@@ -121,6 +121,62 @@ fn lemma_for<T: Transform>(
     }
 }
 
+// By which name and at which types a step of the draft cites a formula; none where it doesn't.
+fn own_fact(
+    draft: &Draft,
+    step: usize,
+    formula: TermId,
+) -> Result<Option<(Fact, Seq<TermId>)>, AllocError>
+    requires { step < length draft.now.steps }
+    ensures fact { IfOk result (λ o. IfSome o (λ p. IsFact draft.now.task draft.now.task p.0
+        (trees_at draft.now.trees p.1) (tree_at draft.now.trees formula))) }
+    ensures held { IfOk result (λ o. IfSome o (λ p. All (Holds draft.now.trees) p.1)) }
+{
+    let citing = &draft.steps()[step];
+    let Some((name, types)) = cited_fact(&citing.rule) else {
+        return Ok(None);
+    };
+    let cited = last_formula(draft, citing.premises.as_slice()[0]);
+    if cited.0 != formula.0 {
+        return Ok(None);
+    }
+    let types = Seq::from_slice(draft.allocator(), types)?;
+    Ok(Some((name, types)))
+}
+
+// A step by a formula of which a step is a lemma: it cites the formula as the lemma does, or else it is cut on.
+fn cite_or_cut(
+    draft: &mut Draft,
+    sequent: &[TermId],
+    formula: TermId,
+    with_fact: usize,
+    lemma: usize,
+) -> Result<usize, AllocError>
+    requires sequent { AreFormulas draft.old sequent.now }
+    requires formula { IsFormulaAt draft.old formula }
+    requires taken { Refutes draft.old with_fact
+        (trees_at draft.old.trees sequent.now ++ tree_at draft.old.trees formula ∷ []) }
+    requires proved { Refutes draft.old lemma (neg (tree_at draft.old.trees formula) ∷ []) }
+    ensures refutes { IfOk result (λ k. Refutes draft.new k
+        (trees_at draft.old.trees sequent.now)) }
+    ensures grows { Extends draft.old draft.new }
+{
+    match own_fact(draft, lemma, formula)? {
+        Some((name, types)) => {
+            by_fact(
+                draft,
+                &[],
+                sequent,
+                name,
+                types.as_slice(),
+                formula,
+                with_fact,
+            )
+        }
+        None => cut_on(draft, sequent, formula, with_fact, lemma),
+    }
+}
+
 // A step that cites a fact of a task, in a draft of the task that it was made from.
 fn lift_cited<T: Transform>(
     stage: &T,
@@ -143,7 +199,7 @@ fn lift_cited<T: Transform>(
 {
     let formula = last_formula(draft, with_fact);
     let lemma = lemma_for(stage, from, to, name, types, formula, draft)?;
-    cut_on(draft, sequent, formula, with_fact, lemma)
+    cite_or_cut(draft, sequent, formula, with_fact, lemma)
 }
 
 // A step of a task, in a draft of the task that it was made from.

@@ -20,14 +20,14 @@ lemma_for-requires-clause-fact g c =
     let e = c.last_formula-formula.ensures.is (trees_at d.trees c.args.sequent.now) c.requires.cites.formula c.requires.cites.taken in
     subst (λ (z : Tree). IsFact d.task (task_at d.trees c.args.to.now) c.args.name (trees_at d.trees c.args.types.now) z) (sym e) c.requires.cites.fact
 
-pub cut_on-requires-clause-sequent : goal.cut_on-requires-clause-sequent
-cut_on-requires-clause-sequent g c = formulas_later c.args.draft.now c.lemma_for.new.draft c.in_ok-lemma.ensures.grows c.args.sequent.now c.requires.sequent
+pub cite_or_cut-requires-clause-sequent : goal.cite_or_cut-requires-clause-sequent
+cite_or_cut-requires-clause-sequent g c = formulas_later c.args.draft.now c.lemma_for.new.draft c.in_ok-lemma.ensures.grows c.args.sequent.now c.requires.sequent
 
-pub cut_on-requires-clause-formula : goal.cut_on-requires-clause-formula
-cut_on-requires-clause-formula g c = formula_later c.args.draft.now c.lemma_for.new.draft c.in_ok-lemma.ensures.grows c.last_formula-formula.result c.last_formula-formula.ensures.formula
+pub cite_or_cut-requires-clause-formula : goal.cite_or_cut-requires-clause-formula
+cite_or_cut-requires-clause-formula g c = formula_later c.args.draft.now c.lemma_for.new.draft c.in_ok-lemma.ensures.grows c.last_formula-formula.result c.last_formula-formula.ensures.formula
 
-pub cut_on-requires-clause-taken : goal.cut_on-requires-clause-taken
-cut_on-requires-clause-taken g c =
+pub cite_or_cut-requires-clause-taken : goal.cite_or_cut-requires-clause-taken
+cite_or_cut-requires-clause-taken g c =
     let d = c.args.draft.now in
     let d1 = c.lemma_for.new.draft in
     let x = c.in_ok-lemma.ensures.grows in
@@ -36,8 +36,8 @@ cut_on-requires-clause-taken g c =
     let b : tree_at d1.trees a ≡ c.requires.cites.formula = x.trees.same _ c.last_formula-formula.ensures.formula.held ∙ e in
     rw (same d d1 x c.args.sequent.now c.requires.sequent, b) (refutes_later d d1 x c.args.with_fact _ c.requires.cites.taken)
 
-pub cut_on-requires-clause-proved : goal.cut_on-requires-clause-proved
-cut_on-requires-clause-proved g c =
+pub cite_or_cut-requires-clause-proved : goal.cite_or_cut-requires-clause-proved
+cite_or_cut-requires-clause-proved g c =
     let d1 = c.lemma_for.new.draft in
     let b = c.in_ok-lemma.ensures.grows.trees.same _ c.last_formula-formula.ensures.formula.held in
     subst (λ (z : Tree). Refutes d1 c.in_ok-lemma.lemma (neg z ∷ [])) (sym b) c.in_ok-lemma.ensures.refutes
@@ -47,7 +47,7 @@ returns-clause-refutes g c =
     let d = c.args.draft.now in
     let d1 = c.lemma_for.new.draft in
     let e = same d d1 c.in_ok-lemma.ensures.grows c.args.sequent.now c.requires.sequent in
-    IfOk-weaker c.cut_on.result _ _ (λ k r. subst (λ (z : List Tree). Refutes c.cut_on.new.draft k z) e r) c.cut_on.ensures.refutes
+    IfOk-weaker c.cite_or_cut.result _ _ (λ k r. subst (λ (z : List Tree). Refutes c.cite_or_cut.new.draft k z) e r) c.cite_or_cut.ensures.refutes
 
 pub returns-clause-grows : goal.returns-clause-grows
-returns-clause-grows g c = Extends_trans _ _ _ c.in_ok-lemma.ensures.grows c.cut_on.ensures.grows
+returns-clause-grows g c = Extends_trans _ _ _ c.in_ok-lemma.ensures.grows c.cite_or_cut.ensures.grows
