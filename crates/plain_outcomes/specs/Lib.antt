@@ -1,0 +1,4 @@
+pub mod Names
+pub mod Settings
+pub mod Outcomes
+pub mod Meant

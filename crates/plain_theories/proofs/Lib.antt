@@ -1,0 +1,9 @@
+pub use Rattle.plain_outcomes.proofs as plain_outcomes
+pub mod Views
+pub mod Brought
+pub mod Declared
+pub mod Used
+pub mod Cloned
+pub mod Typed
+pub mod OneOutcome
+pub mod One
