@@ -2,16 +2,16 @@
 use Rattle.std.proofs.Common.{Ok, Err, sym, ap, ◌∙◌}
 use Rattle.theories.specs.goal_tasks.Theories.{TheoriesTree}
 use Rattle.fault_order.specs.Order.{RunStop}
-use Rattle.theories.proofs.SameSources.{one_theories, theories_apart, one_fault}
+use Rattle.plain_theories.proofs.One.{one_theories, theories_apart, one_fault}
 use Rattle.source_goals.specs.Order.{AreDetermined}
 use Rattle.source_goals.proofs.Faults.{source_stop, first_stop}
 
 pub determined : AreDetermined
-determined file (Ok a) (Ok b) x y = ap (λ (z : TheoriesTree). Ok z) (one_theories x.0 y.0 file a b x.1 y.1)
-determined file (Ok a) (Err stop) x y = let n = first_stop file stop y in absurd (theories_apart x.0 n.first.0 file a n.its x.1 n.first.1 n.told)
-determined file (Err stop) (Ok b) x y = let n = first_stop file stop x in absurd (theories_apart y.0 n.first.0 file b n.its y.1 n.first.1 n.told)
+determined file (Ok a) (Ok b) x y = ap (λ (z : TheoriesTree). Ok z) (one_theories file a b x y)
+determined file (Ok a) (Err stop) x y = let n = first_stop file stop y in absurd (theories_apart file a n.its x n.first n.told)
+determined file (Err stop) (Ok b) x y = let n = first_stop file stop x in absurd (theories_apart file b n.its y n.first n.told)
 determined file (Err stop) (Err other) x y =
     let n = first_stop file stop x in
     let m = first_stop file other y in
-    let same = one_fault n.first.0 m.first.0 file n.its m.its n.first.1 m.first.1 n.told m.told in
+    let same = one_fault file n.its m.its n.first m.first n.told m.told in
     ap (λ (z : RunStop). Err z) (n.is ∙ ap source_stop same ∙ sym m.is)

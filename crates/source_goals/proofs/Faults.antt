@@ -9,10 +9,12 @@ use Rattle.theories.specs.theory_states.declared.fault.SourceFault.{SourceFault}
 use Rattle.theories.specs.theory_states.declared.fault.SourceFault.TheVariants as of_source
 use Rattle.theories.specs.theory_states.Uses.{OrMemory}
 use Rattle.theories.specs.Files.{IsFirstSourceFault}
+use Rattle.plain_theories.specs.Files.{IsPlainFirstFault}
+use Rattle.plain_theories.proofs.Typed.{fault_plainly}
 use Rattle.fault_order.specs.Answers.{IsStageAnswer}
 use Rattle.fault_order.specs.Order.{RunStop, refused, misused}
 use Rattle.fault_order.specs.declared.faults.Fault.TheVariants as of_run
-use Rattle.source_goals.specs.Order.{HasFirstFault, HasNoTheories, Declares}
+use Rattle.source_goals.specs.Order.{HasNoTheories, Declares}
 use Rattle.source_goals.specs.Values.{source_fault}
 
 abbrev refusal : (V : Type 0) → LexFault → Result V LexFault
@@ -34,19 +36,19 @@ big_literal_at V bytes fault byte is says = let at : SaysBig V bytes (BigLiteral
 -- the first fault of a file's theories
 pub no_theories : (s : List Tree) (file : List SyntaxTheory) (f : SourceFault) → OrMemory (IsFirstSourceFault s file) f → IsStageAnswer (Declares file) (Err (source_fault f))
 no_theories s file of_source.Memory h = tt
-no_theories s file (of_source.Unknown decl token) h = (s, h)
-no_theories s file (of_source.Duplicate decl token) h = (s, h)
-no_theories s file (of_source.WrongKind decl token) h = (s, h)
-no_theories s file (of_source.Arity decl token) h = (s, h)
-no_theories s file (of_source.Clash decl k) h = (s, h)
-no_theories s file (of_source.Undetermined decl token) h = (s, h)
-no_theories s file (of_source.NotExhaustive decl token) h = (s, h)
-no_theories s file (of_source.BadClause decl clause) h = (s, h)
-no_theories s file (of_source.NotPositive decl clause) h = (s, h)
-no_theories s file (of_source.NotStructural decl) h = (s, h)
-no_theories s file (of_source.GroupTooWide decl) h = (s, h)
-no_theories s file (of_source.Uninhabited decl) h = (s, h)
-no_theories s file (of_source.BadSubstitution decl token) h = (s, h)
+no_theories s file (of_source.Unknown decl token) h = fault_plainly s file (of_source.Unknown decl token) h
+no_theories s file (of_source.Duplicate decl token) h = fault_plainly s file (of_source.Duplicate decl token) h
+no_theories s file (of_source.WrongKind decl token) h = fault_plainly s file (of_source.WrongKind decl token) h
+no_theories s file (of_source.Arity decl token) h = fault_plainly s file (of_source.Arity decl token) h
+no_theories s file (of_source.Clash decl k) h = fault_plainly s file (of_source.Clash decl k) h
+no_theories s file (of_source.Undetermined decl token) h = fault_plainly s file (of_source.Undetermined decl token) h
+no_theories s file (of_source.NotExhaustive decl token) h = fault_plainly s file (of_source.NotExhaustive decl token) h
+no_theories s file (of_source.BadClause decl clause) h = fault_plainly s file (of_source.BadClause decl clause) h
+no_theories s file (of_source.NotPositive decl clause) h = fault_plainly s file (of_source.NotPositive decl clause) h
+no_theories s file (of_source.NotStructural decl) h = fault_plainly s file (of_source.NotStructural decl) h
+no_theories s file (of_source.GroupTooWide decl) h = fault_plainly s file (of_source.GroupTooWide decl) h
+no_theories s file (of_source.Uninhabited decl) h = fault_plainly s file (of_source.Uninhabited decl) h
+no_theories s file (of_source.BadSubstitution decl token) h = fault_plainly s file (of_source.BadSubstitution decl token) h
 
 -- the stop of a run that a fault of a source is; none is want of memory
 abbrev pub source_stop : SourceFault → RunStop
@@ -69,7 +71,7 @@ source_stop (of_source.BadSubstitution decl token) = refused (of_run.BadSubstitu
 pub record FirstStop (file : List SyntaxTheory) (stop : RunStop) : Type 0 where
   pub its : SourceFault
   pub told : its ≢ of_source.Memory
-  pub first : HasFirstFault file its
+  pub first : IsPlainFirstFault file its
   pub is : stop ≡ source_stop its
 
 pub first_stop : (file : List SyntaxTheory) (stop : RunStop) → HasNoTheories file stop → FirstStop file stop

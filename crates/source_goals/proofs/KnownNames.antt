@@ -1,19 +1,20 @@
 -- The names of propositions in theories: one more after others, and in code as in trees.
-use Rattle.std.proofs.Common.{◌≡◌, ◌∙◌, ◌<◌, ◌+◌, ◌++◌, ℕ, List, [], ◌∷◌, Option, Some, None, map, length, get_or, take, slice_get, option_to_list, if◌then◌else◌, refl, sym, ap}
+use Rattle.std.proofs.Common.{◌≡◌, ◌∙◌, ◌<◌, ◌+◌, ◌++◌, ℕ, List, [], ◌∷◌, Option, Some, None, map, length, get_or, take, slice_get, option_to_list, if◌then◌else◌, refl, sym, ap, ap₂}
 use Rattle.std.specs.Str.{bytes_eq}
-use Rattle.std.proofs.lemmas.List.{append_assoc, append-nil, take_more}
+use Rattle.std.proofs.lemmas.List.{append_assoc, append-nil, length-map, take_more}
 use Rattle.std.proofs.lemmas.List.Concat.{flat_map-append}
 use Rattle.tasks.specs.trees.Tree.{Tree}
+use Rattle.tasks.specs.trees.Node.{tree_at}
 use Rattle.tasks.specs.declared.declaration.Body.{Body}
 use Rattle.tasks.specs.declared.declaration.Body.TheVariants as body
 use Rattle.tasks.specs.declared.declaration.Decl.{Decl}
 use Rattle.tasks.specs.declared.signature.SymbolInfo.{SymbolInfo}
-use Rattle.tasks.specs.Meaning.{symbols_at, body_at, declaration_at, declarations_at}
+use Rattle.tasks.specs.Meaning.{symbol_at, symbols_at, body_at, declaration_at, declarations_at}
 use Rattle.driver_files.specs.driver_items.Symbols.{NamedTheories as NamedTheories}
 use Rattle.theories.specs.goal_tasks.declared.theories.Theories.{Theories}
 use Rattle.theories.specs.goal_tasks.declared.theories.Theory.{Theory}
 use Rattle.theories.specs.goal_tasks.Meaning.{placed, theory_at, theories_at}
-use Rattle.source_goals.specs.Known.{said_name, own_proposition_name, own_names, known_theory, known_of, named_bytes, IsKnownAs, said_names, own_in, own_names_at, names_in, theory_in}
+use Rattle.source_goals.specs.Known.{said_name, own_proposition_name, own_names, known_theory, known_of, named_bytes, AskedSymbol, asked_of, asked_in, IsKnownAs, said_names, own_in, own_names_at, names_in, theory_in}
 use Rattle.theories.proofs.goal_tasks.Placed.{placed-append, placed_more}
 
 module _ (path : List ℕ) where
@@ -52,11 +53,23 @@ module _ (s : List Tree) where
       let first : theory_in ds t ≡ known_theory (theory_at s ds t) = ap (λ (z : List (List ℕ)). ((known_theory (theory_at s ds t)).0, z)) (names_same t.path (placed ds t.visible)) in
       ap (λ z. z ∷ map (theory_in ds) ts) first ∙ ap (λ z. known_theory (theory_at s ds t) ∷ z) (theories_same ds ts)
 
+-- what a driver asks of entries in code
+module _ (s : List Tree) where
+  asked_with : SymbolInfo → ℕ → AskedSymbol
+  asked_with e n = record { theory = e.theory; name = e.name; kind = e.kind; vars = e.vars; count = n }
+
+  asked_one : (e : SymbolInfo) → asked_in e ≡ asked_of (symbol_at s e)
+  unfolding asked_with
+  asked_one e = ap (asked_with e) (sym (length-map e.args (tree_at s)))
+
+  asked_same : (es : List SymbolInfo) → map asked_in es ≡ map asked_of (symbols_at s es)
+  asked_same [] = refl
+  asked_same (e ∷ es) = ap₂ (λ (x : AskedSymbol) (xs : List AskedSymbol). x ∷ xs) (asked_one e) (asked_same es)
+
 -- what the signature and the theories in code tell is known
 pub are_known : (s : List Tree) (all : Theories) (infos : List SymbolInfo) (named : NamedTheories) → infos ≡ all.sig.value.symbols → map named_bytes named ≡ map (theory_in all.decls) all.list
     → IsKnownAs (known_of (theories_at s all)) infos named
 are_known s all infos named same told = record {
-  store = s;
-  symbols = ap (symbols_at s) same;
+  symbols = ap (map asked_in) same ∙ asked_same s all.sig.value.symbols;
   theories = told ∙ theories_same s all.decls all.list;
 }

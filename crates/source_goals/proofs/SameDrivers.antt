@@ -1,14 +1,10 @@
 -- The driver of a file is the same over every signature and every list of theories that tell the same.
 use Rattle.std.proofs.Common.{◌≡◌, ◌∙◌, ◌&&◌, ◌||◌, ◌+◌, ℕ, zero, suc, Bool, true, false, List, [], ◌∷◌, length, map, Option, Some, None, Ok, Err, if◌then◌else◌, String, Global, string_bytes, ap, sym, refl}
 use Rattle.std.specs.Option.{is_some}
-use Rattle.std.proofs.lemmas.List.{length-map}
-use Rattle.source_goals.specs.Known.{KnownByDriver, named_bytes, IsKnownAs}
-use Rattle.word_tables.specs.Words.{is_same_word}
+use Rattle.source_goals.specs.Known.{KnownByDriver, named_bytes, AskedSymbol, asked_in, IsKnownAs}
+use Rattle.std.specs.Prelude.{nat_eq}
+use lib.Pointwise.{pointwise}
 use Rattle.fault_order.specs.outside.State.{Files}
-use Rattle.tasks.specs.trees.Tree.{Tree}
-use Rattle.tasks.specs.trees.Node.{tree_at}
-use Rattle.tasks.specs.Task.{SymbolTree}
-use Rattle.tasks.specs.Meaning.{symbol_at, symbols_at}
 use Rattle.tasks.specs.declared.signature.SymbolInfo.{SymbolInfo}
 use Rattle.tasks.specs.declared.signature.SymbolKind.{SymbolKind}
 use Rattle.tasks.specs.declared.signature.SymbolKind.TheVariants as kind
@@ -23,6 +19,10 @@ use Rattle.driver_files.specs.driver_parts.Items.{DriverItem, prelude, printer, 
 use Rattle.driver_files.specs.driver_parts.Steps.{targeted, removed, block_step, item_in_block, item_step, block_behind}
 use Rattle.driver_files.specs.declared.reading.Progress.{Progress}
 use Rattle.driver_files.specs.Reading.{DriverOutcome, ◌then◌, Importer, ReadingPlace, reading_place, import, with_parts, one_file_more, no_import, no_progress, driver_with_printer, short_file, or_syntax, take_item, take_lines, take_bytes, take_file, read_from, driver_named, name_from}
+
+-- two words of the same bytes
+abbrev same_word : List ℕ → List ℕ → Bool
+same_word = pointwise nat_eq
 
 -- two signatures and lists of theories that tell a driver the same
 pub record TellSame (ss rs : List SymbolInfo) (ts us : NamedTheories) : Type 0 where
@@ -128,38 +128,28 @@ by_same k kind.Predicate a b e v n = rw e n
 by_same k kind.Constructor a b e v n = rw e n
 by_same k kind.Projection a b e v n = rw e n
 
-module _ (s z : List Tree) where
-  symbol_named : (path : List ℕ) (k : NameKind) (name : List ℕ) (a b : SymbolInfo) → symbol_at s a ≡ symbol_at z b → is_symbol_named path k name a ≡ is_symbol_named path k name b
-  symbol_named path k name a b e =
-      let t : a.theory ≡ b.theory = ap (λ (x : SymbolTree). x.theory) e in
-      let n : a.name ≡ b.name = ap (λ (x : SymbolTree). x.name) e in
-      let d : a.kind ≡ b.kind = ap (λ (x : SymbolTree). x.kind) e in
-      ap (λ (x : SymbolKind). is_named_kind k x && is_same_word a.theory path && is_same_word a.name name) d ∙ ap (λ (x : List ℕ). is_named_kind k b.kind && is_same_word x path && is_same_word a.name name) t
-      ∙ ap (λ (x : List ℕ). is_named_kind k b.kind && is_same_word b.theory path && is_same_word x name) n
+symbol_named : (path : List ℕ) (k : NameKind) (name : List ℕ) (a b : SymbolInfo) → asked_in a ≡ asked_in b → is_symbol_named path k name a ≡ is_symbol_named path k name b
+symbol_named path k name a b e = ap (λ (x : AskedSymbol). is_named_kind k x.kind && same_word x.theory path && same_word x.name name) e
 
-  symbol_arity : (a b : SymbolInfo) → symbol_at s a ≡ symbol_at z b → by_kind a.kind a ≡ by_kind b.kind b
-  symbol_arity a b e =
-      let d : a.kind ≡ b.kind = ap (λ (x : SymbolTree). x.kind) e in
-      let v : a.vars ≡ b.vars = ap (λ (x : SymbolTree). x.vars) e in
-      let n : length a.args ≡ length b.args = sym (length-map a.args (tree_at s)) ∙ ap (λ (x : SymbolTree). length x.args) e ∙ length-map b.args (tree_at z) in
-      by_same a.kind b.kind a b d v n
+symbol_arity : (a b : SymbolInfo) → asked_in a ≡ asked_in b → by_kind a.kind a ≡ by_kind b.kind b
+symbol_arity a b e = by_same a.kind b.kind a b (ap (λ (x : AskedSymbol). x.kind) e) (ap (λ (x : AskedSymbol). x.vars) e) (ap (λ (x : AskedSymbol). x.count) e)
 
-  entry_same : (path : List ℕ) (k : NameKind) (name : List ℕ) (n : ℕ) (ss rs : List SymbolInfo) → symbols_at s ss ≡ symbols_at z rs → entry_from path k name n ss ≡ entry_from path k name n rs
-  entry_same path k name n [] [] e = refl
-  entry_same path k name n [] (b ∷ bs) e = absurd (cc)
-  entry_same path k name n (a ∷ xs) [] e = absurd (cc)
-  entry_same path k name n (a ∷ xs) (b ∷ bs) e =
-      let first : symbol_at s a ≡ symbol_at z b = cc in
-      let later : symbols_at s xs ≡ symbols_at z bs = cc in
-      let rest = entry_same path k name (n + 1) xs bs later in
-      let test = symbol_named path k name a b first in
-      let arity = symbol_arity a b first in
-      ap (λ r. target_or_later (if is_symbol_named path k name a then Some (Entry n, by_kind a.kind a) else None) r) rest
-      ∙ ap (λ c. target_or_later (if c then Some (Entry n, by_kind a.kind a) else None) (entry_from path k name (n + 1) bs)) test
-      ∙ ap (λ (m : ℕ). target_or_later (if is_symbol_named path k name b then Some (Entry n, m) else None) (entry_from path k name (n + 1) bs)) arity
+entry_same : (path : List ℕ) (k : NameKind) (name : List ℕ) (n : ℕ) (ss rs : List SymbolInfo) → map asked_in ss ≡ map asked_in rs → entry_from path k name n ss ≡ entry_from path k name n rs
+entry_same path k name n [] [] e = refl
+entry_same path k name n [] (b ∷ bs) e = absurd (cc)
+entry_same path k name n (a ∷ xs) [] e = absurd (cc)
+entry_same path k name n (a ∷ xs) (b ∷ bs) e =
+    let first : asked_in a ≡ asked_in b = cc in
+    let later : map asked_in xs ≡ map asked_in bs = cc in
+    let rest = entry_same path k name (n + 1) xs bs later in
+    let test = symbol_named path k name a b first in
+    let arity = symbol_arity a b first in
+    ap (λ r. target_or_later (if is_symbol_named path k name a then Some (Entry n, by_kind a.kind a) else None) r) rest
+    ∙ ap (λ c. target_or_later (if c then Some (Entry n, by_kind a.kind a) else None) (entry_from path k name (n + 1) bs)) test
+    ∙ ap (λ (m : ℕ). target_or_later (if is_symbol_named path k name b then Some (Entry n, m) else None) (entry_from path k name (n + 1) bs)) arity
 
-  target_same : (ss rs : List SymbolInfo) → symbols_at s ss ≡ symbols_at z rs → (path : List ℕ) (k : NameKind) (name : List ℕ) → target_of ss path k name ≡ target_of rs path k name
-  target_same ss rs e path k name = ap (λ (r : Option (Target × ℕ)). if is_builtin path then builtin_of k name else r) (entry_same path k name 0 ss rs e)
+target_same : (ss rs : List SymbolInfo) → map asked_in ss ≡ map asked_in rs → (path : List ℕ) (k : NameKind) (name : List ℕ) → target_of ss path k name ≡ target_of rs path k name
+target_same ss rs e path k name = ap (λ (r : Option (Target × ℕ)). if is_builtin path then builtin_of k name else r) (entry_same path k name 0 ss rs e)
 
 -- the bytes of texts
 abbrev texts_of : List (String Global) → List (List ℕ)
@@ -172,7 +162,7 @@ among_same (a ∷ xs) [] x e = absurd (cc)
 among_same (a ∷ xs) (b ∷ bs) x e =
     let first : string_bytes a ≡ string_bytes b = cc in
     let later : texts_of xs ≡ texts_of bs = cc in
-    ap (λ (z : List ℕ). is_same_word z x || among xs x) first ∙ ap (λ (z : Bool). is_same_word (string_bytes b) x || z) (among_same xs bs x later)
+    ap (λ (z : List ℕ). same_word z x || among xs x) first ∙ ap (λ (z : Bool). same_word (string_bytes b) x || z) (among_same xs bs x later)
 
 pick_some : {A : Type 0} (b : Bool) (t u : A) (r q : Option A) → is_some r ≡ is_some q → is_some (if b then Some t else r) ≡ is_some (if b then Some u else q)
 pick_some true t u r q e = refl
@@ -192,7 +182,7 @@ module _ (path : List ℕ) where
       let both : named_bytes t ≡ named_bytes u = cc in
       let first : string_bytes t.0 ≡ string_bytes u.0 = ap (λ (p : List ℕ × List (List ℕ)). p.0) both in
       let later : map named_bytes ts ≡ map named_bytes us = cc in
-      ap (λ (z : List ℕ). is_some (if is_same_word z path then Some t else theory_with_path path ts)) first ∙ pick_some (is_path path u) t u (theory_with_path path ts) (theory_with_path path us) (found_same ts us later)
+      ap (λ (z : List ℕ). is_some (if same_word z path then Some t else theory_with_path path ts)) first ∙ pick_some (is_path path u) t u (theory_with_path path ts) (theory_with_path path us) (found_same ts us later)
 
   has_same : (name : List ℕ) (ts us : NamedTheories) → map named_bytes ts ≡ map named_bytes us → among_those (theory_with_path path ts) name ≡ among_those (theory_with_path path us) name
   has_same name [] [] e = refl
@@ -203,14 +193,14 @@ module _ (path : List ℕ) where
       let first : string_bytes t.0 ≡ string_bytes u.0 = ap (λ (p : List ℕ × List (List ℕ)). p.0) both in
       let names : texts_of t.1.items ≡ texts_of u.1.items = ap (λ (p : List ℕ × List (List ℕ)). p.1) both in
       let later : map named_bytes ts ≡ map named_bytes us = cc in
-      ap (λ (z : List ℕ). among_those (if is_same_word z path then Some t else theory_with_path path ts) name) first
+      ap (λ (z : List ℕ). among_those (if same_word z path then Some t else theory_with_path path ts) name) first
       ∙ pick_among (is_path path u) t u (theory_with_path path ts) (theory_with_path path us) name (among_same t.1.items u.1.items name names) (has_same name ts us later)
 
 pub tell_same : (known : KnownByDriver) (ss rs : List SymbolInfo) (ts us : NamedTheories) → IsKnownAs known ss ts → IsKnownAs known rs us → TellSame ss rs ts us
 tell_same known ss rs ts us a b =
     let names : map named_bytes ts ≡ map named_bytes us = a.theories ∙ sym b.theories in
     record {
-      targets = target_same a.store b.store ss rs (a.symbols ∙ sym b.symbols);
+      targets = target_same ss rs (a.symbols ∙ sym b.symbols);
       known = λ path. ap (λ (z : Bool). is_builtin path || z) (found_same path ts us names);
       propositions = λ path name. ap (λ (z : Bool). if is_builtin path then false else z) (has_same path name ts us names);
     }

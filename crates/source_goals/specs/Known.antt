@@ -1,15 +1,14 @@
 -- What the theories of a source tell the reader of a driver (Why3 manual, "Drivers").
-use Rattle.std.specs.Prelude.{◌≡◌, ℕ, List, [], ◌∷◌, Option, Some, None, map, if◌then◌else◌, string_bytes}
+use Rattle.std.specs.Prelude.{◌≡◌, ℕ, List, [], ◌∷◌, Option, Some, None, map, length, if◌then◌else◌, string_bytes}
 use Rattle.std.specs.List.{flat_map}
 use Rattle.std.specs.Str.{bytes_eq}
 use Rattle.std.specs.Str.Lossy.{utf8_lossy}
-use Rattle.tasks.specs.trees.Tree.{Tree}
 use Rattle.tasks.specs.Task.{SymbolTree, DeclarationTree, BodyTree, Says}
-use Rattle.tasks.specs.Meaning.{symbols_at}
 use Rattle.tasks.specs.declared.declaration.Body.{Body}
 use Rattle.tasks.specs.declared.declaration.Body.TheVariants.{Prop}
 use Rattle.tasks.specs.declared.declaration.Decl.{Decl}
 use Rattle.tasks.specs.declared.signature.SymbolInfo.{SymbolInfo}
+use Rattle.tasks.specs.declared.signature.SymbolKind.{SymbolKind}
 use Rattle.driver_files.specs.driver_items.Symbols.{NamedTheories as NamedTheories, NamedTheory as NamedTheory}
 use Rattle.theories.specs.goal_tasks.declared.theories.Theory.{Theory}
 use Rattle.theories.specs.goal_tasks.Theories.{KnownTheoryTree, TheoriesTree}
@@ -42,10 +41,23 @@ known_of all = record { symbols = all.symbols; theories = map known_theory all.l
 abbrev pub named_bytes : NamedTheory → List ℕ × List (List ℕ)
 named_bytes theory = (string_bytes theory.0, map string_bytes theory.1.items)
 
--- a signature and named theories are what is known
+-- what a driver asks of an entry: its theory, its name and its kind, and how many type variables and arguments it has
+pub record AskedSymbol : Type 0 where
+  pub theory : List ℕ
+  pub name : List ℕ
+  pub kind : SymbolKind
+  pub vars : ℕ
+  pub count : ℕ
+
+abbrev pub asked_of : SymbolTree → AskedSymbol
+asked_of e = record { theory = e.theory; name = e.name; kind = e.kind; vars = e.vars; count = length e.args }
+
+abbrev pub asked_in : SymbolInfo → AskedSymbol
+asked_in e = record { theory = e.theory; name = e.name; kind = e.kind; vars = e.vars; count = length e.args }
+
+-- a signature and named theories tell a driver what is known
 pub record IsKnownAs (known : KnownByDriver) (infos : List SymbolInfo) (named : NamedTheories) : Type 0 where
-  pub store : List Tree
-  pub symbols : symbols_at store infos ≡ known.symbols
+  pub symbols : map asked_in infos ≡ map asked_of known.symbols
   pub theories : map named_bytes named ≡ known.theories
 
 -- ---- of declarations in code

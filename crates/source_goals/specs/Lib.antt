@@ -1,3 +1,4 @@
+pub use Rattle.plain_theories.specs as plain_theories
 pub use Rattle.theories.specs as theories
 pub mod Known
 pub mod Order

@@ -1,7 +1,6 @@
 -- From a source's bytes to the task of a goal and the driver that it goes through, or what is first in the way: the bytes'
 -- tokens, their file, its theories; the driver; then the theory and the goal by their names.
 use Rattle.std.specs.Prelude.{◌≡◌, ℕ, List, Option, Some, None, Result, Ok, Err}
-use Rattle.tasks.specs.trees.Tree.{Tree}
 use Rattle.tasks.specs.Task.{TaskTree}
 use Rattle.tasks.specs.declared.signature.SymbolInfo.{SymbolInfo}
 use Rattle.syntax_why.specs.tokens_why.declared.token.Token.{Token}
@@ -17,9 +16,8 @@ use Rattle.driver_files.specs.Reading.{DriverStop, driver_named}
 use Rattle.driver_files.specs.Reading as driver
 use Rattle.theories.specs.goal_tasks.Theories.{GoalTree, KnownTheoryTree, TheoriesTree, theory_named, goal_named}
 use Rattle.theories.specs.goal_tasks.Tasks.{task_for}
-use Rattle.theories.specs.theory_states.declared.fault.SourceFault.{SourceFault}
 use Rattle.theories.specs.theory_states.declared.fault.SourceFault.TheVariants as source_fault
-use Rattle.theories.specs.Files.{TheoriesOf, IsFirstSourceFault}
+use Rattle.plain_theories.specs.Files.{PlainTheoriesOf, IsPlainFirstFault}
 use Rattle.fault_order.specs.declared.faults.Fault.TheVariants as fault
 use Rattle.fault_order.specs.Order.{RunStop, refused, absent, unread, Stage, Answer, After, HasOneAnswer, StageMeaning, ShortFile}
 use Rattle.source_goals.specs.Known.{KnownByDriver, known_of, IsKnownAs}
@@ -48,30 +46,26 @@ abbrev pub Parses : List Lexeme → Stage (List SyntaxTheory)
 Parses xs (Ok file) = IsShallow (terminals xs) × IsOnlyFile xs file
 Parses xs (Err stop) = IsNoFile xs stop
 
--- over some store, this is the first fault of a file's theories
-abbrev pub HasFirstFault : List SyntaxTheory → SourceFault → Type 0
-HasFirstFault file f = (trees : List Tree) × IsFirstSourceFault trees file f
-
 -- why a file has no theories: 20 to 40, at its first fault
 abbrev pub HasNoTheories : List SyntaxTheory → RunStop → Type 0
-HasNoTheories file (refused (fault.Unknown decl token)) = HasFirstFault file (source_fault.Unknown decl token)
-HasNoTheories file (refused (fault.Duplicate decl token)) = HasFirstFault file (source_fault.Duplicate decl token)
-HasNoTheories file (refused (fault.WrongKind decl token)) = HasFirstFault file (source_fault.WrongKind decl token)
-HasNoTheories file (refused (fault.Arity decl token)) = HasFirstFault file (source_fault.Arity decl token)
-HasNoTheories file (refused (fault.Clash decl k)) = HasFirstFault file (source_fault.Clash decl k)
-HasNoTheories file (refused (fault.Undetermined decl token)) = HasFirstFault file (source_fault.Undetermined decl token)
-HasNoTheories file (refused (fault.NotExhaustive decl token)) = HasFirstFault file (source_fault.NotExhaustive decl token)
-HasNoTheories file (refused (fault.BadClause decl clause)) = HasFirstFault file (source_fault.BadClause decl clause)
-HasNoTheories file (refused (fault.NotPositive decl clause)) = HasFirstFault file (source_fault.NotPositive decl clause)
-HasNoTheories file (refused (fault.NotStructural decl)) = HasFirstFault file (source_fault.NotStructural decl)
-HasNoTheories file (refused (fault.GroupTooWide decl)) = HasFirstFault file (source_fault.GroupTooWide decl)
-HasNoTheories file (refused (fault.Uninhabited decl)) = HasFirstFault file (source_fault.Uninhabited decl)
-HasNoTheories file (refused (fault.BadSubstitution decl token)) = HasFirstFault file (source_fault.BadSubstitution decl token)
+HasNoTheories file (refused (fault.Unknown decl token)) = IsPlainFirstFault file (source_fault.Unknown decl token)
+HasNoTheories file (refused (fault.Duplicate decl token)) = IsPlainFirstFault file (source_fault.Duplicate decl token)
+HasNoTheories file (refused (fault.WrongKind decl token)) = IsPlainFirstFault file (source_fault.WrongKind decl token)
+HasNoTheories file (refused (fault.Arity decl token)) = IsPlainFirstFault file (source_fault.Arity decl token)
+HasNoTheories file (refused (fault.Clash decl k)) = IsPlainFirstFault file (source_fault.Clash decl k)
+HasNoTheories file (refused (fault.Undetermined decl token)) = IsPlainFirstFault file (source_fault.Undetermined decl token)
+HasNoTheories file (refused (fault.NotExhaustive decl token)) = IsPlainFirstFault file (source_fault.NotExhaustive decl token)
+HasNoTheories file (refused (fault.BadClause decl clause)) = IsPlainFirstFault file (source_fault.BadClause decl clause)
+HasNoTheories file (refused (fault.NotPositive decl clause)) = IsPlainFirstFault file (source_fault.NotPositive decl clause)
+HasNoTheories file (refused (fault.NotStructural decl)) = IsPlainFirstFault file (source_fault.NotStructural decl)
+HasNoTheories file (refused (fault.GroupTooWide decl)) = IsPlainFirstFault file (source_fault.GroupTooWide decl)
+HasNoTheories file (refused (fault.Uninhabited decl)) = IsPlainFirstFault file (source_fault.Uninhabited decl)
+HasNoTheories file (refused (fault.BadSubstitution decl token)) = IsPlainFirstFault file (source_fault.BadSubstitution decl token)
 HasNoTheories file _ = ⊥
 
 -- the theories of a file
 abbrev pub Declares : List SyntaxTheory → Stage TheoriesTree
-Declares file (Ok all) = (trees : List Tree) × TheoriesOf trees file all
+Declares file (Ok all) = PlainTheoriesOf file all
 Declares file (Err stop) = HasNoTheories file stop
 
 -- the theories of each file, or its first fault, are one

@@ -3,12 +3,13 @@ use Rattle.syntax_why.specs.SurfaceDeclarations.{file_of}
 use Rattle.theories.specs.goal_tasks.Theories.{TheoriesTree}
 use Rattle.fault_order.specs.declared.faults.RunFault.{RunFault}
 use Rattle.fault_order.specs.Answers.{IsStageAnswer}
+use Rattle.plain_theories.proofs.Typed.{theories_plainly}
 use Rattle.source_goals.specs.Order.{Declares}
 use Rattle.source_goals.proofs.Faults.{no_theories}
 use Rattle.source_goals.proofs.source.theories_of.Goals as goal
 
 pub returns-in-Ok-clause-declares : goal.returns-in-Ok-clause-declares
-returns-in-Ok-clause-declares c = (c.args.store.now, c.in-Ok.ensures.ok)
+returns-in-Ok-clause-declares c = theories_plainly c.args.store.now (file_of c.args.file.now) _ c.in-Ok.ensures.ok
 
 pub returns-in-Err-clause-declares : goal.returns-in-Err-clause-declares
 returns-in-Err-clause-declares c =
