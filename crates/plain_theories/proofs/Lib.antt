@@ -5,5 +5,10 @@ pub mod Declared
 pub mod Used
 pub mod Cloned
 pub mod Typed
+pub mod StateLists
+pub mod Sides
+pub mod Solved
+pub mod Library
+pub mod Told
 pub mod OneOutcome
 pub mod One

@@ -26,9 +26,9 @@ use Rattle.theories.specs.theory_states.declared.fault.SourceFault.TheVariants.{
 use Rattle.theories.specs.theory_states.declared.fault.SourceFault.TheVariants as fault
 use Rattle.theories.specs.theory_states.Uses.{path_text, last_part, alias_text}
 use Rattle.clone_theories.specs.Cloned.{naming, IsNamesFault}
-use Rattle.theories.proofs.Sides.{side_or, one_side}
-use Rattle.theories.proofs.SameElements.{told_once}
-use Rattle.theories.proofs.Library.{AreSameFiles, one_files}
+use Rattle.plain_theories.proofs.Sides.{side_or, one_side}
+use Rattle.plain_theories.proofs.Told.{told_once}
+use Rattle.plain_theories.proofs.Library.{AreSameFiles, one_files}
 use Rattle.plain_outcomes.specs.Names.{is_plain_declared}
 use Rattle.plain_outcomes.specs.Settings.{PlainOutcome}
 use Rattle.plain_outcomes.specs.Outcomes.{IsPlainOutcome, IsPlainRefusal}

@@ -1,22 +1,22 @@
 -- A declaration has at most one outcome where it stands, and at most one first fault, and not both.
-use Rattle.std.proofs.Common.{◌≡◌, ◌≢◌, ℕ, List, [], ◌∷◌, length, None, refl, sym, ap, ap₂, ◌∙◌, arith}
+use Rattle.std.proofs.Common.{◌≡◌, ◌≢◌, ℕ, List, [], ◌∷◌, length, Option, None, refl, sym, ap, ap₂, ◌∙◌, arith}
 use Rattle.tasks.specs.trees.Tree.{Tree}
 use Rattle.tasks.specs.Task.{SymbolTree, DeclarationTree, Says}
 use Rattle.syntax_why.specs.declared.declarations.PropKind.{PropKind}
 use Rattle.valid_tasks.specs.elab_names.Abstract.{Expression}
-use Rattle.valid_tasks.specs.elab_walk.Patterns.{no_notes}
+use Rattle.valid_tasks.specs.elab_names.declared.NamingFault.{NamingFault}
+use Rattle.valid_tasks.specs.elab_walk.Patterns.{Notes, no_notes}
 use Rattle.valid_tasks.specs.elab_parts.declared.ElabFault.{ElabFault}
 use Rattle.valid_tasks.specs.elab_parts.declared.ElabFault.TheVariants as elab
 use Rattle.valid_tasks.specs.elab_parts.declared.solution.TypingFault.{TypingFault}
 use Rattle.valid_tasks.specs.elab_parts.declared.solution.TypingFault.TheVariants as types
-use Rattle.valid_tasks.specs.elab_parts.Elaborated.{IsTypingFault, elab_typing_fault}
+use Rattle.valid_tasks.specs.elab_parts.Elaborated.{IsTypingFault, elab_naming_fault, elab_typing_fault}
 use Rattle.valid_tasks.specs.elab_parts.Declarations.{TokenName, Declaration, GroupMember, InductivePredicate, abstract_type, alias, algebraic, member_group, inductive, proposition_declaration}
-use Rattle.valid_tasks.specs.elab_parts.Outcomes.{wants_memory, of_names, of_types}
+use Rattle.valid_tasks.specs.elab_parts.Outcomes.{IsRefusalFor, wants_memory, of_names, of_types}
 use Rattle.valid_tasks.specs.elab_groups.Groups.{most_variables, bodies_pieces, pieces_notes, pieces_trees, group_decls}
 use Rattle.valid_tasks.specs.elab_inductives.Inductives.{formula_members, clause_signatures, inductive_decls}
 use Rattle.valid_tasks.specs.elab_terms.Outcomes.{proposition_seen, said_as, schematic}
-use Rattle.theories.proofs.Solved.{one_tree, one_trees, fault_or}
-use Rattle.theories.proofs.Faults.{one_refusal}
+use Rattle.plain_theories.proofs.Solved.{one_tree, one_trees, one_typing_fault, fault_or}
 use Rattle.plain_outcomes.specs.Names.{PlainNames}
 use Rattle.plain_outcomes.specs.Settings.{PlainSetting, PlainOutcome, plain_full_name}
 use Rattle.plain_outcomes.specs.Outcomes.{plain_before_group, plain_group_signatures, plain_within_group, IsPlainGroup, plain_before_inductives, plain_within_inductives, IsPlainInductives, plain_piece, IsPlainProposition, IsPlainOutcome, plain_names_fault, plain_notes, plain_rigid, IsPlainRefusal}
@@ -31,6 +31,21 @@ by_parts o q e f i j k =
     ap₂ (λ (us : List SymbolTree) (n : PlainNames). of_parts us n o.decls o.rigid o.matches) e f
     ∙ ap₂ (λ (ds : List DeclarationTree) (ks : List ℕ). of_parts q.symbols q.scope ds ks o.matches) i j
     ∙ ap (of_parts q.symbols q.scope q.decls q.rigid) k
+
+-- ---- the first fault, by names and type equations
+not_memory : (decl : ℕ) (f : ElabFault) (g : TypingFault) → f ≡ elab_typing_fault decl g → f ≢ elab.Memory → g ≢ types.Memory
+not_memory decl f g e n q = n (e ∙ ap (elab_typing_fault decl) q)
+
+one_refusal : (decl : ℕ) (first : Option NamingFault) (rigid : ℕ) (ns : Notes) (f g : ElabFault) → IsRefusalFor decl first rigid ns f → IsRefusalFor decl first rigid ns g
+    → f ≢ elab.Memory → g ≢ elab.Memory → f ≡ g
+one_refusal decl first rigid ns f g (wants_memory e) b n m = absurd (n e)
+one_refusal decl first rigid ns f g (of_names a e p) (wants_memory k) n m = absurd (m k)
+one_refusal decl first rigid ns f g (of_types a e p t) (wants_memory k) n m = absurd (m k)
+one_refusal decl first rigid ns f g (of_names a e p) (of_names b k q) n m = let same : a ≡ b = cc in e ∙ ap (elab_naming_fault decl) same ∙ sym k
+one_refusal decl first rigid ns f g (of_names a e p) (of_types b k q t) n m = cc
+one_refusal decl first rigid ns f g (of_types a e p t) (of_names b k q) n m = cc
+one_refusal decl first rigid ns f g (of_types a e p t) (of_types b k q w) n m =
+    e ∙ ap (elab_typing_fault decl) (one_typing_fault rigid ns a b t w (not_memory decl f a e n) (not_memory decl g b k m)) ∙ sym k
 
 module _ (c : PlainSetting) where
   said : PropKind → TokenName → Expression → List ℕ → Tree → List DeclarationTree
@@ -81,10 +96,7 @@ module _ (c : PlainSetting) where
   types_right (member_group ms) o f is h n = fault_or (plain_rigid c (member_group ms)) (plain_notes c (member_group ms)) f h n is.solved.determined
   types_right (inductive ds) o f is h n = fault_or (plain_rigid c (inductive ds)) (plain_notes c (inductive ds)) f h n is.solved.determined
 
-  not_memory : (f : ElabFault) (g : TypingFault) → f ≡ elab_typing_fault c.decl g → f ≢ elab.Memory → g ≢ types.Memory
-  not_memory f g e n q = n (e ∙ ap (elab_typing_fault c.decl) q)
-
   pub refusal_or : (x : Declaration) (o : PlainOutcome) (f : ElabFault) → IsPlainRefusal c x f → f ≢ elab.Memory → plain_names_fault c x ≡ None → IsPlainOutcome c x o → ⊥
   refusal_or x o f (wants_memory e) n none is = n e
   refusal_or x o f (of_names a e p) n none is = cc
-  refusal_or x o f (of_types a e p t) n none is = types_right x o a is t (not_memory f a e n)
+  refusal_or x o f (of_types a e p t) n none is = types_right x o a is t (not_memory c.decl f a e n)

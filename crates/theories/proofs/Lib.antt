@@ -36,28 +36,3 @@ mod Declared
 mod WordCloned
 mod Typed
 pub mod WordSources
-pub mod SameElements
-pub mod Moves
-pub mod Copies
-pub mod SameCloned
-pub mod SameSteps
-pub mod SameTyped
-pub mod Library
-pub mod SameSources
-pub mod AlikeLists
-pub mod Names
-pub mod Finding
-pub mod Growing
-pub mod Overs
-pub mod Made
-pub mod Solved
-pub mod Settings
-pub mod SameOutcomes
-pub mod Faults
-pub mod Determined
-pub mod StateLists
-pub mod Later
-pub mod Known
-pub mod Sides
-pub mod SameDeclared
-pub mod SameDeclarations

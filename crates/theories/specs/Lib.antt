@@ -11,7 +11,3 @@ pub mod Plain
 pub mod Sources
 pub mod Lexemes
 pub mod Names
-pub mod Same
-pub mod OutcomeSame
-pub mod StateSame
-pub mod Steps

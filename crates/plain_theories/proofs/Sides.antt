@@ -11,7 +11,7 @@ use Rattle.valid_tasks.specs.decl_checks.declared.fault.CheckFault.TheVariants a
 use Rattle.theory_declarations.specs.side_conditions.declared.sides.SideFault.{SideFault}
 use Rattle.theory_declarations.specs.side_conditions.declared.sides.SideFault.TheVariants as side
 use Rattle.theory_declarations.specs.side_conditions.Sides.{IsCovered, IsFirstOpenMatch, IsFirstCheckFault, IsSideFault}
-use Rattle.theories.proofs.StateLists.{without_or, one_without}
+use Rattle.plain_theories.proofs.StateLists.{without_or, one_without}
 use Rattle.valid_tasks.proofs.decl_checks.Exact.{one_fault, right_not as fault_or}
 
 -- ---- what is wrong with clauses, definitions and types
