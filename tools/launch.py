@@ -2,9 +2,12 @@
 import os
 import re
 import shutil
+import signal
 import subprocess
 import sys
 import tempfile
+
+import stack
 
 ROOT = os.path.dirname(os.path.dirname(os.path.realpath(__file__)))
 # Lines of code that are proved in a minute, from nothing, on four processors of a common machine; and crates that are
@@ -217,14 +220,26 @@ def run_proved(words):
         tell(USAGE)
         return 2
     build("why3lift")
-    program = [binary_of("why3lift"), *words]
-    if not sys.stderr.isatty():
-        os.execv(program[0], program)
-    ran = subprocess.run(program, stderr=subprocess.PIPE, check=False)
-    sys.stderr.buffer.write(ran.stderr)
-    sys.stderr.flush()
-    explain(words, ran.stderr.decode(errors="replace"))
-    return ran.returncode if ran.returncode >= 0 else 128 - ran.returncode
+    for it in (signal.SIGTERM, signal.SIGHUP):
+        signal.signal(it, lambda number, _: sys.exit(128 + number))
+    shows = sys.stderr.isatty()
+    try:
+        ran = stack.run([binary_of("why3lift"), *words], stderr=subprocess.PIPE if shows else None)
+    except KeyboardInterrupt:
+        return 130
+    if shows:
+        sys.stderr.buffer.write(ran.stderr)
+        sys.stderr.flush()
+        explain(words, ran.stderr.decode(errors="replace"))
+    return told_status(ran.returncode)
+
+
+def told_status(returncode):
+    """Returns the exit status for what the program ended with; says where the machine's stack was too small."""
+    status, line = stack.status_of(returncode)
+    if line:
+        tell(line)
+    return status
 
 
 def run_explain(words):
@@ -258,6 +273,8 @@ def copies_of(words, places):
 def tell_answer(words, lines, crate):
     """Shows what came on standard error, and what a refusal means."""
     for line in lines:
+        if re.match(r"checked: .*out of stack", line):
+            tell("why3lift-unproved: the machine's stack is too small for the trial run")
         if not re.match(r"checked: |run=|rt: |case=", line):
             tell(line)
         found = re.fullmatch(r"(refused|absent|read fault): ([0-9 ]+)", line)
@@ -289,7 +306,7 @@ def run_unproved(words):
     tell("why3lift-unproved: nothing was proved; this trial run takes a minute or two, over copies of the files")
     shown, data = copies_of(words, places)
     how = {"cwd": f"{ROOT}/crates/{crate}", "stdin": subprocess.DEVNULL, "stderr": subprocess.PIPE}
-    ran = subprocess.run(["rt", "try", *data, "--", *shown], check=False, **how)
+    ran = stack.run(["rt", "try", *data, "--", *shown], **how)
     tell_answer(words, ran.stderr.decode(errors="replace").splitlines(), crate)
     return ran.returncode
 
@@ -327,9 +344,9 @@ def tried(commands):
                 pass
             with open(f"{cases}/case{at:04}.args", "w", encoding="utf-8") as it:
                 it.writelines(f"{word}\n" for word in shown)
-        how = {"cwd": f"{ROOT}/crates/why3lift", "stdin": subprocess.DEVNULL, "capture_output": True, "check": False}
+        how = {"cwd": f"{ROOT}/crates/why3lift", "stdin": subprocess.DEVNULL, "capture_output": True}
         options = [it for flag in flags for it in ("--data", flag)]
-        ran = subprocess.run(["rt", "try", "--cases", cases, *options], **how)
+        ran = stack.run(["rt", "try", "--cases", cases, *options], **how)
     err = ran.stderr.decode(errors="replace")
     outs = re.split(r"^== case\d+\n", ran.stdout.decode(errors="replace"), flags=re.M)[1:]
     errs = re.split(r"^(case=case\d+ .*)\n", err, flags=re.M)

@@ -12,9 +12,15 @@ import subprocess
 import sys
 import time
 
+import stack
+
 from . import lazy, reader, refute, writer
 
 MOST_TRIES = 64
+
+
+class StackTooSmall(Exception):
+    """The program was ended by a signal; the line that says so."""
 
 
 class Program:
@@ -25,10 +31,13 @@ class Program:
 
     def answer(self, *words):
         begin = time.monotonic()
-        ran = subprocess.run([*self.command, *words], stdin=subprocess.DEVNULL, capture_output=True, check=False)
+        ran = stack.run([*self.command, *words], stdin=subprocess.DEVNULL, capture_output=True)
         self.seconds[words[0]] = self.seconds.get(words[0], 0) + time.monotonic() - begin
+        status, line = stack.status_of(ran.returncode)
+        if line:
+            raise StackTooSmall(line)
         err = [it for it in ran.stderr.decode(errors="replace").splitlines(keepends=True) if not it.startswith("why3lift")]
-        return ran.returncode, ran.stdout, "".join(err)
+        return status, ran.stdout, "".join(err)
 
 
 def served(pipe, problem, names, seconds, commands, choice):

@@ -15,6 +15,8 @@ import os
 import re
 import sys
 
+import stack
+
 from . import parts, provers
 
 DEFAULTS = {"--to": None, "--seconds": "10", "--jobs": None, "--program": None}
@@ -144,6 +146,9 @@ def main(words, command_of):
     except KeyboardInterrupt:
         parts.tell_progress("")
         return 130
+    except parts.StackTooSmall as it:
+        print(it, file=sys.stderr)
+        return stack.TOO_SMALL
     if file:
         print(f"accepted: {file}")
     elif made:
