@@ -221,7 +221,8 @@ def run_proved(words):
         return 2
     build("why3lift")
     for it in (signal.SIGTERM, signal.SIGHUP):
-        signal.signal(it, lambda number, _: sys.exit(128 + number))
+        if signal.getsignal(it) != signal.SIG_IGN:
+            signal.signal(it, lambda number, _: sys.exit(128 + number))
     shows = sys.stderr.isatty()
     try:
         ran = stack.run([binary_of("why3lift"), *words], stderr=subprocess.PIPE if shows else None)
