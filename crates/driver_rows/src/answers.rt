@@ -2,9 +2,9 @@
 use crate::given::{driver_name, library, signature, theories};
 use crate::lines::bytes_of;
 use crate::showing::{put_bytes, put_driver, put_fault, put_number, put_pieces};
-use driver_files::read_driver;
-use driver_items::template_of;
-use driver_tokens::{DriverSyntaxFault, read_lines, string_value};
+use drivers::driver_files::read_driver;
+use drivers::driver_items::template_of;
+use drivers::driver_tokens::{DriverSyntaxFault, read_lines, string_value};
 use outside::MemoryLibrary;
 use std::alloc::{AllocError, Global};
 

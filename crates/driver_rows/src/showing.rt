@@ -1,6 +1,6 @@
 // A driver or why there is none, as text.
-use driver_items::{Piece, Printer};
-use driver_parts::{Driver, DriverFault};
+use drivers::driver_items::{Piece, Printer};
+use drivers::driver_parts::{Driver, DriverFault};
 use std::alloc::{AllocError, Global};
 
 /// Bytes, a line's end as `\n`.

@@ -1,6 +1,6 @@
 -- Each fault of a refusal has a row in the table of explanations, with as many numbers: by its form.
 use Rattle.std.proofs.Common.{refl}
-use Rattle.fault_order.specs.declared.faults.Fault.TheVariants.{Lexical, BigLiteral, Syntax, TooDeep, ProgramDecl, TooLong, Unknown, Duplicate, WrongKind, Arity, Clash, Undetermined, NotExhaustive, BadClause, NotPositive, NotStructural, GroupTooWide, Uninhabited, BadSubstitution, DriverSyntax, UnknownTransformation, BadTemplate, UnknownSymbol, ImportCycle, UnknownPrinter, NoTheory, NoGoal, Misplaced, TooLarge, Polymorphic, Unprintable, NoSyntax, PartCount, WrongLine}
+use Rattle.statuses.specs.declared.fault_order.faults.Fault.TheVariants.{Lexical, BigLiteral, Syntax, TooDeep, ProgramDecl, TooLong, Unknown, Duplicate, WrongKind, Arity, Clash, Undetermined, NotExhaustive, BadClause, NotPositive, NotStructural, GroupTooWide, Uninhabited, BadSubstitution, DriverSyntax, UnknownTransformation, BadTemplate, UnknownSymbol, ImportCycle, UnknownPrinter, NoTheory, NoGoal, Misplaced, TooLarge, Polymorphic, Unprintable, NoSyntax, PartCount, WrongLine}
 use Rattle.fault_rows.specs.Explained.{EachIsExplained}
 
 pub explained : EachIsExplained

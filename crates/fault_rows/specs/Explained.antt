@@ -1,6 +1,6 @@
 -- Each fault of a refusal has a row in the table of explanations, with as many numbers.
 use Rattle.std.specs.Prelude.{IsSome}
-use Rattle.fault_order.specs.declared.faults.Fault.{Fault}
+use Rattle.statuses.specs.declared.fault_order.faults.Fault.{Fault}
 use Rattle.statuses.specs.Faults.{numbers}
 use Rattle.explain.specs.Message.{row_for}
 

@@ -2,7 +2,7 @@
 use Rattle.std.specs.Prelude.{◌≡◌, ℕ, ◌+◌, List, [], ◌∷◌, map, All, Option, Some, None}
 use Rattle.tasks.specs.trees.Tree.{Tree}
 use Rattle.tasks.specs.Task.{TaskTree}
-use Rattle.driver_parts.specs.declared.driver.Driver.{Driver}
+use Rattle.drivers.specs.declared.driver_parts.driver.Driver.{Driver}
 use Rattle.printed_problems.specs.declared.fault.PrintFault.{PrintFault}
 use Rattle.printed_problems.specs.declared.fault.PrintFault.TheVariants as print_fault
 use Rattle.printed_problems.specs.declared.printed.Problem.{Problem}

@@ -1,12 +1,12 @@
 -- The texts of the parts of a goal, one after another, counted from 1.
 use Rattle.std.specs.Prelude.{ℕ, ◌+◌, List, [], ◌∷◌, ◌++◌, length}
 use Rattle.tasks.specs.Task.{TaskTree}
-use Rattle.driver_items.specs.declared.kinds.Printer.{Printer}
-use Rattle.driver_items.specs.declared.kinds.Printer.TheVariants.{Smt, Tff}
-use Rattle.driver_parts.specs.declared.driver.Driver.{Driver}
+use Rattle.drivers.specs.declared.driver_items.kinds.Printer.{Printer}
+use Rattle.drivers.specs.declared.driver_items.kinds.Printer.TheVariants.{Smt, Tff}
+use Rattle.drivers.specs.declared.driver_parts.driver.Driver.{Driver}
 use Rattle.printed_problems.specs.Problems.{problem_of}
-use Rattle.smt_texts.specs.Text.{smt_text}
-use Rattle.tff_texts.specs.Text.{tff_text}
+use Rattle.part_texts.specs.smt_texts.Text.{smt_text}
+use Rattle.part_texts.specs.tff_texts.Text.{tff_text}
 
 abbrev pub text_by : Printer → Driver → ℕ → ℕ → TaskTree → List ℕ
 text_by Smt d part parts t = smt_text d t (problem_of d t) part parts

@@ -6,9 +6,11 @@
 mod fault;
 mod making;
 mod names;
+pub mod smt_texts;
 mod texts;
+pub mod tff_texts;
 
-pub use driver_parts::Driver;
+pub use drivers::driver_parts::Driver;
 pub use fault::PartFault;
 pub use making::problems_of;
 pub use names::name_texts;

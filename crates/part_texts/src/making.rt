@@ -8,7 +8,7 @@ ghost use Rattle.printed_problems.specs.Made.{IsProblem};
 ghost use Rattle.part_texts.specs.Problems.{AreProblems, IsPartFault, part_fault_at, first_fault};
 
 use crate::fault::{PartFault, fault_of};
-use driver_parts::Driver;
+use drivers::driver_parts::Driver;
 use printed_problems::{Problem, problem};
 use std::alloc::Global;
 use tasks::{Store, Task};

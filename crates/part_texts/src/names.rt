@@ -9,8 +9,8 @@ ghost use Rattle.name_tables.specs.Spelling.{own_name};
 ghost use Rattle.part_texts.specs.Problems.{AreProblems};
 ghost use Rattle.part_texts.specs.Names.{entry_line, entry_words, is_operator_name, kind_word, name_text, name_texts, part_head, shown_name, shown_own, symbol_words, type_words};
 
-use driver_parts::Driver;
-use name_entries::{NameEntry, NameOf};
+use drivers::driver_parts::Driver;
+use name_tables::{NameEntry, NameOf};
 use printed_problems::Problem;
 use std::alloc::{AllocError, Global};
 use tasks::{Signature, Store, SymbolInfo, SymbolKind, Task};

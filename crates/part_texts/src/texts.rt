@@ -7,13 +7,13 @@ ghost use Rattle.printed_problems.specs.Made.{IsProblem};
 ghost use Rattle.part_texts.specs.Problems.{AreProblems};
 ghost use Rattle.part_texts.specs.Texts.{part_text, part_texts};
 
-use driver_items::Printer;
-use driver_parts::Driver;
+use crate::smt_texts::smt_text;
+use crate::tff_texts::tff_text;
+use drivers::driver_items::Printer;
+use drivers::driver_parts::Driver;
 use printed_problems::Problem;
-use smt_texts::smt_text;
 use std::alloc::{AllocError, Global};
 use tasks::{Store, Task};
-use tff_texts::tff_text;
 
 // The text of a part in the syntax of the driver's printer.
 fn part_text(

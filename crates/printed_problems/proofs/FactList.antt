@@ -4,11 +4,11 @@ use Rattle.std.specs.List.{list_any}
 use Rattle.std.specs.Option.{is_some}
 use Rattle.std.specs.Str.{bytes_eq}
 use Rattle.std.proofs.lemmas.List.{append-nil, map_more, drop_more, drop_all}
-use Rattle.trees.specs.Tree.{Tree}
+use Rattle.term_store.specs.trees.Tree.{Tree}
 use Rattle.tasks.specs.declared.declaration.Decl.{Decl}
 use Rattle.tasks.specs.Task.{BodyTree, MakesType, Makes, Defines, Induces, Constructs, Says, DeclarationTree, PropositionTree, props_of, said_by}
 use Rattle.tasks.specs.Meaning.{declaration_at, declarations_at}
-use Rattle.driver_items.specs.declared.kinds.Piece.{Piece}
+use Rattle.drivers.specs.declared.driver_items.kinds.Piece.{Piece}
 use Rattle.printed_problems.specs.Templates.{bytes_alone, template_in}
 use Rattle.printed_problems.specs.Problems.{is_of_theory, texts_where, formula_of}
 use Rattle.printed_problems.specs.Made.{text_if, said_formulas}

@@ -1,15 +1,15 @@
 -- The first fault of a list, one after the other.
 use Rattle.std.proofs.Common.{◌≡◌, ℕ, ◌+◌, ◌<◌, ◌≤◌, ◌==◌, true, not, if◌then◌else◌, List, [], ◌∷◌, ◌++◌, map, length, get_or, drop, Option, Some, None, refl, sym, ap, subst, ◌∙◌, Result, Ok, Err, OnOk, IfOk, IsErrAnd}
 use Rattle.std.proofs.lemmas.List.{drop_more, drop_all, map-append}
-use Rattle.trees.specs.declared.TermId.{TermId}
-use Rattle.trees.specs.Tree.{Tree, above_ty_vars}
-use Rattle.trees.specs.Node.{tree_at}
+use Rattle.term_store.specs.trees.declared.TermId.{TermId}
+use Rattle.term_store.specs.trees.Tree.{Tree, above_ty_vars}
+use Rattle.term_store.specs.trees.Node.{tree_at}
 use Rattle.tasks.specs.declared.declaration.Decl.{Decl}
 use Rattle.tasks.specs.Task.{TaskTree}
 use Rattle.tasks.specs.Meaning.{trees_at, declaration_at, declarations_at}
 use Rattle.name_tables.specs.Occurrences.{occurrences}
-use Rattle.driver_items.specs.Syntaxes.{syntax_of}
-use Rattle.driver_parts.specs.declared.driver.Driver.{Driver}
+use Rattle.drivers.specs.driver_items.Syntaxes.{syntax_of}
+use Rattle.drivers.specs.declared.driver_parts.driver.Driver.{Driver}
 use Rattle.printed_problems.specs.declared.fault.PrintFault.{PrintFault}
 use Rattle.printed_problems.specs.Faults.{has_forms, syntax_fault, print_fault_or_else, first_print_fault, printed_body_fault, printed_type_fault, formula_fault, declaration_faults, print_fault}
 use Rattle.printed_problems.specs.declared.fault.PrintFault.TheVariants.{Memory, Polymorphic, Unprintable, NoSyntax}

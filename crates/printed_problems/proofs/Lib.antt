@@ -1,4 +1,4 @@
-pub use Rattle.trees.proofs.plain_laws as plain_laws
+pub use Rattle.term_store.proofs.trees.plain_laws as plain_laws
 pub mod Finding
 pub mod First
 pub mod Forming

@@ -1,8 +1,8 @@
 -- What the calls promise that look for a fault.
 use Rattle.std.specs.Prelude.{◌≡◌, ℕ, Bool, true, ◌&&◌, if◌then◌else◌, List, [], ◌∷◌, get_or, IsTrue, Option, Some, None, Result, Ok, Err}
-use Rattle.trees.specs.Tree.{Tree, Leaf, One, Two, Three, HEnd}
-use Rattle.driver_items.specs.declared.kinds.Syntax.{Syntax}
-use Rattle.driver_items.specs.Syntaxes.{syntax_of}
+use Rattle.term_store.specs.trees.Tree.{Tree, Leaf, One, Two, Three, HEnd}
+use Rattle.drivers.specs.declared.driver_items.kinds.Syntax.{Syntax}
+use Rattle.drivers.specs.driver_items.Syntaxes.{syntax_of}
 use Rattle.tasks.specs.Task.{TaskTree}
 use Rattle.name_tables.specs.Tables.{problem_things}
 use Rattle.tasks.specs.Meaning.{task_at, TaskHeld}

@@ -1,10 +1,10 @@
 -- Why a task can't be printed: its first fault, declaration by declaration, then the types of the parameters, the locals, the goal.
 use Rattle.std.specs.Prelude.{ℕ, ◌+◌, ◌&&◌, ◌==◌, Bool, true, false, not, if◌then◌else◌, List, [], ◌∷◌, ◌++◌, map, length, Option, Some, None}
-use Rattle.trees.specs.Tree.{Tree, Leaf, One, Two, Three, Head, HLet, HIf, HCase, above_ty_vars}
-use Rattle.driver_items.specs.declared.kinds.Syntax.{Syntax}
-use Rattle.driver_items.specs.Syntaxes.{syntax_of}
-use Rattle.driver_items.specs.declared.kinds.Syntax.TheVariants.{Smt, Tff}
-use Rattle.driver_parts.specs.declared.driver.Driver.{Driver}
+use Rattle.term_store.specs.trees.Tree.{Tree, Leaf, One, Two, Three, Head, HLet, HIf, HCase, above_ty_vars}
+use Rattle.drivers.specs.declared.driver_items.kinds.Syntax.{Syntax}
+use Rattle.drivers.specs.driver_items.Syntaxes.{syntax_of}
+use Rattle.drivers.specs.declared.driver_items.kinds.Syntax.TheVariants.{Smt, Tff}
+use Rattle.drivers.specs.declared.driver_parts.driver.Driver.{Driver}
 use Rattle.tasks.specs.Task.{TaskTree, DeclarationTree, BodyTree, MakesType, Makes, Defines, Induces, Constructs, Says}
 use Rattle.name_tables.specs.Occurrences.{Occurrence, occurrences, in_type}
 use Rattle.name_tables.specs.Tables.{is_interpreted, problem_things}

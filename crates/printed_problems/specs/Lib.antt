@@ -1,5 +1,6 @@
-pub use Rattle.driver_parts.specs as driver_parts
+pub use Rattle.drivers.specs as drivers
 pub use Rattle.name_tables.specs as name_tables
+pub mod printed_terms
 pub mod Templates
 pub mod Problems
 pub mod Faults

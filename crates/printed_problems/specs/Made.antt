@@ -1,14 +1,14 @@
 -- What the calls promise that put a problem together.
 use Rattle.std.specs.Prelude.{◌≡◌, ℕ, Bool, true, false, if◌then◌else◌, List, [], ◌∷◌, ◌++◌, map, All, Option}
 use Rattle.std.specs.List.{list_any}
-use Rattle.trees.specs.declared.TermId.{TermId}
-use Rattle.trees.specs.Tree.{Tree}
-use Rattle.trees.specs.Node.{tree_at, Holds}
+use Rattle.term_store.specs.trees.declared.TermId.{TermId}
+use Rattle.term_store.specs.trees.Tree.{Tree}
+use Rattle.term_store.specs.trees.Node.{tree_at, Holds}
 use Rattle.tasks.specs.Task.{BodyTree, DeclarationTree, Says, props_of}
 use Rattle.tasks.specs.Meaning.{trees_at, declarations_at, task_at}
 use Rattle.tasks.specs.declared.declaration.Decl.{Decl}
 use Rattle.tasks.specs.declared.task.Task.{Task}
-use Rattle.driver_parts.specs.declared.driver.Driver.{Driver}
+use Rattle.drivers.specs.declared.driver_parts.driver.Driver.{Driver}
 use Rattle.printed_problems.specs.declared.printed.Problem.{Problem}
 use Rattle.printed_problems.specs.Problems.{is_of_theory, general, of_theories, texts_where, formula_of, preludes, ProblemTree}
 

@@ -1,9 +1,9 @@
 -- Templates of a driver (Why3 manual, "Drivers"): how a symbol is printed where it isn't by its name.
 use Rattle.std.specs.Prelude.{ℕ, ◌==◌, Bool, if◌then◌else◌, List, [], ◌∷◌, ◌++◌, get_or, Option, Some, None}
 use Rattle.std.specs.Option.{is_some}
-use Rattle.driver_items.specs.declared.kinds.Piece.{Piece}
-use Rattle.driver_items.specs.declared.kinds.Piece.TheVariants.{Literal, Argument}
-use Rattle.driver_parts.specs.declared.driver.Driver.{Driver}
+use Rattle.drivers.specs.declared.driver_items.kinds.Piece.{Piece}
+use Rattle.drivers.specs.declared.driver_items.kinds.Piece.TheVariants.{Literal, Argument}
+use Rattle.drivers.specs.declared.driver_parts.driver.Driver.{Driver}
 
 -- a template without arguments
 abbrev pub bytes_alone : Option (List ℕ) → Option (List Piece)

@@ -1,10 +1,10 @@
 -- What is asked of the things of a table.
 use Rattle.std.specs.Prelude.{◌≡◌, ℕ, Bool, if◌then◌else◌, List, [], ◌∷◌}
-use Rattle.trees.specs.Tree.{Tree}
+use Rattle.term_store.specs.trees.Tree.{Tree}
 use Rattle.tasks.specs.Task.{TaskTree, symbol_or}
 use Rattle.tasks.specs.Meaning.{symbols_at, task_at}
 use Rattle.tasks.specs.declared.task.Task.{Task}
-use Rattle.driver_parts.specs.declared.driver.Driver.{Driver}
+use Rattle.drivers.specs.declared.driver_parts.driver.Driver.{Driver}
 use Rattle.name_tables.specs.Occurrences.{Occurrence, occurrence}
 use Rattle.name_tables.specs.Seen.{seen_occurrences}
 use Rattle.printed_problems.specs.declared.places.Question.{Question}

@@ -1,15 +1,14 @@
 // Whether a printer has all forms of a term. A term that is shared is looked at once.
 ghost use Rattle.std.specs.Prelude.{◌≡◌, IfOk};
-ghost use Rattle.trees.specs.Node.{tree_at, head_of_node, Holds};
-ghost use Rattle.driver_items.specs.Syntaxes.{syntax_of};
+ghost use Rattle.term_store.specs.trees.Node.{tree_at, head_of_node, Holds};
+ghost use Rattle.drivers.specs.driver_items.Syntaxes.{syntax_of};
 ghost use Rattle.printed_problems.specs.Faults.{is_smt, has_head, has_forms};
 ghost use Rattle.printed_problems.specs.Checks.{HaveForms, LooksAt, parts_have_forms};
 
-use driver_items::{Printer, Syntax, syntax_of};
+use drivers::driver_items::{Printer, Syntax, syntax_of};
 use indexmap::IndexSet;
 use std::alloc::AllocError;
-use term_store::Store;
-use trees::{Node, Parts, TermId};
+use term_store::{Node, Parts, Store, TermId};
 
 fn is_smt(printer: Printer) -> bool
     ensures { result ≡ is_smt (syntax_of printer) }

@@ -10,9 +10,10 @@ mod forms;
 mod making;
 mod places;
 mod printed;
+pub mod printed_terms;
 mod templates;
 
-pub use driver_parts::Driver;
+pub use drivers::driver_parts::Driver;
 pub use fault::PrintFault;
 pub use making::problem;
 pub use name_tables::task_names;

@@ -3,7 +3,7 @@ ghost use Rattle.std.specs.Prelude.{◌≡◌, IfOk};
 ghost use Rattle.printed_problems.specs.Tests.{IsKindOf, IsQuestionAnswered, ArePlaces};
 
 use crate::templates::has_template;
-use driver_parts::Driver;
+use drivers::driver_parts::Driver;
 use name_tables::{Things, is_interpreted};
 use std::alloc::{AllocError, Global};
 use tasks::{SymbolKind, Task};

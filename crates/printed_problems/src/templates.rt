@@ -3,8 +3,8 @@ ghost use Rattle.std.specs.Prelude.{◌≡◌, ◌==◌};
 ghost use Rattle.std.specs.List.{list_any};
 ghost use Rattle.printed_problems.specs.Templates.{has_template};
 
-use driver_items::Piece;
-use driver_parts::Driver;
+use drivers::driver_items::Piece;
+use drivers::driver_parts::Driver;
 use tasks::Seq;
 
 fn has_entry(templates: &[(usize, Seq<Piece>)], symbol: usize) -> bool

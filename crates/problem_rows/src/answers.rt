@@ -5,16 +5,16 @@ ghost use Rattle.printed_problems.specs.Made.{ProblemHeld};
 use crate::given::{Given, bytes_of, library, number_of, theories};
 use crate::held::read_task;
 use crate::showing::{put_bytes, put_fault, put_names};
-use driver_files::read_driver;
-use driver_items::Printer;
-use driver_parts::Driver;
+use drivers::driver_files::read_driver;
+use drivers::driver_items::Printer;
+use drivers::driver_parts::Driver;
 use name_tables::{problem_names, task_names};
+use part_texts::smt_texts::smt_text;
+use part_texts::tff_texts::tff_text;
 use printed_problems::{Problem, problem};
-use smt_texts::smt_text;
 use std::alloc::{AllocError, Global};
 use tasks::Task;
 use term_store::Store;
-use tff_texts::tff_text;
 
 /// A part, counted from 1, and the number of parts.
 type Counts = (usize, usize);

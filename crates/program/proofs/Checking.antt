@@ -2,9 +2,9 @@
 use Rattle.std.proofs.Common.{◌≡◌, ◌+◌, ◌∙◌, ℕ, zero, suc, List, [], ◌∷◌, Option, Some, None, IsSomeAnd, sym, ap, refl}
 use Rattle.tasks.specs.Task.{TaskTree}
 use Rattle.rule_rows.specs.Trees.{StepTree}
-use Rattle.written_files.specs.name_entries.declared.names.NameEntry.{NameEntry}
-use Rattle.written_files.specs.step_files.Words.{lines_of}
-use Rattle.written_files.specs.step_files.Lines.{Reading, nothing_read, line_thing, IsGood, reading_with, AreRead, IsWrongLine, StepsOf, FirstWrong}
+use Rattle.step_writing.specs.name_entries.declared.names.NameEntry.{NameEntry}
+use Rattle.step_writing.specs.step_reading.Words.{lines_of}
+use Rattle.step_writing.specs.step_reading.Lines.{Reading, nothing_read, line_thing, IsGood, reading_with, AreRead, IsWrongLine, StepsOf, FirstWrong}
 
 some_both : {A : Type 0} (o : Option A) (P Q : A → Type 0) (C : Type 0) → IsSomeAnd o P → IsSomeAnd o Q → ((x : A) → P x → Q x → C) → C
 some_both None P Q C p q f = absurd p

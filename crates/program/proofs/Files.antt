@@ -14,15 +14,15 @@ use Rattle.tasks.proofs.Growth.{map_agree, task_later, task_held_later}
 use Rattle.rule_rows.specs.declared.rule.Step.{Step}
 use Rattle.rule_rows.specs.Trees.{StepTree}
 use Rattle.rule_rows.specs.Meaning.{steps_at, StepsHeld}
-use Rattle.written_files.proofs.kernel.Growth.{steps_later, steps_held_later}
+use Rattle.step_writing.proofs.kernel.Growth.{steps_later, steps_held_later}
 use Rattle.stages.specs.evidence.Stages.{task_or, no_task, parts_at, part_or, PartsHeld, PartsClose}
-use Rattle.written_files.specs.kernel.Right.{Closes}
-use Rattle.part_texts.specs.driver_parts.declared.driver.Driver.{Driver}
+use Rattle.step_writing.specs.kernel.Right.{Closes}
+use Rattle.part_texts.specs.drivers.declared.driver_parts.driver.Driver.{Driver}
 use Rattle.statuses.specs.fault_order.Answers.{Answers}
 use Rattle.statuses.specs.fault_order.Order.{StageMeaning, Answer, After}
 use Rattle.program.specs.Order.{PartFile, FirstFiles, name_with_number}
-use Rattle.statuses.specs.fault_order.declared.faults.RunFault.{RunFault}
-use Rattle.statuses.specs.fault_order.declared.faults.RunFault.TheVariants as run_fault
+use Rattle.statuses.specs.declared.fault_order.faults.RunFault.{RunFault}
+use Rattle.statuses.specs.declared.fault_order.faults.RunFault.TheVariants as run_fault
 use Rattle.statuses.proofs.fault_order.Meeting.{answers_then, answers_stop, answers_value, still_twice}
 
 module _ (s s' : List Tree) (g : Grows s s') where

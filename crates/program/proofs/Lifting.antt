@@ -4,18 +4,18 @@ use Rattle.std.proofs.lemmas.Bool.Decides.{nat_tests}
 use Rattle.statuses.specs.outside.State.{LibraryState}
 use Rattle.tasks.specs.Task.{TaskTree}
 use Rattle.rule_rows.specs.Trees.{StepTree}
-use Rattle.written_files.specs.name_tables.Tables.{task_names}
-use Rattle.written_files.specs.step_files.Lines.{StepsOf}
+use Rattle.step_writing.specs.name_tables.Tables.{task_names}
+use Rattle.step_writing.specs.step_reading.Lines.{StepsOf}
 use Rattle.stages.specs.Lifted.{HandedHasSequents}
 use Rattle.program.specs.Lifted.{IsLifted}
-use Rattle.part_texts.specs.driver_parts.declared.driver.Driver.{Driver}
+use Rattle.part_texts.specs.drivers.declared.driver_parts.driver.Driver.{Driver}
 use Rattle.statuses.specs.fault_order.Answers.{Answers, IsStageAnswer}
 use Rattle.statuses.specs.fault_order.Order.{RunStop, refused, StageMeaning, Answer}
 use Rattle.source_goals.specs.Order.{GoalSettingTree}
 use Rattle.program.specs.Order.{if_counted, FirstFiles, Lifts, Handed, PrintableParts, RefutationsRead, Lifting}
-use Rattle.statuses.specs.fault_order.declared.faults.Fault.TheVariants.{PartCount}
-use Rattle.statuses.specs.fault_order.declared.faults.RunFault.{RunFault}
-use Rattle.statuses.specs.fault_order.declared.faults.RunFault.TheVariants as run_fault
+use Rattle.statuses.specs.declared.fault_order.faults.Fault.TheVariants.{PartCount}
+use Rattle.statuses.specs.declared.fault_order.faults.RunFault.{RunFault}
+use Rattle.statuses.specs.declared.fault_order.faults.RunFault.TheVariants as run_fault
 use Rattle.statuses.proofs.fault_order.Meeting.{answers_then, answers_stop, answers_value, answers_refused}
 use Rattle.statuses.proofs.fault_order.Stages.{answers_stage}
 

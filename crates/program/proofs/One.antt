@@ -4,9 +4,9 @@ use Rattle.statuses.specs.outside.State.{Files, LibraryState}
 use Rattle.tasks.specs.Task.{TaskTree}
 use Rattle.rule_rows.specs.Trees.{StepTree}
 use Rattle.stages.specs.evidence.Stages.{task_or}
-use Rattle.written_files.specs.name_entries.declared.names.NameEntry.{NameEntry}
-use Rattle.written_files.specs.name_tables.Tables.{task_names}
-use Rattle.part_texts.specs.driver_parts.declared.driver.Driver.{Driver}
+use Rattle.step_writing.specs.name_entries.declared.names.NameEntry.{NameEntry}
+use Rattle.step_writing.specs.name_tables.Tables.{task_names}
+use Rattle.part_texts.specs.drivers.declared.driver_parts.driver.Driver.{Driver}
 use Rattle.part_texts.specs.printed_problems.Problems.{problem_of}
 use Rattle.part_texts.specs.declared.fault.PartFault.{PartFault}
 use Rattle.part_texts.specs.declared.fault.PartFault.TheVariants as part_fault
@@ -17,8 +17,8 @@ use Rattle.stages.specs.Listing.{stages_of}
 use Rattle.part_texts.specs.Texts.{part_texts}
 use Rattle.part_texts.specs.Names.{name_texts}
 use Rattle.statuses.specs.fault_order.Answers.{IsWholeAnswer, EndsAs}
-use Rattle.statuses.specs.fault_order.declared.faults.RunFault.{RunFault}
-use Rattle.statuses.specs.fault_order.declared.faults.RunFault.TheVariants as run_fault
+use Rattle.statuses.specs.declared.fault_order.faults.RunFault.{RunFault}
+use Rattle.statuses.specs.declared.fault_order.faults.RunFault.TheVariants as run_fault
 use Rattle.statuses.specs.fault_order.Order.{RunStop, refused, absent, misused, Stage, StageMeaning, Answer, After, fetched, if_short, ShortFile, WholeFile, HasOneAnswer}
 use Rattle.source_goals.specs.Order.{Goal, GoalSettingTree, GoalUnder, AreDetermined}
 use Rattle.program.specs.Order.{or_stage_refused, Carried, Printable, PrintableParts, ProblemTexts, ProblemTables, PrintText, NamesText, accepted, AreSteps, Checks, Derivation, CheckText, if_counted, RefutesPart, PartFile, name_with_number, FirstFiles, Lifts, Handed, RefutationsRead, Lifting, LiftText, StressText, word_with_number, TextOf, AnswerBy, AnswerOf}
@@ -28,7 +28,7 @@ use Rattle.source_goals.proofs.OneSource.{one_goal, one_short_file}
 use Rattle.source_goals.proofs.OneSetting.{one_setting}
 use Rattle.program.proofs.Checking.{one_outcome, one_wrong, one_list}
 use Rattle.statuses.specs.Words.{command_of}
-use Rattle.statuses.specs.fault_order.declared.faults.Fault.TheVariants.{Polymorphic, Unprintable, NoSyntax, WrongLine}
+use Rattle.statuses.specs.declared.fault_order.faults.Fault.TheVariants.{Polymorphic, Unprintable, NoSyntax, WrongLine}
 use Rattle.statuses.specs.declared.words.Command.{Command}
 use Rattle.statuses.specs.declared.words.Command.TheVariants.{Print, Names, Check, Lift, Stress}
 use Rattle.tasks.proofs.plain_laws.Options.{if_some as told}

@@ -1,7 +1,7 @@
 -- The parts of a task, as steps of a run.
 use Rattle.std.proofs.Common.{◌≡◌, ℕ, List, None, Result, Ok, Err, refl, ap, sym, map}
 use Rattle.tasks.specs.Task.{TaskTree}
-use Rattle.part_texts.specs.driver_parts.declared.driver.Driver.{Driver}
+use Rattle.part_texts.specs.drivers.declared.driver_parts.driver.Driver.{Driver}
 use Rattle.stages.specs.declared.fault.CarryFault.{CarryFault}
 use Rattle.stages.specs.declared.fault.CarryFault.TheVariants as of_carry
 use Rattle.stages.specs.transformations.Transformations.{equation_of}

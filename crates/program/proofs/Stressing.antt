@@ -6,8 +6,8 @@ use Rattle.statuses.specs.fault_order.Answers.{EndsAs}
 use Rattle.statuses.proofs.fault_order.Meeting.{told_all}
 use Rattle.statuses.specs.declared.words.Command.{Command}
 use Rattle.statuses.specs.declared.words.Command.TheVariants.{Stress}
-use Rattle.statuses.specs.fault_order.declared.faults.Fault.{Fault}
-use Rattle.statuses.specs.fault_order.declared.faults.RunFault.TheVariants as run_fault
+use Rattle.statuses.specs.declared.fault_order.faults.Fault.{Fault}
+use Rattle.statuses.specs.declared.fault_order.faults.RunFault.TheVariants as run_fault
 use Rattle.statuses.specs.Lines.{status_line}
 use Rattle.statuses.specs.declared.status.Status.TheVariants as status
 use Rattle.stress_gen.specs.Files.{refutation_names, stress_files, accepted_text}

@@ -3,8 +3,8 @@ use Rattle.std.specs.Prelude.{ℕ, List, None, map}
 use Rattle.tasks.specs.trees.Tree.{Tree}
 use Rattle.tasks.specs.Task.{TaskTree}
 use Rattle.rule_rows.specs.Trees.{StepTree}
-use Rattle.written_files.specs.name_tables.Tables.{task_names}
-use Rattle.written_files.specs.step_files.Lines.{StepsOf}
+use Rattle.step_writing.specs.name_tables.Tables.{task_names}
+use Rattle.step_writing.specs.step_reading.Lines.{StepsOf}
 use Rattle.tasks.specs.Meaning.{tasks_at}
 use Rattle.stages.specs.evidence.Stages.{PartsClose, PartsHeld, parts_at}
 use Rattle.stages.specs.transformations.Transformations.{equation_of}

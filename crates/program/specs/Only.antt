@@ -2,8 +2,8 @@
 use Rattle.std.specs.Prelude.{◌≡◌, None, Result, Ok, Err, IfSome}
 use Rattle.statuses.specs.outside.State.{Files, LibraryState}
 use Rattle.statuses.specs.fault_order.Order.{RunStop, refused, absent, StageMeaning}
-use Rattle.statuses.specs.fault_order.declared.faults.RunFault.{RunFault}
-use Rattle.statuses.specs.fault_order.declared.faults.RunFault.TheVariants as run_fault
+use Rattle.statuses.specs.declared.fault_order.faults.RunFault.{RunFault}
+use Rattle.statuses.specs.declared.fault_order.faults.RunFault.TheVariants as run_fault
 
 -- over these files a meaning has this answer at most
 abbrev pub IsDueAlone : {A : Type 0} → StageMeaning A → Result A RunStop → Files → Type 0

@@ -12,9 +12,9 @@ use Rattle.stages.specs.declared.fault.CarryFault.{CarryFault}
 use Rattle.stages.specs.declared.fault.CarryFault.TheVariants as of_carry
 use Rattle.part_texts.specs.declared.fault.PartFault.{PartFault}
 use Rattle.part_texts.specs.declared.fault.PartFault.TheVariants as of_part
-use Rattle.statuses.specs.fault_order.declared.faults.Fault.TheVariants as fault
-use Rattle.statuses.specs.fault_order.declared.faults.RunFault.{RunFault}
-use Rattle.statuses.specs.fault_order.declared.faults.RunFault.TheVariants as run_fault
+use Rattle.statuses.specs.declared.fault_order.faults.Fault.TheVariants as fault
+use Rattle.statuses.specs.declared.fault_order.faults.RunFault.{RunFault}
+use Rattle.statuses.specs.declared.fault_order.faults.RunFault.TheVariants as run_fault
 use Rattle.source_goals.specs.Order.{GoalSettingTree, setting_of}
 use Rattle.source_goals.specs.declared.setting.GoalSetting.{GoalSetting}
 use Rattle.program.specs.declared.parts.PartProblems.{PartProblems}

@@ -9,8 +9,8 @@ use crate::steps::read_steps;
 use source_goals::find_task;
 use statuses::{Library, RunFault, fetch_whole};
 use std::alloc::Global;
+use step_writing::task_names;
 use tasks::{Store, Task};
-use written_files::task_names;
 
 // Reads a derivation of a task to its end.
 fn check_steps(

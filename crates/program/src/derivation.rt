@@ -12,8 +12,8 @@ use rule_rows::Step;
 use stages::{Derived, lift};
 use statuses::Seq;
 use std::alloc::{AllocError, Global};
+use step_writing::write_derivation;
 use tasks::{Store, Task};
-use written_files::write_derivation;
 
 /// A task carried through the stages of a driver, with refutations of its parts.
 #[derive(Drop)]

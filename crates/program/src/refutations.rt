@@ -9,7 +9,7 @@ ghost use Rattle.part_texts.specs.printed_problems.Problems.{problem_of};
 ghost use Rattle.part_texts.specs.Problems.{AreProblems};
 ghost use Rattle.statuses.specs.fault_order.Answers.{Answers};
 ghost use Rattle.program.specs.Order.{PartFile, FirstFiles};
-ghost use Rattle.written_files.specs.kernel.Right.{Closes};
+ghost use Rattle.step_writing.specs.kernel.Right.{Closes};
 ghost use Rattle.stages.specs.evidence.Stages.{PartsClose};
 ghost use Rattle.program.specs.Values.{steps_in, handed_in};
 
@@ -18,8 +18,8 @@ use part_texts::{Driver, Problem};
 use rule_rows::Step;
 use statuses::{Library, RunFault, Seq, fetch_short};
 use std::alloc::Global;
+use step_writing::NameEntry;
 use tasks::{Store, Task};
-use written_files::NameEntry;
 
 // The greatest height of a formula in a file of refutations.
 const TALLEST: u64 = 2000;

@@ -4,7 +4,7 @@ ghost use Rattle.std.specs.Prelude.{IfOk};
 ghost use Rattle.tasks.specs.trees.Node.{Grows};
 ghost use Rattle.tasks.specs.Meaning.{task_at, TaskHeld};
 ghost use Rattle.rule_rows.specs.Meaning.{steps_at, StepsHeld};
-ghost use Rattle.written_files.specs.kernel.Right.{Closes};
+ghost use Rattle.step_writing.specs.kernel.Right.{Closes};
 ghost use Rattle.statuses.specs.fault_order.Answers.{IsStageAnswer};
 ghost use Rattle.program.specs.Order.{AreSteps};
 ghost use Rattle.program.specs.Values.{steps_in};
@@ -12,8 +12,8 @@ ghost use Rattle.program.specs.Values.{steps_in};
 use rule_rows::Step;
 use statuses::{Fault, RunFault};
 use std::alloc::Global;
+use step_writing::{NameEntry, ReadFault, read_whole};
 use tasks::{Store, Task};
-use written_files::{NameEntry, ReadFault, read_whole};
 
 /// The steps of a file's bytes, which derive a task. The first wrong line is refused (91), as one of the part with this number.
 pub(crate) fn read_steps(

@@ -19,8 +19,8 @@ use Rattle.name_tables.specs.name_entries.declared.names.NameOf.TheVariants.{Rig
 use Rattle.name_tables.specs.name_entries.declared.names.NameEntry.{NameEntry}
 use Rattle.name_tables.specs.Occurrences.{Occurrence, whole_occurrence}
 use Rattle.name_tables.specs.Tables.{occurrence_place}
-use Rattle.printed_terms.specs.printed_problems.Templates.{has_template}
-use Rattle.s_expressions.specs.Sexps.{Sexp, SexpWord, Group, Nothing, Then}
+use Rattle.printed_problems.specs.Templates.{has_template}
+use Rattle.smt_law.specs.s_expressions.Sexps.{Sexp, SexpWord, Group, Nothing, Then}
 use Rattle.smt_law.specs.Plain.{begins_number, is_local, syntax_words, is_reserved, is_type, arity}
 use Rattle.smt_law.specs.Reading.{tree_as_read}
 use Rattle.smt_law.proofs.Forms.{Known, word_of}

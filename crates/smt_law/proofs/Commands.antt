@@ -3,9 +3,9 @@ use Rattle.std.proofs.Common.{◌≡◌, ℕ, ◌+◌, List, [], ◌∷◌, ◌+
 use Rattle.std.specs.Fmt.{decimal}
 use Rattle.tasks.specs.trees.Tree.{Tree}
 use Rattle.name_tables.specs.Tables.{thing_of}
-use Rattle.printed_terms.specs.Texts.{parameter}
-use Rattle.smt_texts.specs.Text.{smt_parameter_line}
-use Rattle.s_expressions.specs.Sexps.{Sexp, SexpWord, Group, Nothing, Then, write_sexp, lines}
+use Rattle.printed_problems.specs.printed_terms.Texts.{parameter}
+use Rattle.part_texts.specs.smt_texts.Text.{smt_parameter_line}
+use Rattle.smt_law.specs.s_expressions.Sexps.{Sexp, SexpWord, Group, Nothing, Then, write_sexp, lines}
 use Rattle.smt_law.proofs.Forms.{Known, word_of, read}
 
 abbrev pub command : List ℕ → Sexp → Sexp

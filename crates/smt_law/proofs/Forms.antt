@@ -5,12 +5,12 @@ use Rattle.tasks.specs.trees.declared.Op.{Op}
 use Rattle.tasks.specs.trees.declared.Op.TheVariants.{And, AndThen, Or, OrElse, Imp, Iff}
 use Rattle.tasks.specs.trees.Tree.{Tree, Leaf, One, Two, Three, Head, HCell, HBound, HParam, HNum, HFun, HPred, HEq, HTrue, HFalse, HNot, HJoin, HForall, HExists, HLet, HIf}
 use Rattle.tasks.specs.Vocabulary.{Vocabulary}
-use Rattle.driver_files.specs.driver_items.declared.kinds.Syntax.TheVariants.{Smt}
+use Rattle.printed_problems.specs.drivers.declared.driver_items.kinds.Syntax.TheVariants.{Smt}
 use Rattle.name_tables.specs.Occurrences.{Occurrence, occurrence}
 use Rattle.name_tables.specs.Tables.{thing_of}
-use Rattle.printed_terms.specs.printed_problems.Templates.{has_template}
-use Rattle.printed_terms.specs.Texts.{Printing, printed_name, variable_text, parameter, depth_under}
-use Rattle.s_expressions.specs.Sexps.{Sexp, SexpWord, Group, Nothing, Then}
+use Rattle.printed_problems.specs.Templates.{has_template}
+use Rattle.printed_problems.specs.printed_terms.Texts.{Printing, printed_name, variable_text, parameter, depth_under}
+use Rattle.smt_law.specs.s_expressions.Sexps.{Sexp, SexpWord, Group, Nothing, Then}
 use Rattle.smt_law.specs.Plain.{Words}
 
 -- what a reader of a text knows: how it was printed, the words of templates, the signature, and the types of the parameters

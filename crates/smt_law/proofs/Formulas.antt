@@ -17,17 +17,17 @@ use Rattle.tasks.specs.Task.{symbol_or}
 use Rattle.tasks.specs.Typing.{members, option_list, bound_types, IsUse, HasResult, MakesTerms}
 use Rattle.tasks.specs.Equations.{cells}
 use Rattle.tasks.proofs.Closing.{typed_sorted}
-use Rattle.driver_files.specs.driver_items.declared.kinds.Syntax.{Syntax}
-use Rattle.driver_files.specs.driver_items.declared.kinds.Syntax.TheVariants.{Smt}
+use Rattle.printed_problems.specs.drivers.declared.driver_items.kinds.Syntax.{Syntax}
+use Rattle.printed_problems.specs.drivers.declared.driver_items.kinds.Syntax.TheVariants.{Smt}
 use Rattle.name_tables.specs.Occurrences.{occurrence, in_type, in_types_of, occurrences, of_two}
 use Rattle.name_tables.specs.Tables.{thing_of}
-use Rattle.printed_terms.specs.printed_problems.Problems.{is_kind}
-use Rattle.printed_terms.specs.Words.{truth_text}
-use Rattle.printed_terms.specs.declared.words.Form.TheVariants.{Negation, Connected, Conditional}
-use Rattle.printed_terms.specs.declared.words.Binder.TheVariants.{ForAll, ThereIs, LetIn}
-use Rattle.printed_terms.specs.Texts.{symbol_text, equality_text, form_text, bound_text, variable_text, parameter, leaf_text, one_text, two_text, three_text, printed, depth_under}
-use Rattle.printed_terms.proofs.Members.{printed_members}
-use Rattle.s_expressions.specs.Sexps.{Sexp, SexpWord, Group, Nothing, Then, IsWord, IsOne, IsProperList}
+use Rattle.printed_problems.specs.Problems.{is_kind}
+use Rattle.printed_problems.specs.printed_terms.Words.{truth_text}
+use Rattle.printed_problems.specs.declared.printed_terms.words.Form.TheVariants.{Negation, Connected, Conditional}
+use Rattle.printed_problems.specs.declared.printed_terms.words.Binder.TheVariants.{ForAll, ThereIs, LetIn}
+use Rattle.printed_problems.specs.printed_terms.Texts.{symbol_text, equality_text, form_text, bound_text, variable_text, parameter, leaf_text, one_text, two_text, three_text, printed, depth_under}
+use Rattle.printed_problems.proofs.printed_terms.Members.{printed_members}
+use Rattle.smt_law.specs.s_expressions.Sexps.{Sexp, SexpWord, Group, Nothing, Then, IsWord, IsOne, IsProperList}
 use Rattle.smt_law.specs.Plain.{arity}
 use Rattle.smt_law.specs.Reading.{read_op, tree_as_read}
 use Rattle.smt_law.proofs.Forms.{Known, called, two_called, word_of, bound_read, op_word, leaf_read, one_read, two_read, three_read, read}
@@ -182,7 +182,7 @@ module _ (c : Known) (r : IsReader c) (d : ℕ) (types : List Tree) where
   function_is_used k ts args type i = let u = function_used k ts args type i in used_by c k ts args (term_no_type (symbol_or c.vocabulary.symbols k).kind u.0) u.1
 
   symbol_writes : (k : ℕ) (ts args : Tree) → IsUsed c k ts args → Writes (printed c.printing d args) (read c d args)
-      → symbol_text c.printing (occurrence k ts) (printed c.printing d args).members ≡ Rattle.s_expressions.specs.Sexps.write_sexp (called (word_of c (occurrence k ts)) (read c d args).members)
+      → symbol_text c.printing (occurrence k ts) (printed c.printing d args).members ≡ Rattle.smt_law.specs.s_expressions.Sexps.write_sexp (called (word_of c (occurrence k ts)) (read c d args).members)
   symbol_writes k ts args u t =
       let n : length (texts_of (read c d args).members) ≡ arity c.vocabulary.symbols k =
       ap length (sym t.members) ∙ ap length (printed_members c.printing d args) ∙ length-map (members args) (λ e. (printed c.printing d e).text) ∙ u.fit in

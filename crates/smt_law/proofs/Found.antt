@@ -14,18 +14,18 @@ use Rattle.tasks.specs.Typing.{members, TypedUnder}
 use Rattle.tasks.proofs.Closing.{typed_sorted}
 use Rattle.linear_leaf.specs.Valuations.{same_tree}
 use Rattle.linear_leaf.proofs.SameTree.{same_is}
-use Rattle.driver_files.specs.driver_items.declared.kinds.Piece.{Piece}
-use Rattle.driver_files.specs.driver_items.Syntaxes.{syntax_of}
-use Rattle.driver_files.specs.driver_items.declared.kinds.Syntax.TheVariants.{Smt}
+use Rattle.printed_problems.specs.drivers.declared.driver_items.kinds.Piece.{Piece}
+use Rattle.printed_problems.specs.drivers.driver_items.Syntaxes.{syntax_of}
+use Rattle.printed_problems.specs.drivers.declared.driver_items.kinds.Syntax.TheVariants.{Smt}
 use Rattle.name_tables.specs.name_entries.declared.names.NameEntry.{NameEntry}
 use Rattle.name_tables.specs.Occurrences.{Occurrence, occurrence, whole_occurrence, in_type}
 use Rattle.name_tables.specs.Tables.{is_same, occurrence_place, thing_of}
 use Rattle.name_tables.specs.Seen.{has, AreIn}
 use Rattle.name_tables.proofs.Gathering.{same_occurrence, same_itself}
-use Rattle.printed_terms.specs.printed_problems.Templates.{template_of, has_template}
-use Rattle.printed_terms.specs.printed_problems.Problems.{is_kind}
-use Rattle.printed_terms.specs.Texts.{printed_name, text_of_entry, sort_text, by_template, printed_sort, name_at}
-use Rattle.printed_terms.proofs.Members.{sort_members}
+use Rattle.printed_problems.specs.Templates.{template_of, has_template}
+use Rattle.printed_problems.specs.Problems.{is_kind}
+use Rattle.printed_problems.specs.printed_terms.Texts.{printed_name, text_of_entry, sort_text, by_template, printed_sort, name_at}
+use Rattle.printed_problems.proofs.printed_terms.Members.{sort_members}
 use Rattle.smt_law.specs.Plain.{IsFreeWord, IsPlainWord, ArePlain, EqualityIsPlain, is_type, arity}
 use Rattle.smt_law.proofs.Forms.{Known, word_of}
 use Rattle.smt_law.proofs.Back.{first_where, at_none, is_called, is_type_called, is_symbol_called, is_rigid, type_at, type_called}

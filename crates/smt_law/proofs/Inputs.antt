@@ -6,11 +6,11 @@ use Rattle.tasks.specs.Typing.{TypedUnder, bound_types}
 use Rattle.tasks.specs.Valid.{ParametersOf}
 use Rattle.tasks.proofs.Counts.{bound_count}
 use Rattle.tasks.proofs.Closing.{typed_sorted}
-use Rattle.driver_files.specs.driver_items.declared.kinds.Syntax.TheVariants.{Smt}
+use Rattle.printed_problems.specs.drivers.declared.driver_items.kinds.Syntax.TheVariants.{Smt}
 use Rattle.name_tables.specs.Occurrences.{of_one, of_two, of_three, occurrences}
 use Rattle.name_tables.specs.Seen.{AreIn}
-use Rattle.printed_terms.specs.printed_problems.Faults.{has_head, has_forms}
-use Rattle.printed_terms.specs.Texts.{depth_under}
+use Rattle.printed_problems.specs.Faults.{has_head, has_forms}
+use Rattle.printed_problems.specs.printed_terms.Texts.{depth_under}
 use Rattle.smt_law.specs.Law.{LiteralsFit}
 use Rattle.smt_law.proofs.Forms.{Known}
 use Rattle.smt_law.proofs.Found.{in_first, in_rest}

@@ -1,7 +1,7 @@
 -- Two problems with one text: the expressions that they assert, and the types of their parameters.
 use Rattle.std.proofs.Common.{◌≡◌, ℕ, ◌+◌, Bool, true, false, if◌then◌else◌, List, [], ◌∷◌, ◌++◌, map, length, drop, get_or, codes, bytes_eq, refl, sym, ap, ◌∙◌, length-append, arith}
 use Rattle.tasks.specs.trees.Tree.{Tree}
-use Rattle.s_expressions.specs.Sexps.{Sexp, SexpWord, Group, Nothing, Then}
+use Rattle.smt_law.specs.s_expressions.Sexps.{Sexp, SexpWord, Group, Nothing, Then}
 use Rattle.smt_law.proofs.Forms.{Known}
 use Rattle.smt_law.proofs.Commands.{assertion, negated, formula_read, type_word, parameter_command, parameter_commands, assertions, ending, commands}
 

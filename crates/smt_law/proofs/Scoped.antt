@@ -6,7 +6,7 @@ use Rattle.std.proofs.lemmas.List.Elements.{All-weaker}
 use Rattle.tasks.specs.Task.{SymbolTree}
 use Rattle.tasks.specs.Words.{is_name_byte, has_no_number, IsScopedName}
 use Rattle.name_tables.specs.Spelling.{behind_dots, own_name}
-use Rattle.s_expressions.specs.Sexps.{breaks}
+use Rattle.smt_law.specs.s_expressions.Sexps.{breaks}
 use Rattle.smt_law.specs.Plain.{is_decimal_digit}
 use Rattle.smt_law.specs.Law.{begins_digit, IsOrdinary, ScopedNamesAreSpelt}
 use Rattle.smt_law.proofs.Words.{or_false}

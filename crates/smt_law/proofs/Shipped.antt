@@ -3,22 +3,22 @@ use Rattle.std.proofs.Common.{◌≡◌, ◌≢◌, ◌⊎◌, inl, inr, ℕ, ze
 use Rattle.std.specs.Option.{is_some}
 use Rattle.std.specs.List.{list_any}
 use Rattle.std.proofs.lemmas.Slice.Eq.{bytes_eq-Decides}
-use Rattle.printed_terms.specs.printed_problems.Problems.{is_kind}
+use Rattle.printed_problems.specs.Problems.{is_kind}
 use Rattle.std.specs.Fmt.{decimal}
 use Rattle.std.proofs.lemmas.Bool.Decides.{Decides-eqb}
 use Rattle.std.proofs.lemmas.Option.{get_or_from_slice_get}
 use Rattle.tasks.specs.trees.declared.ints.Ints.{Ints}
-use Rattle.driver_files.specs.driver_items.declared.kinds.Piece.{Piece}
-use Rattle.driver_files.specs.driver_items.declared.kinds.Piece.TheVariants.{Literal, Argument}
-use Rattle.driver_files.specs.driver_parts.declared.driver.Driver.{Driver}
+use Rattle.printed_problems.specs.drivers.declared.driver_items.kinds.Piece.{Piece}
+use Rattle.printed_problems.specs.drivers.declared.driver_items.kinds.Piece.TheVariants.{Literal, Argument}
+use Rattle.printed_problems.specs.drivers.declared.driver_parts.driver.Driver.{Driver}
 use Rattle.tasks.specs.Task.{SymbolTree, int_symbol, TaskTree, symbol_or}
 use Rattle.tasks.specs.Valid.{AreInts, IsValid}
 use Rattle.name_tables.specs.name_entries.declared.names.NameEntry.{NameEntry}
 use Rattle.name_tables.specs.Occurrences.{Occurrence}
 use Rattle.name_tables.specs.Spelling.{own_name, clean}
 use Rattle.name_tables.specs.Tables.{entries_from, problem_things, problem_names}
-use Rattle.printed_terms.specs.printed_problems.Templates.{template_in, template_of, has_template, bytes_alone}
-use Rattle.s_expressions.specs.Sexps.{breaks}
+use Rattle.printed_problems.specs.Templates.{template_in, template_of, has_template, bytes_alone}
+use Rattle.smt_law.specs.s_expressions.Sexps.{breaks}
 use Rattle.smt_law.specs.Plain.{begins_number, is_local, is_reserved, EqualityIsPlain, IsFreeWord, HasWord, is_type, arity, arity_of, IsPlainTemplate, TemplatesDiffer, ArePlain}
 use Rattle.smt_law.specs.Shipped.{ShippedRow, shipped_rows, rows_of, pieces_of, template_row, HasShippedTemplates, shipped_word, shipped_words, ShippedArePlain}
 use Rattle.smt_law.proofs.Words.{equals_free, has_underscore, name_underscore, underscore_differs}

@@ -4,22 +4,22 @@ use Rattle.std.specs.Str.{chars, is_utf8}
 use lib.Utf8.{encode}
 use Rattle.outside.specs.State.{Files}
 use Rattle.tasks.specs.declared.signature.SymbolInfo.{SymbolInfo}
-use Rattle.driver_files.specs.driver_tokens.declared.terminal.NameKind.{NameKind}
-use Rattle.driver_files.specs.driver_tokens.declared.terminal.NameKind.TheVariants as kinds
-use Rattle.driver_files.specs.driver_tokens.Tokens.{DriverLexeme}
-use Rattle.driver_files.specs.driver_tokens.File.{driver_lines}
-use Rattle.driver_files.specs.driver_items.declared.kinds.Piece.{Piece}
-use Rattle.driver_files.specs.driver_items.declared.kinds.Printer.TheVariants.{Smt}
-use Rattle.driver_files.specs.driver_items.declared.symbols.Target.{Target}
-use Rattle.driver_files.specs.driver_items.declared.symbols.Target.TheVariants.{Entry}
-use Rattle.driver_files.specs.driver_items.Symbols.{NamedTheories, is_known}
-use Rattle.driver_files.specs.driver_items.Templates.{template_pieces}
-use Rattle.driver_files.specs.driver_parts.declared.driver.Driver.{Driver}
-use Rattle.driver_files.specs.driver_parts.Items.{DriverItem, prelude, printer, block, end_of_block, template, removal_of_all, silent, item_of}
-use Rattle.driver_files.specs.driver_parts.Parts.{with_template, with_all_removed}
-use Rattle.driver_files.specs.driver_parts.Steps.{targeted, templated, block_step, block_behind}
-use Rattle.driver_files.specs.declared.reading.Progress.{Progress}
-use Rattle.driver_files.specs.Reading.{DriverOutcome, ◌then◌, or_syntax, if_file_there, if_file_short, short_file, with_parts, finished, ReadingPlace, reading_place, one_file_more, Importer, no_progress, driver_with_printer, take_item, take_lines, take_bytes, read_from, driver_named}
+use Rattle.printed_problems.specs.drivers.declared.driver_tokens.terminal.NameKind.{NameKind}
+use Rattle.printed_problems.specs.drivers.declared.driver_tokens.terminal.NameKind.TheVariants as kinds
+use Rattle.printed_problems.specs.drivers.driver_tokens.Tokens.{DriverLexeme}
+use Rattle.printed_problems.specs.drivers.driver_tokens.File.{driver_lines}
+use Rattle.printed_problems.specs.drivers.declared.driver_items.kinds.Piece.{Piece}
+use Rattle.printed_problems.specs.drivers.declared.driver_items.kinds.Printer.TheVariants.{Smt}
+use Rattle.printed_problems.specs.drivers.declared.driver_items.symbols.Target.{Target}
+use Rattle.printed_problems.specs.drivers.declared.driver_items.symbols.Target.TheVariants.{Entry}
+use Rattle.printed_problems.specs.drivers.driver_items.Symbols.{NamedTheories, is_known}
+use Rattle.printed_problems.specs.drivers.driver_items.Templates.{template_pieces}
+use Rattle.printed_problems.specs.drivers.declared.driver_parts.driver.Driver.{Driver}
+use Rattle.printed_problems.specs.drivers.driver_parts.Items.{DriverItem, prelude, printer, block, end_of_block, template, removal_of_all, silent, item_of}
+use Rattle.printed_problems.specs.drivers.driver_parts.Parts.{with_template, with_all_removed}
+use Rattle.printed_problems.specs.drivers.driver_parts.Steps.{targeted, templated, block_step, block_behind}
+use Rattle.printed_problems.specs.drivers.declared.driver_files.reading.Progress.{Progress}
+use Rattle.printed_problems.specs.drivers.driver_files.Reading.{DriverOutcome, ◌then◌, or_syntax, if_file_there, if_file_short, short_file, with_parts, finished, ReadingPlace, reading_place, one_file_more, Importer, no_progress, driver_with_printer, take_item, take_lines, take_bytes, read_from, driver_named}
 use Rattle.smt_law.specs.Shipped.{HasShippedTemplates, pieces_of, shipped_text, first_entries, IsIntName, KnowsInts, ShippedAreRead}
 use Rattle.smt_law.proofs.Sound.{EachOf}
 

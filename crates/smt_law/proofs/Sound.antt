@@ -4,10 +4,10 @@ use Rattle.std.proofs.lemmas.Bool.Decides.{Decides-eqb}
 use Rattle.tasks.specs.trees.declared.Sort.TheVariants.{Formula}
 use Rattle.tasks.specs.trees.Tree.{Tree, Leaf, One, Two, Three, Head, HParam, above_ty_vars}
 use Rattle.tasks.specs.trees.Sorts.{sort_of}
-use Rattle.driver_files.specs.driver_items.declared.kinds.Syntax.{Syntax}
-use Rattle.driver_files.specs.driver_items.Syntaxes.{syntax_of}
-use Rattle.driver_files.specs.driver_items.declared.kinds.Syntax.TheVariants.{Smt}
-use Rattle.driver_files.specs.driver_parts.declared.driver.Driver.{Driver}
+use Rattle.printed_problems.specs.drivers.declared.driver_items.kinds.Syntax.{Syntax}
+use Rattle.printed_problems.specs.drivers.driver_items.Syntaxes.{syntax_of}
+use Rattle.printed_problems.specs.drivers.declared.driver_items.kinds.Syntax.TheVariants.{Smt}
+use Rattle.printed_problems.specs.drivers.declared.driver_parts.driver.Driver.{Driver}
 use Rattle.tasks.specs.Task.{TaskTree, DeclarationTree, BodyTree, MakesType, Makes, Defines, Induces, Constructs, Says, PropositionTree, said_by, props_of, props}
 use Rattle.tasks.specs.Vocabulary.{of_task}
 use Rattle.tasks.specs.Typing.{TypedUnder}
@@ -15,10 +15,10 @@ use Rattle.tasks.specs.Valid.{OneOf, ParametersOf, IsFormulaOver, IsFormula, IsT
 use Rattle.name_tables.specs.Occurrences.{Occurrence, in_type, in_proposition, occurrences, task_occurrences}
 use Rattle.name_tables.specs.Tables.{problem_things}
 use Rattle.name_tables.specs.Seen.{AreIn}
-use Rattle.printed_terms.specs.printed_problems.declared.fault.PrintFault.{PrintFault}
-use Rattle.printed_terms.specs.printed_problems.declared.fault.PrintFault.TheVariants.{Unprintable, Polymorphic}
-use Rattle.printed_terms.specs.printed_problems.Problems.{formula_of, problem_of}
-use Rattle.printed_terms.specs.printed_problems.Faults.{has_forms, syntax_fault, formula_fault, printed_body_fault, print_fault_or_else, first_print_fault, declaration_faults, printed_type_fault}
+use Rattle.printed_problems.specs.declared.fault.PrintFault.{PrintFault}
+use Rattle.printed_problems.specs.declared.fault.PrintFault.TheVariants.{Unprintable, Polymorphic}
+use Rattle.printed_problems.specs.Problems.{formula_of, problem_of}
+use Rattle.printed_problems.specs.Faults.{has_forms, syntax_fault, formula_fault, printed_body_fault, print_fault_or_else, first_print_fault, declaration_faults, printed_type_fault}
 use Rattle.smt_law.specs.Plain.{Words}
 use Rattle.smt_law.specs.Law.{NumbersFit, IsPrinted}
 use Rattle.smt_law.proofs.Found.{in_first, in_rest}

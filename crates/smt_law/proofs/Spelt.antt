@@ -9,7 +9,7 @@ use Rattle.tasks.specs.Task.{SymbolTree, int_symbol, TaskTree, symbol_or}
 use Rattle.name_tables.specs.Occurrences.{Occurrence}
 use Rattle.name_tables.specs.Spelling.{own_name, operator_words, word_in, spelt, is_spelt_byte, is_prefix_operator_name, fixity, operator_name, clean_byte, lower_case, clean_first, clean}
 use Rattle.name_tables.specs.Tables.{entry_at_place, entries_from, problem_things}
-use Rattle.s_expressions.specs.Sexps.{breaks}
+use Rattle.smt_law.specs.s_expressions.Sexps.{breaks}
 use Rattle.smt_law.specs.Plain.{is_decimal_digit, begins_number}
 use Rattle.smt_law.specs.Law.{IsEntrySpelt, begins_digit, IsOrdinary, NamesAreSpelt}
 use Rattle.smt_law.proofs.Words.{or_false, digits_whole, letter_no_number}

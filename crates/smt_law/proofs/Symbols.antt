@@ -11,8 +11,8 @@ use Rattle.tasks.specs.Task.{SymbolTree, symbol_or}
 use Rattle.tasks.specs.Typing.{members, IsUse, HasResult, MakesTerms}
 use Rattle.tasks.specs.Equations.{cells}
 use Rattle.name_tables.specs.Occurrences.{Occurrence, occurrence}
-use Rattle.printed_terms.specs.printed_problems.Problems.{is_kind}
-use Rattle.s_expressions.specs.Sexps.{Sexp, SexpWord, Group, Nothing, Then, IsWord, IsOne, IsProperList}
+use Rattle.printed_problems.specs.Problems.{is_kind}
+use Rattle.smt_law.specs.s_expressions.Sexps.{Sexp, SexpWord, Group, Nothing, Then, IsWord, IsOne, IsProperList}
 use Rattle.smt_law.specs.Plain.{is_type, arity, arity_of}
 use Rattle.smt_law.specs.Reading.{tree_as_read}
 use Rattle.smt_law.proofs.Forms.{Known, called, word_of}

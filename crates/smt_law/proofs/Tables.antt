@@ -5,9 +5,9 @@ use Rattle.std.proofs.lemmas.Bool.Decides.{nat_tests}
 use Rattle.std.proofs.lemmas.Option.{get_or_from_slice_get, slice_get_within}
 use Rattle.std.proofs.lemmas.List.{get_or_append_left}
 use Rattle.std.proofs.lemmas.List.Elements.{Contains-append_left}
-use Rattle.driver_files.specs.driver_items.Syntaxes.{syntax_of}
-use Rattle.driver_files.specs.driver_items.declared.kinds.Syntax.TheVariants.{Smt}
-use Rattle.driver_files.specs.driver_parts.declared.driver.Driver.{Driver}
+use Rattle.printed_problems.specs.drivers.driver_items.Syntaxes.{syntax_of}
+use Rattle.printed_problems.specs.drivers.declared.driver_items.kinds.Syntax.TheVariants.{Smt}
+use Rattle.printed_problems.specs.drivers.declared.driver_parts.driver.Driver.{Driver}
 use Rattle.tasks.specs.Task.{TaskTree, symbol_or, declared, made}
 use Rattle.tasks.specs.Vocabulary.{of_task}
 use Rattle.tasks.proofs.Declared.{any_iff, usable_made, contains_cases, contains_step}
@@ -19,10 +19,10 @@ use Rattle.name_tables.specs.Tables.{is_same, is_in, occurrence_place, named_thi
 use Rattle.name_tables.specs.Seen.{has}
 use Rattle.name_tables.proofs.Gathering.{same_occurrence}
 use Rattle.name_tables.proofs.Differ.{names_differ}
-use Rattle.printed_terms.specs.printed_problems.Problems.{problem_of}
-use Rattle.printed_terms.specs.Texts.{text_of_entry}
-use Rattle.printed_terms.specs.Texts as texts
-use Rattle.printed_terms.specs.Problems.{printing_of}
+use Rattle.printed_problems.specs.Problems.{problem_of}
+use Rattle.printed_problems.specs.printed_terms.Texts.{text_of_entry}
+use Rattle.printed_problems.specs.printed_terms.Texts as texts
+use Rattle.printed_problems.specs.printed_terms.Problems.{printing_of}
 use Rattle.smt_law.specs.Plain.{IsFreeWord, Words, ArePlain}
 use Rattle.smt_law.specs.Law.{IsEntrySpelt, IsPrinted}
 use Rattle.smt_law.proofs.Forms.{Known}

@@ -1,16 +1,16 @@
 -- The text of a problem by lines of expressions, and what a reader makes of these.
 use Rattle.std.proofs.Common.{◌≡◌, ℕ, ◌+◌, ◌≤◌, ◌^◌, List, [], ◌∷◌, ◌++◌, map, length, codes, flat_map, refl, ap, ◌∙◌, arith, inr}
 use Rattle.tasks.specs.trees.Tree.{Tree}
-use Rattle.driver_files.specs.driver_items.Syntaxes.{syntax_of}
-use Rattle.driver_files.specs.driver_items.declared.kinds.Syntax.TheVariants.{Smt}
-use Rattle.driver_files.specs.driver_parts.declared.driver.Driver.{Driver}
+use Rattle.printed_problems.specs.drivers.driver_items.Syntaxes.{syntax_of}
+use Rattle.printed_problems.specs.drivers.declared.driver_items.kinds.Syntax.TheVariants.{Smt}
+use Rattle.printed_problems.specs.drivers.declared.driver_parts.driver.Driver.{Driver}
 use Rattle.tasks.specs.Task.{TaskTree}
 use Rattle.name_tables.specs.Tables.{problem_names}
-use Rattle.printed_terms.specs.printed_problems.Problems.{problem_of}
-use Rattle.printed_terms.specs.Texts.{formula_text, sort_text}
-use Rattle.smt_texts.specs.Text.{smt_parameter_line, smt_parameter_lines, smt_goal_line}
-use Rattle.smt_texts.specs.Text as text
-use Rattle.s_expressions.specs.Sexps.{Sexp, write_sexp, lines, IsWord, IsOne, AllOne}
+use Rattle.printed_problems.specs.Problems.{problem_of}
+use Rattle.printed_problems.specs.printed_terms.Texts.{formula_text, sort_text}
+use Rattle.part_texts.specs.smt_texts.Text.{smt_parameter_line, smt_parameter_lines, smt_goal_line}
+use Rattle.part_texts.specs.smt_texts.Text as text
+use Rattle.smt_law.specs.s_expressions.Sexps.{Sexp, write_sexp, lines, IsWord, IsOne, AllOne}
 use Rattle.smt_law.specs.Plain.{Words, ArePlain}
 use Rattle.smt_law.specs.Reading.{tree_as_read}
 use Rattle.smt_law.specs.Law.{IsPrinted}

@@ -4,17 +4,17 @@ use Rattle.std.specs.Option.{is_some}
 use Rattle.std.specs.Fmt.{decimal}
 use Rattle.tasks.specs.trees.declared.Op.{Op}
 use Rattle.tasks.specs.trees.declared.Op.TheVariants.{And, AndThen, Or, OrElse, Imp, Iff}
-use Rattle.driver_files.specs.driver_items.declared.kinds.Piece.{Piece}
-use Rattle.driver_files.specs.driver_items.declared.kinds.Syntax.{Syntax}
-use Rattle.driver_files.specs.driver_items.Syntaxes.{syntax_of}
-use Rattle.driver_files.specs.driver_items.declared.kinds.Syntax.TheVariants.{Smt}
-use Rattle.printed_terms.specs.printed_problems.Templates.{template_of, has_template}
-use Rattle.printed_terms.specs.declared.words.Form.TheVariants.{Negation, Connected, Equality, Conditional}
-use Rattle.printed_terms.specs.declared.words.Binder.{Binder}
-use Rattle.printed_terms.specs.declared.words.Binder.TheVariants.{ForAll, ThereIs, LetIn}
-use Rattle.printed_terms.specs.Texts.{Printed, printed_name, each_behind, joined, form_text, application_text, by_template, symbol_text, equality_text, bound_text}
+use Rattle.printed_problems.specs.drivers.declared.driver_items.kinds.Piece.{Piece}
+use Rattle.printed_problems.specs.drivers.declared.driver_items.kinds.Syntax.{Syntax}
+use Rattle.printed_problems.specs.drivers.driver_items.Syntaxes.{syntax_of}
+use Rattle.printed_problems.specs.drivers.declared.driver_items.kinds.Syntax.TheVariants.{Smt}
+use Rattle.printed_problems.specs.Templates.{template_of, has_template}
+use Rattle.printed_problems.specs.declared.printed_terms.words.Form.TheVariants.{Negation, Connected, Equality, Conditional}
+use Rattle.printed_problems.specs.declared.printed_terms.words.Binder.{Binder}
+use Rattle.printed_problems.specs.declared.printed_terms.words.Binder.TheVariants.{ForAll, ThereIs, LetIn}
+use Rattle.printed_problems.specs.printed_terms.Texts.{Printed, printed_name, each_behind, joined, form_text, application_text, by_template, symbol_text, equality_text, bound_text}
 use Rattle.name_tables.specs.Occurrences.{Occurrence}
-use Rattle.s_expressions.specs.Sexps.{Sexp, SexpWord, Group, Nothing, Then, written_sexp, write_sexp}
+use Rattle.smt_law.specs.s_expressions.Sexps.{Sexp, SexpWord, Group, Nothing, Then, written_sexp, write_sexp}
 use Rattle.smt_law.specs.Plain.{arity, EqualityIsPlain}
 use Rattle.smt_law.proofs.Forms.{Known, Read, called, two_called, word_of, bound_read, op_word}
 use Rattle.smt_law.proofs.Found.{IsReader}

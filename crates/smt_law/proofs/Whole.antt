@@ -3,21 +3,21 @@ use Rattle.std.proofs.Common.{◌≡◌, ℕ, false, subst, List, [], ◌∷◌,
 use Rattle.std.proofs.lemmas.List.Concat.{flat_map-append}
 use Rattle.tasks.specs.trees.Tree.{Tree, Leaf, HEnd}
 use Rattle.tasks.specs.trees.declared.ints.Ints.{Ints}
-use Rattle.driver_files.specs.driver_items.Syntaxes.{syntax_of}
-use Rattle.driver_files.specs.driver_items.declared.kinds.Syntax.TheVariants.{Smt}
-use Rattle.driver_files.specs.driver_parts.declared.driver.Driver.{Driver}
+use Rattle.printed_problems.specs.drivers.driver_items.Syntaxes.{syntax_of}
+use Rattle.printed_problems.specs.drivers.declared.driver_items.kinds.Syntax.TheVariants.{Smt}
+use Rattle.printed_problems.specs.drivers.declared.driver_parts.driver.Driver.{Driver}
 use Rattle.tasks.specs.Task.{SymbolTree, TaskTree}
 use Rattle.tasks.specs.Vocabulary.{Vocabulary}
 use Rattle.name_tables.specs.name_entries.declared.names.NameEntry.{NameEntry}
 use Rattle.name_tables.specs.Occurrences.{Occurrence}
 use Rattle.name_tables.specs.Tables.{problem_things, problem_names}
-use Rattle.printed_terms.specs.printed_problems.Problems.{is_sort, is_declared_symbol, places_from, preludes, problem_of}
-use Rattle.printed_terms.specs.Texts.{Printing}
-use Rattle.printed_terms.specs.Problems.{line, printing_of}
-use Rattle.smt_texts.specs.Text.{smt_head_line, smt_sort_line, smt_symbol_line, smt_parameter_lines, smt_goal_line, smt_text}
-use Rattle.smt_texts.specs.Text as text
-use Rattle.s_expressions.specs.Sexps.{Sexp, lines, AllOne}
-use Rattle.s_expressions.proofs.Lines.{same_lines}
+use Rattle.printed_problems.specs.Problems.{is_sort, is_declared_symbol, places_from, preludes, problem_of}
+use Rattle.printed_problems.specs.printed_terms.Texts.{Printing}
+use Rattle.printed_problems.specs.printed_terms.Problems.{line, printing_of}
+use Rattle.part_texts.specs.smt_texts.Text.{smt_head_line, smt_sort_line, smt_symbol_line, smt_parameter_lines, smt_goal_line, smt_text}
+use Rattle.part_texts.specs.smt_texts.Text as text
+use Rattle.smt_law.specs.s_expressions.Sexps.{Sexp, lines, AllOne}
+use Rattle.smt_law.proofs.s_expressions.Lines.{same_lines}
 use Rattle.smt_law.specs.Plain.{Words, ArePlain}
 use Rattle.smt_law.specs.Law.{IsPrinted, AreAlike, TellTheSame, LawOfTexts}
 use Rattle.smt_law.proofs.Forms.{Known}

@@ -8,7 +8,7 @@ use Rattle.std.proofs.lemmas.List.Folds.{list_any-append}
 use Rattle.std.proofs.lemmas.Slice.Eq.{bytes_eq-Decides}
 use Rattle.std.proofs.lemmas.Fmt.{decimal_is_IsNumeral_wide}
 use Rattle.std.proofs.lemmas.Str.Parse.{digit_from_value}
-use Rattle.s_expressions.specs.Sexps.{IsWord, breaks}
+use Rattle.smt_law.specs.s_expressions.Sexps.{IsWord, breaks}
 use Rattle.smt_law.specs.Plain.{is_decimal_digit, all_digits, begins_number, is_local, syntax_words, is_reserved, IsFreeWord}
 use Rattle.smt_law.specs.Law.{integer_fits}
 use Rattle.smt_law.proofs.Back.{Number, Local, Syntax, Free, role, negative, integer_of}

@@ -2,19 +2,19 @@
 use Rattle.std.specs.Prelude.{◌≡◌, ℕ, ◌<◌, ◌≤◌, ◌^◌, Bool, false, List, [], ◌∷◌, ◌++◌, map, length, All, None, ℤ, pos, negsuc}
 use Rattle.std.specs.List.{list_any}
 use Rattle.tasks.specs.trees.Tree.{Tree, Leaf, One, Two, Three, Head, HNum, height}
-use Rattle.driver_files.specs.driver_items.Syntaxes.{syntax_of}
-use Rattle.driver_files.specs.driver_items.declared.kinds.Syntax.TheVariants.{Smt}
-use Rattle.driver_files.specs.driver_parts.declared.driver.Driver.{Driver}
+use Rattle.printed_problems.specs.drivers.driver_items.Syntaxes.{syntax_of}
+use Rattle.printed_problems.specs.drivers.declared.driver_items.kinds.Syntax.TheVariants.{Smt}
+use Rattle.printed_problems.specs.drivers.declared.driver_parts.driver.Driver.{Driver}
 use Rattle.tasks.specs.Task.{SymbolTree, TaskTree}
 use Rattle.tasks.specs.Valid.{IsValid}
 use Rattle.tasks.specs.Words.{NamesAreScoped}
 use Rattle.name_tables.specs.name_entries.declared.names.NameEntry.{NameEntry}
 use Rattle.name_tables.specs.Spelling.{own_name}
 use Rattle.name_tables.specs.Tables.{problem_things, problem_names}
-use Rattle.printed_terms.specs.printed_problems.Problems.{preludes, problem_of}
-use Rattle.printed_terms.specs.printed_problems.Faults.{print_fault}
-use Rattle.smt_texts.specs.Text.{smt_text}
-use Rattle.s_expressions.specs.Sexps.{breaks}
+use Rattle.printed_problems.specs.Problems.{preludes, problem_of}
+use Rattle.printed_problems.specs.Faults.{print_fault}
+use Rattle.part_texts.specs.smt_texts.Text.{smt_text}
+use Rattle.smt_law.specs.s_expressions.Sexps.{breaks}
 use Rattle.smt_law.specs.Plain.{is_decimal_digit, begins_number, Words, ArePlain}
 use Rattle.smt_law.specs.Reading.{tree_as_read}
 

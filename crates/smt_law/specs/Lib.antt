@@ -1,3 +1,4 @@
+pub mod s_expressions
 pub mod Plain
 pub mod Reading
 pub mod Law

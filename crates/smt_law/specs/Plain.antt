@@ -1,15 +1,15 @@
 -- When the templates of a driver are plain: each is printed as a name is, by a word that nothing else has.
 use Rattle.std.specs.Prelude.{◌≡◌, ◌≢◌, ℕ, ◌==◌, ◌||◌, ◌&&◌, nat_le, Bool, true, false, if◌then◌else◌, List, [], ◌∷◌, length, All, codes, Option, Some, None, IsTrue, bytes_eq}
 use Rattle.std.specs.List.{list_any}
-use Rattle.driver_files.specs.driver_items.declared.kinds.Piece.{Piece}
-use Rattle.driver_files.specs.driver_items.declared.kinds.Syntax.TheVariants.{Smt}
-use Rattle.driver_files.specs.driver_parts.declared.driver.Driver.{Driver}
+use Rattle.printed_problems.specs.drivers.declared.driver_items.kinds.Piece.{Piece}
+use Rattle.printed_problems.specs.drivers.declared.driver_items.kinds.Syntax.TheVariants.{Smt}
+use Rattle.printed_problems.specs.drivers.declared.driver_parts.driver.Driver.{Driver}
 use Rattle.tasks.specs.Task.{SymbolTree, symbol_or}
 use Rattle.name_tables.specs.name_entries.declared.names.NameEntry.{NameEntry}
-use Rattle.printed_terms.specs.printed_problems.Templates.{by_pieces, template_of, has_template}
-use Rattle.printed_terms.specs.printed_problems.Problems.{is_kind}
-use Rattle.printed_terms.specs.Texts.{application_text}
-use Rattle.s_expressions.specs.Sexps.{IsWord}
+use Rattle.printed_problems.specs.Templates.{by_pieces, template_of, has_template}
+use Rattle.printed_problems.specs.Problems.{is_kind}
+use Rattle.printed_problems.specs.printed_terms.Texts.{application_text}
+use Rattle.smt_law.specs.s_expressions.Sexps.{IsWord}
 
 -- a template with a number of arguments is one word, where there are none, and else `(`, the word, the arguments in order after
 -- one space each, and `)`

@@ -2,15 +2,15 @@
 use Rattle.std.specs.Prelude.{◌≡◌, ℕ, ◌==◌, true, if◌then◌else◌, List, [], ◌∷◌, ◌++◌, codes, map, Option, Some, None, IsOkAnd}
 use Rattle.outside.specs.State.{Files}
 use Rattle.tasks.specs.trees.declared.ints.Ints.{Ints}
-use Rattle.driver_files.specs.driver_items.declared.kinds.Piece.{Piece}
-use Rattle.driver_files.specs.driver_items.Templates as read
-use Rattle.driver_files.specs.driver_items.declared.kinds.Printer.TheVariants.{Smt}
-use Rattle.driver_files.specs.driver_items.declared.symbols.Target.TheVariants.{Entry}
-use Rattle.driver_files.specs.driver_items.Symbols.{NamedTheories, is_known, target_of}
-use Rattle.driver_files.specs.driver_tokens.declared.terminal.NameKind.{NameKind}
-use Rattle.driver_files.specs.driver_tokens.declared.terminal.NameKind.TheVariants.{Function, Predicate}
-use Rattle.driver_files.specs.Reading.{driver_named}
-use Rattle.driver_files.specs.driver_parts.declared.driver.Driver.{Driver}
+use Rattle.printed_problems.specs.drivers.declared.driver_items.kinds.Piece.{Piece}
+use Rattle.printed_problems.specs.drivers.driver_items.Templates as read
+use Rattle.printed_problems.specs.drivers.declared.driver_items.kinds.Printer.TheVariants.{Smt}
+use Rattle.printed_problems.specs.drivers.declared.driver_items.symbols.Target.TheVariants.{Entry}
+use Rattle.printed_problems.specs.drivers.driver_items.Symbols.{NamedTheories, is_known, target_of}
+use Rattle.printed_problems.specs.drivers.declared.driver_tokens.terminal.NameKind.{NameKind}
+use Rattle.printed_problems.specs.drivers.declared.driver_tokens.terminal.NameKind.TheVariants.{Function, Predicate}
+use Rattle.printed_problems.specs.drivers.driver_files.Reading.{driver_named}
+use Rattle.printed_problems.specs.drivers.declared.driver_parts.driver.Driver.{Driver}
 use Rattle.tasks.specs.declared.signature.SymbolInfo.{SymbolInfo}
 use Rattle.tasks.specs.Task.{TaskTree}
 use Rattle.tasks.specs.Valid.{IsValid}

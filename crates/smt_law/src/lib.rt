@@ -21,3 +21,5 @@ pub fn law_of_texts()
     ensures spelt { NamesAreSpelt }
     ensures scoped { ScopedNamesAreSpelt }
 {}
+
+pub mod s_expressions;

@@ -1,7 +1,7 @@
 -- The theories of a file, or its first fault, are one.
 use Rattle.std.proofs.Common.{Ok, Err, sym, ap, ◌∙◌}
 use Rattle.theories.specs.goal_tasks.Theories.{TheoriesTree}
-use Rattle.fault_order.specs.Order.{RunStop}
+use Rattle.statuses.specs.fault_order.Order.{RunStop}
 use Rattle.plain_theories.proofs.One.{one_theories, theories_apart, one_fault}
 use Rattle.source_goals.specs.Order.{AreDetermined}
 use Rattle.source_goals.proofs.Faults.{source_stop, first_stop}

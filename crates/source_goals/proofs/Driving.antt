@@ -1,14 +1,14 @@
 -- The reader of drivers, as a part of a run.
 use Rattle.std.proofs.Common.{◌≡◌, ℕ, List, Option, Some, None, Result, Ok, Err}
-use Rattle.fault_order.specs.outside.State.{Files, LibraryState}
+use Rattle.statuses.specs.outside.State.{Files, LibraryState}
 use Rattle.tasks.specs.declared.signature.SymbolInfo.{SymbolInfo}
-use Rattle.driver_files.specs.driver_items.Symbols.{NamedTheories}
-use Rattle.driver_files.specs.driver_parts.declared.driver.Driver.{Driver}
-use Rattle.driver_files.specs.driver_parts.declared.fault.DriverFault.{DriverFault}
-use Rattle.driver_files.specs.driver_parts.declared.fault.DriverFault.TheVariants as f
-use Rattle.driver_files.specs.Reading.{ReadsAs, driver_named, ReachesReading as DriverReaches}
-use Rattle.fault_order.specs.Answers.{Answers, Reaches}
-use Rattle.fault_order.specs.declared.faults.RunFault.{RunFault}
+use Rattle.drivers.specs.driver_items.Symbols.{NamedTheories}
+use Rattle.drivers.specs.declared.driver_parts.driver.Driver.{Driver}
+use Rattle.drivers.specs.declared.driver_parts.fault.DriverFault.{DriverFault}
+use Rattle.drivers.specs.declared.driver_parts.fault.DriverFault.TheVariants as f
+use Rattle.drivers.specs.driver_files.Reading.{ReadsAs, driver_named, ReachesReading as DriverReaches}
+use Rattle.statuses.specs.fault_order.Answers.{Answers, Reaches}
+use Rattle.statuses.specs.declared.fault_order.faults.RunFault.{RunFault}
 use Rattle.source_goals.specs.Known.{KnownByDriver, IsKnownAs}
 use Rattle.source_goals.specs.Order.{DriverOf}
 use Rattle.source_goals.specs.Values.{driver_fault, next_after_driver}

@@ -11,9 +11,9 @@ use Rattle.theories.specs.theory_states.Uses.{OrMemory}
 use Rattle.theories.specs.Files.{IsFirstSourceFault}
 use Rattle.plain_theories.specs.Files.{IsPlainFirstFault}
 use Rattle.plain_theories.proofs.Typed.{fault_plainly}
-use Rattle.fault_order.specs.Answers.{IsStageAnswer}
-use Rattle.fault_order.specs.Order.{RunStop, refused, misused}
-use Rattle.fault_order.specs.declared.faults.Fault.TheVariants as of_run
+use Rattle.statuses.specs.fault_order.Answers.{IsStageAnswer}
+use Rattle.statuses.specs.fault_order.Order.{RunStop, refused, misused}
+use Rattle.statuses.specs.declared.fault_order.faults.Fault.TheVariants as of_run
 use Rattle.source_goals.specs.Order.{HasNoTheories, Declares}
 use Rattle.source_goals.specs.Values.{source_fault}
 

@@ -10,7 +10,7 @@ use Rattle.tasks.specs.declared.declaration.Body.TheVariants as body
 use Rattle.tasks.specs.declared.declaration.Decl.{Decl}
 use Rattle.tasks.specs.declared.signature.SymbolInfo.{SymbolInfo}
 use Rattle.tasks.specs.Meaning.{symbol_at, symbols_at, body_at, declaration_at, declarations_at}
-use Rattle.driver_files.specs.driver_items.Symbols.{NamedTheories as NamedTheories}
+use Rattle.drivers.specs.driver_items.Symbols.{NamedTheories as NamedTheories}
 use Rattle.theories.specs.goal_tasks.declared.theories.Theories.{Theories}
 use Rattle.theories.specs.goal_tasks.declared.theories.Theory.{Theory}
 use Rattle.theories.specs.goal_tasks.Meaning.{placed, theory_at, theories_at}

@@ -6,8 +6,8 @@ use Rattle.tasks.specs.Task.{TaskTree}
 use Rattle.theories.specs.goal_tasks.declared.making.TaskFault.{TaskFault}
 use Rattle.theories.specs.goal_tasks.Theories.{GoalTree, KnownTheoryTree, TheoriesTree, theory_named, goal_named}
 use Rattle.theories.specs.goal_tasks.Tasks.{task_for, IsTaskOf}
-use Rattle.fault_order.specs.declared.faults.Fault.TheVariants.{NoTheory, NoGoal}
-use Rattle.fault_order.specs.Order.{RunStop, refused, StageMeaning}
+use Rattle.statuses.specs.declared.fault_order.faults.Fault.TheVariants.{NoTheory, NoGoal}
+use Rattle.statuses.specs.fault_order.Order.{RunStop, refused, StageMeaning}
 use Rattle.source_goals.specs.Order.{TaskOf, goal_task, theory_task}
 
 -- what is left after the source

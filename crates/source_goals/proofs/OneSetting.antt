@@ -1,14 +1,14 @@
 -- A goal has one setting, or one stop, where the theories of each file are determined.
 use Rattle.std.proofs.Common.{◌≡◌, ◌∙◌, ℕ, List, Option, Result, Ok, Err, ap, sym}
-use Rattle.fault_order.specs.outside.State.{Files}
-use Rattle.driver_files.specs.driver_parts.declared.driver.Driver.{Driver}
+use Rattle.statuses.specs.outside.State.{Files}
+use Rattle.drivers.specs.declared.driver_parts.driver.Driver.{Driver}
 use Rattle.theories.specs.goal_tasks.Theories.{TheoriesTree}
-use Rattle.driver_files.specs.driver_parts.declared.fault.DriverFault.TheVariants as of_driver
-use Rattle.driver_files.specs.Reading.{DriverStop, driver_named}
-use Rattle.driver_files.specs.Reading as driver
-use Rattle.fault_order.specs.declared.faults.Fault.TheVariants as fault
-use Rattle.fault_order.specs.Order.{RunStop, refused, absent, unread, misused, Answer, HasOneAnswer}
-use Rattle.fault_order.proofs.OneStage.{one_answer, one_after}
+use Rattle.drivers.specs.declared.driver_parts.fault.DriverFault.TheVariants as of_driver
+use Rattle.drivers.specs.driver_files.Reading.{DriverStop, driver_named}
+use Rattle.drivers.specs.driver_files.Reading as driver
+use Rattle.statuses.specs.declared.fault_order.faults.Fault.TheVariants as fault
+use Rattle.statuses.specs.fault_order.Order.{RunStop, refused, absent, unread, misused, Answer, HasOneAnswer}
+use Rattle.statuses.proofs.fault_order.OneStage.{one_answer, one_after}
 use Rattle.source_goals.specs.Known.{KnownByDriver, known_of}
 use Rattle.source_goals.specs.Order.{AreDetermined, SourceTheoriesOf, TaskOf, DriverOf, IsDriverOr, setting_of, TaskUnder, Driven, GoalUnder}
 use Rattle.source_goals.proofs.OneSource.{one_source}

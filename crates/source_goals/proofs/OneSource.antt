@@ -1,6 +1,6 @@
 -- A source has its theories and a goal its task, or one fault that is first, where the theories of each file are determined.
 use Rattle.std.proofs.Common.{◌≡◌, ◌≢◌, ◌<◌, ◌++◌, ◌∷◌, [], ◌∙◌, ℕ, List, Option, Ok, Err, refl, sym, ap, subst, arith, append_assoc, append-nil}
-use Rattle.fault_order.specs.outside.State.{Files}
+use Rattle.statuses.specs.outside.State.{Files}
 use Rattle.syntax_why.specs.tokens_why.declared.terminal.Terminal.{Terminal}
 use Rattle.syntax_why.specs.tokens_why.declared.token.Token.{Token}
 use Rattle.syntax_why.specs.tokens_why.Tokens.{Reads, AreTokens}
@@ -13,10 +13,10 @@ use Rattle.parse_decls.specs.reading.Sentences.{IsOf}
 use Rattle.parse_decls.specs.recognise_why.Depth.{IsTooDeep, IsShallow}
 use Rattle.parse_decls.specs.recognise_why.Sources.{IsProgramDecl}
 use Rattle.parse_decls.proofs.recognise_why.OneFault.{one_least}
-use Rattle.fault_order.specs.declared.faults.Fault.TheVariants.{Lexical, BigLiteral, Syntax, TooDeep, ProgramDecl}
-use Rattle.fault_order.specs.Order.{RunStop, refused, misused, Answer, HasOneAnswer, fetched, if_short, ShortFile}
+use Rattle.statuses.specs.declared.fault_order.faults.Fault.TheVariants.{Lexical, BigLiteral, Syntax, TooDeep, ProgramDecl}
+use Rattle.statuses.specs.fault_order.Order.{RunStop, refused, misused, Answer, HasOneAnswer, fetched, if_short, ShortFile}
 use Rattle.source_goals.specs.Order.{HasNoTokens, Lexes, IsNoFile, Parses, Declares, AreDetermined, FileTheories, SourceTheories, SourceTheoriesOf, TaskOf, Goal}
-use Rattle.fault_order.proofs.OneStage.{one_answer, one_after}
+use Rattle.statuses.proofs.fault_order.OneStage.{one_answer, one_after}
 use Rattle.std_theories.proofs.Readings.{reading_from}
 
 reading : (bytes : List ℕ) (stop : text.Stop) (ts : List Token) → Reads bytes stop 0 ts → Reading bytes stop ts

@@ -4,21 +4,21 @@ use Rattle.std.specs.Option.{is_some}
 use Rattle.source_goals.specs.Known.{KnownByDriver, named_bytes, AskedSymbol, asked_in, IsKnownAs}
 use Rattle.std.specs.Prelude.{nat_eq}
 use lib.Pointwise.{pointwise}
-use Rattle.fault_order.specs.outside.State.{Files}
+use Rattle.statuses.specs.outside.State.{Files}
 use Rattle.tasks.specs.declared.signature.SymbolInfo.{SymbolInfo}
 use Rattle.tasks.specs.declared.signature.SymbolKind.{SymbolKind}
 use Rattle.tasks.specs.declared.signature.SymbolKind.TheVariants as kind
-use Rattle.driver_files.specs.driver_tokens.declared.terminal.NameKind.{NameKind}
-use Rattle.driver_files.specs.driver_tokens.Tokens.{DriverLexeme}
-use Rattle.driver_files.specs.driver_tokens.File.{driver_lines}
-use Rattle.driver_files.specs.driver_items.declared.symbols.Target.{Target}
-use Rattle.driver_files.specs.driver_items.declared.symbols.Target.TheVariants.{Entry}
-use Rattle.driver_files.specs.driver_items.Symbols.{NamedTheories, NamedTheory, is_builtin, is_path, theory_with_path, is_known, is_named_kind, is_symbol_named, by_kind, target_or_later, entry_from, builtin_of, target_of, among, among_those, has_proposition}
-use Rattle.driver_files.specs.driver_parts.declared.parts.DriverParts.{DriverParts}
-use Rattle.driver_files.specs.driver_parts.Items.{DriverItem, prelude, printer, transformation, file_import, block, end_of_block, template, removal, removal_of_all, silent, item_of}
-use Rattle.driver_files.specs.driver_parts.Steps.{targeted, removed, block_step, item_in_block, item_step, block_behind}
-use Rattle.driver_files.specs.declared.reading.Progress.{Progress}
-use Rattle.driver_files.specs.Reading.{DriverOutcome, ◌then◌, Importer, ReadingPlace, reading_place, import, with_parts, one_file_more, no_import, no_progress, driver_with_printer, short_file, or_syntax, take_item, take_lines, take_bytes, take_file, read_from, driver_named, name_from}
+use Rattle.drivers.specs.declared.driver_tokens.terminal.NameKind.{NameKind}
+use Rattle.drivers.specs.driver_tokens.Tokens.{DriverLexeme}
+use Rattle.drivers.specs.driver_tokens.File.{driver_lines}
+use Rattle.drivers.specs.declared.driver_items.symbols.Target.{Target}
+use Rattle.drivers.specs.declared.driver_items.symbols.Target.TheVariants.{Entry}
+use Rattle.drivers.specs.driver_items.Symbols.{NamedTheories, NamedTheory, is_builtin, is_path, theory_with_path, is_known, is_named_kind, is_symbol_named, by_kind, target_or_later, entry_from, builtin_of, target_of, among, among_those, has_proposition}
+use Rattle.drivers.specs.declared.driver_parts.parts.DriverParts.{DriverParts}
+use Rattle.drivers.specs.driver_parts.Items.{DriverItem, prelude, printer, transformation, file_import, block, end_of_block, template, removal, removal_of_all, silent, item_of}
+use Rattle.drivers.specs.driver_parts.Steps.{targeted, removed, block_step, item_in_block, item_step, block_behind}
+use Rattle.drivers.specs.declared.driver_files.reading.Progress.{Progress}
+use Rattle.drivers.specs.driver_files.Reading.{DriverOutcome, ◌then◌, Importer, ReadingPlace, reading_place, import, with_parts, one_file_more, no_import, no_progress, driver_with_printer, short_file, or_syntax, take_item, take_lines, take_bytes, take_file, read_from, driver_named, name_from}
 
 -- two words of the same bytes
 abbrev same_word : List ℕ → List ℕ → Bool

@@ -1,15 +1,15 @@
 -- A goal's task with its driver, as a part of a run.
 use Rattle.std.proofs.Common.{◌≡◌, ℕ, List, Result, Ok, Err, inl, inr, refl, ap, sym, arith}
-use Rattle.fault_order.specs.outside.State.{LibraryState}
+use Rattle.statuses.specs.outside.State.{LibraryState}
 use Rattle.tasks.specs.Task.{TaskTree}
-use Rattle.driver_files.specs.driver_parts.declared.driver.Driver.{Driver}
+use Rattle.drivers.specs.declared.driver_parts.driver.Driver.{Driver}
 use Rattle.theories.specs.goal_tasks.Theories.{TheoriesTree}
-use Rattle.fault_order.specs.Answers.{Answers, IsStageAnswer}
-use Rattle.fault_order.specs.Order.{Stage, StageMeaning, Answer}
-use Rattle.fault_order.specs.declared.faults.RunFault.{RunFault}
-use Rattle.fault_order.specs.declared.faults.RunFault.TheVariants as run_fault
-use Rattle.fault_order.proofs.Meeting.{answers_value, answers_refused, answers_memory}
-use Rattle.fault_order.proofs.Stages.{gives_then, gives_stop}
+use Rattle.statuses.specs.fault_order.Answers.{Answers, IsStageAnswer}
+use Rattle.statuses.specs.fault_order.Order.{Stage, StageMeaning, Answer}
+use Rattle.statuses.specs.declared.fault_order.faults.RunFault.{RunFault}
+use Rattle.statuses.specs.declared.fault_order.faults.RunFault.TheVariants as run_fault
+use Rattle.statuses.proofs.fault_order.Meeting.{answers_value, answers_refused, answers_memory}
+use Rattle.statuses.proofs.fault_order.Stages.{gives_then, gives_stop}
 use Rattle.source_goals.specs.Order.{TaskOf, GoalSettingTree, setting_of, TaskUnder}
 use Rattle.source_goals.specs.Values.{next_after_driver, next_in}
 

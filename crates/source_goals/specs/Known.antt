@@ -9,7 +9,7 @@ use Rattle.tasks.specs.declared.declaration.Body.TheVariants.{Prop}
 use Rattle.tasks.specs.declared.declaration.Decl.{Decl}
 use Rattle.tasks.specs.declared.signature.SymbolInfo.{SymbolInfo}
 use Rattle.tasks.specs.declared.signature.SymbolKind.{SymbolKind}
-use Rattle.driver_files.specs.driver_items.Symbols.{NamedTheories as NamedTheories, NamedTheory as NamedTheory}
+use Rattle.drivers.specs.driver_items.Symbols.{NamedTheories as NamedTheories, NamedTheory as NamedTheory}
 use Rattle.theories.specs.goal_tasks.declared.theories.Theory.{Theory}
 use Rattle.theories.specs.goal_tasks.Theories.{KnownTheoryTree, TheoriesTree}
 use Rattle.theories.specs.goal_tasks.Meaning.{placed}

@@ -9,17 +9,17 @@ use Rattle.syntax_why.specs.Lexeme.{Lexeme, rest, terminals}
 use Rattle.syntax_why.specs.Declarations.{SyntaxTheory}
 use Rattle.parse_decls.specs.recognise_why.Depth.{IsTooDeep, IsShallow}
 use Rattle.parse_decls.specs.recognise_why.Sources.{IsFileFault, IsOnlyFile, IsProgramDecl}
-use Rattle.driver_files.specs.driver_items.Symbols.{NamedTheories as NamedTheories}
-use Rattle.driver_files.specs.driver_parts.declared.driver.Driver.{Driver}
-use Rattle.driver_files.specs.driver_parts.declared.fault.DriverFault.TheVariants as driver_fault
-use Rattle.driver_files.specs.Reading.{DriverStop, driver_named}
-use Rattle.driver_files.specs.Reading as driver
+use Rattle.drivers.specs.driver_items.Symbols.{NamedTheories as NamedTheories}
+use Rattle.drivers.specs.declared.driver_parts.driver.Driver.{Driver}
+use Rattle.drivers.specs.declared.driver_parts.fault.DriverFault.TheVariants as driver_fault
+use Rattle.drivers.specs.driver_files.Reading.{DriverStop, driver_named}
+use Rattle.drivers.specs.driver_files.Reading as driver
 use Rattle.theories.specs.goal_tasks.Theories.{GoalTree, KnownTheoryTree, TheoriesTree, theory_named, goal_named}
 use Rattle.theories.specs.goal_tasks.Tasks.{task_for}
 use Rattle.theories.specs.theory_states.declared.fault.SourceFault.TheVariants as source_fault
 use Rattle.plain_theories.specs.Files.{PlainTheoriesOf, IsPlainFirstFault}
-use Rattle.fault_order.specs.declared.faults.Fault.TheVariants as fault
-use Rattle.fault_order.specs.Order.{RunStop, refused, absent, unread, Stage, Answer, After, HasOneAnswer, StageMeaning, ShortFile}
+use Rattle.statuses.specs.declared.fault_order.faults.Fault.TheVariants as fault
+use Rattle.statuses.specs.fault_order.Order.{RunStop, refused, absent, unread, Stage, Answer, After, HasOneAnswer, StageMeaning, ShortFile}
 use Rattle.source_goals.specs.Known.{KnownByDriver, known_of, IsKnownAs}
 
 -- ---- the theories of a source

@@ -9,17 +9,17 @@ use Rattle.syntax_why.specs.tokens_why.declared.token.Token.{Token}
 use Rattle.syntax_why.specs.declared.declarations.File.{File}
 use Rattle.syntax_why.specs.Declarations.{SyntaxTheory as Surface}
 use Rattle.syntax_why.specs.SurfaceDeclarations.{file_of}
-use Rattle.driver_files.specs.driver_parts.declared.driver.Driver.{Driver}
-use Rattle.driver_files.specs.driver_parts.declared.fault.DriverFault.{DriverFault}
-use Rattle.driver_files.specs.driver_parts.declared.fault.DriverFault.TheVariants as of_driver
+use Rattle.drivers.specs.declared.driver_parts.driver.Driver.{Driver}
+use Rattle.drivers.specs.declared.driver_parts.fault.DriverFault.{DriverFault}
+use Rattle.drivers.specs.declared.driver_parts.fault.DriverFault.TheVariants as of_driver
 use Rattle.theories.specs.goal_tasks.declared.theories.Theories.{Theories}
 use Rattle.theories.specs.goal_tasks.Theories.{TheoriesTree}
 use Rattle.theories.specs.goal_tasks.Meaning.{theories_at}
 use Rattle.theories.specs.theory_states.declared.fault.SourceFault.{SourceFault}
 use Rattle.theories.specs.theory_states.declared.fault.SourceFault.TheVariants as of_source
-use Rattle.fault_order.specs.declared.faults.Fault.TheVariants as fault
-use Rattle.fault_order.specs.declared.faults.RunFault.{RunFault}
-use Rattle.fault_order.specs.declared.faults.RunFault.TheVariants as run_fault
+use Rattle.statuses.specs.declared.fault_order.faults.Fault.TheVariants as fault
+use Rattle.statuses.specs.declared.fault_order.faults.RunFault.{RunFault}
+use Rattle.statuses.specs.declared.fault_order.faults.RunFault.TheVariants as run_fault
 use Rattle.source_goals.specs.declared.setting.GoalSetting.{GoalSetting}
 use Rattle.source_goals.specs.Order.{GoalSettingTree, setting_of}
 

@@ -1,13 +1,13 @@
 // The driver, from its files.
 // It depends on the reader of drivers; a goal under a driver depends on it.
 ghost use Rattle.std.specs.Prelude.{◌≡◌};
-ghost use Rattle.fault_order.specs.Answers.{Answers};
+ghost use Rattle.statuses.specs.fault_order.Answers.{Answers};
 ghost use Rattle.source_goals.specs.Known.{KnownByDriver, IsKnownAs};
 ghost use Rattle.source_goals.specs.Order.{DriverOf};
 ghost use Rattle.source_goals.specs.Values.{driver_fault, next_after_driver};
 
-use driver_files::{Driver, DriverFault, read_driver};
-use fault_order::{Fault, Library, RunFault};
+use drivers::driver_files::{Driver, DriverFault, read_driver};
+use statuses::fault_order::{Fault, Library, RunFault};
 use std::alloc::Global;
 use tasks::Signature;
 

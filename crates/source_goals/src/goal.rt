@@ -3,13 +3,13 @@
 ghost use Rattle.std.specs.Prelude.{IfOk};
 ghost use Rattle.tasks.specs.Meaning.{symbols_at, task_at, TaskHeld};
 ghost use Rattle.theories.specs.goal_tasks.Meaning.{theories_at, AllTheoriesHeld, AreTuples};
-ghost use Rattle.fault_order.specs.Answers.{Answers, IsStageAnswer};
+ghost use Rattle.statuses.specs.fault_order.Answers.{Answers, IsStageAnswer};
 ghost use Rattle.source_goals.specs.Order.{SourceTheoriesOf, Goal, TaskOf};
 ghost use Rattle.source_goals.specs.Sources.{AreSourceTheories, IsSourceTask};
 ghost use Rattle.source_goals.specs.Values.{theories_in, task_in};
 
 use crate::source::read_source;
-use fault_order::{Fault, Library, RunFault, fetch_short};
+use statuses::fault_order::{Fault, Library, RunFault, fetch_short};
 use std::alloc::Global;
 use tasks::{Store, Task};
 use theories::{TaskFault, Theories, task_of};

@@ -3,14 +3,14 @@
 ghost use Rattle.std.specs.Prelude.{◌≡◌, ◌++◌, List, IfOk, OnOk, map, slice_get, string_bytes};
 ghost use Rattle.tasks.specs.trees.Tree.{Tree};
 ghost use Rattle.theories.specs.goal_tasks.Meaning.{placed, theories_at};
-ghost use Rattle.fault_order.specs.Answers.{Answers};
+ghost use Rattle.statuses.specs.fault_order.Answers.{Answers};
 ghost use Rattle.source_goals.specs.Known.{said_names, own_in, own_names_at, names_in, theory_in, known_of, named_bytes};
 ghost use Rattle.source_goals.specs.Order.{DriverOf};
 ghost use Rattle.source_goals.specs.Values.{next_after_driver};
 
 use crate::driver::fetch_driver;
-use driver_files::Driver;
-use fault_order::{Library, RunFault, Seq};
+use drivers::driver_files::Driver;
+use statuses::fault_order::{Library, RunFault, Seq};
 use std::alloc::{AllocError, Global};
 use tasks::{Body, Decl};
 use theories::{Theories, Theory};

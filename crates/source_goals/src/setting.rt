@@ -3,15 +3,15 @@
 ghost use Rattle.std.specs.Prelude.{IfOk};
 ghost use Rattle.tasks.specs.Meaning.{symbols_at, task_at, TaskHeld};
 ghost use Rattle.theories.specs.goal_tasks.Meaning.{theories_at, AllTheoriesHeld, AreTuples};
-ghost use Rattle.fault_order.specs.Answers.{Answers, IsStageAnswer};
+ghost use Rattle.statuses.specs.fault_order.Answers.{Answers, IsStageAnswer};
 ghost use Rattle.source_goals.specs.Order.{Driven, GoalUnder, TaskUnder};
 ghost use Rattle.source_goals.specs.Sources.{AreSourceTheories, IsSourceTask};
 ghost use Rattle.source_goals.specs.Values.{next_in, setting_in};
 
 use crate::goal::{fetch_theories, task_in};
 use crate::known::driver_over;
-use driver_files::Driver;
-use fault_order::{Library, RunFault};
+use drivers::driver_files::Driver;
+use statuses::fault_order::{Library, RunFault};
 use std::alloc::Global;
 use tasks::{Store, Task};
 use theories::Theories;

@@ -8,13 +8,13 @@ ghost use Rattle.syntax_why.specs.SurfaceDeclarations.{file_of};
 ghost use Rattle.parse_decls.specs.recognise_why.Sources.{IsOnlyFile};
 ghost use Rattle.theories.specs.goal_tasks.Meaning.{theories_at, AllTheoriesHeld, AreTuples};
 ghost use Rattle.theories.specs.Sound.{SoundTheoriesOf};
-ghost use Rattle.fault_order.specs.Answers.{IsStageAnswer};
+ghost use Rattle.statuses.specs.fault_order.Answers.{IsStageAnswer};
 ghost use Rattle.source_goals.specs.Order.{Lexes, Parses, Declares, SourceTheories};
 ghost use Rattle.source_goals.specs.Sources.{AreSourceTheories};
 ghost use Rattle.source_goals.specs.Values.{tokens_in, file_in, theories_in, source_fault};
 
-use fault_order::{Fault, RunFault};
 use parse_decls::{SyntaxFault, parse};
+use statuses::fault_order::{Fault, RunFault};
 use std::alloc::Global;
 use std_theories::drop_file;
 use syntax_why::{File, LexFault, Token, lex};

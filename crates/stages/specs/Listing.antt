@@ -3,7 +3,7 @@ use Rattle.std.specs.Prelude.{ℕ, Bool, ◌&&◌, if◌then◌else◌, List, []
 use Rattle.std.specs.List.{list_any}
 use Rattle.std.specs.Str.{bytes_eq}
 use Rattle.tasks.specs.Task.{TaskTree, DeclarationTree}
-use Rattle.driver_parts.specs.declared.driver.Driver.{Driver}
+use Rattle.drivers.specs.declared.driver_parts.driver.Driver.{Driver}
 use Rattle.transformations.specs.tr_remove.Remove.{is_proposition}
 use Rattle.transformations.specs.declared.transformation.Transformation.{Transformation}
 use Rattle.transformations.specs.declared.transformation.Transformation.TheVariants.{Remove}

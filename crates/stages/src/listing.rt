@@ -8,8 +8,8 @@ ghost use Rattle.tasks.specs.Meaning.{declaration_at, declarations_at, task_at};
 ghost use Rattle.stages.specs.Listing.{is_removed_of, name_if, removed_names, removed_of, stages_of};
 ghost use Rattle.transformations.specs.Words.{transformation_of};
 
-use driver_items::Trans;
-use driver_parts::Driver;
+use drivers::driver_items::Trans;
+use drivers::driver_parts::Driver;
 use std::alloc::{AllocError, Global};
 use tasks::{Body, Decl, Seq, Task, Text};
 use transformations::{Remove, Transformation, transformation_of};

@@ -1,7 +1,7 @@
 -- A fault's code, then its numbers in the order of its fields.
 use Rattle.std.specs.Prelude.{ℕ, List, [], ◌∷◌}
-use Rattle.fault_order.specs.declared.faults.Fault.{Fault}
-use Rattle.fault_order.specs.declared.faults.Fault.TheVariants.{Lexical, BigLiteral, Syntax, TooDeep, ProgramDecl, TooLong, Unknown, Duplicate, WrongKind, Arity, Clash, Undetermined, NotExhaustive, BadClause, NotPositive, NotStructural, GroupTooWide, Uninhabited, BadSubstitution, DriverSyntax, UnknownTransformation, BadTemplate, UnknownSymbol, ImportCycle, UnknownPrinter, NoTheory, NoGoal, Misplaced, TooLarge, Polymorphic, Unprintable, NoSyntax, PartCount, WrongLine}
+use Rattle.statuses.specs.declared.fault_order.faults.Fault.{Fault}
+use Rattle.statuses.specs.declared.fault_order.faults.Fault.TheVariants.{Lexical, BigLiteral, Syntax, TooDeep, ProgramDecl, TooLong, Unknown, Duplicate, WrongKind, Arity, Clash, Undetermined, NotExhaustive, BadClause, NotPositive, NotStructural, GroupTooWide, Uninhabited, BadSubstitution, DriverSyntax, UnknownTransformation, BadTemplate, UnknownSymbol, ImportCycle, UnknownPrinter, NoTheory, NoGoal, Misplaced, TooLarge, Polymorphic, Unprintable, NoSyntax, PartCount, WrongLine}
 
 abbrev pub numbers : Fault → List ℕ
 numbers (Lexical byte) = 10 ∷ byte ∷ []

@@ -1,5 +1,5 @@
-pub use Rattle.fault_order.specs as fault_order
 pub use Rattle.outside.specs as outside
+pub mod fault_order
 pub mod Words
 pub mod Faults
 pub mod Lines

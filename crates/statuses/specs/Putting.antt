@@ -3,8 +3,8 @@ use Rattle.std.specs.Prelude.{◌≡◌, ℕ, List, Result, Ok, Err}
 use Rattle.outside.specs.State.{SinkState, PutsBytes}
 use Rattle.outside.specs.declared.traits.PutFault.{PutFault}
 use Rattle.outside.specs.declared.traits.PutFault.TheVariants as put_fault
-use Rattle.fault_order.specs.declared.faults.RunFault.{RunFault}
-use Rattle.fault_order.specs.declared.faults.RunFault.TheVariants as run_fault
+use Rattle.statuses.specs.declared.fault_order.faults.RunFault.{RunFault}
+use Rattle.statuses.specs.declared.fault_order.faults.RunFault.TheVariants as run_fault
 use Rattle.statuses.specs.Lines.{status_line}
 use Rattle.statuses.specs.declared.status.Status.{Status}
 use Rattle.statuses.specs.declared.status.Status.TheVariants as status

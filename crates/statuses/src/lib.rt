@@ -3,13 +3,14 @@
 //! Contract: exactly the command of the words; what a text or a line does to a sink, and the status after it.
 #![tactic(auto)]
 
+pub mod fault_order;
 mod lines;
 mod numbers;
 mod sinks;
 mod status;
 mod words;
 
-pub use fault_order::{Fault, RunFault, fetch_short, fetch_whole};
+pub use crate::fault_order::{Fault, RunFault, fetch_short, fetch_whole};
 pub use lines::line_of;
 pub use outside::{Library, Seq, Sink};
 pub use sinks::{finish, report};

@@ -4,8 +4,8 @@ ghost use Rattle.std.specs.Prelude.{◌≡◌, ◌++◌, [], ◌∷◌, IfOk, On
 ghost use Rattle.statuses.specs.Lines.{spaced_numbers, status_line};
 
 use crate::Status;
+use crate::fault_order::Fault;
 use crate::numbers::push_fault;
-use fault_order::Fault;
 use std::alloc::{AllocError, Global};
 
 const USAGE: &str =

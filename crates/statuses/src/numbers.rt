@@ -4,8 +4,8 @@ ghost use Rattle.std.specs.Prelude.{◌≡◌, ◌++◌, OnOk};
 ghost use Rattle.statuses.specs.Faults.{numbers};
 ghost use Rattle.statuses.specs.Lines.{spaced_numbers};
 
+use crate::fault_order::Fault;
 use crate::lines::push_numbers;
-use fault_order::Fault;
 use std::alloc::{AllocError, Global};
 
 /// Appends a fault's code and its fields in order, a blank before each.

@@ -1,12 +1,12 @@
 // What is put on the sinks, and the status with which a run ends.
 // It depends on the lines; the top call depends on it.
 ghost use Rattle.outside.specs.State.{PutsBytes};
-ghost use Rattle.fault_order.specs.Answers.{result_bytes};
+ghost use Rattle.statuses.specs.fault_order.Answers.{result_bytes};
 ghost use Rattle.statuses.specs.Putting.{FinishesRun, PutsText, Reports};
 
 use crate::Status;
+use crate::fault_order::RunFault;
 use crate::lines::line_of;
-use fault_order::RunFault;
 use outside::{PutFault, Sink};
 use std::alloc::Global;
 

@@ -3,7 +3,7 @@
 ghost use Rattle.std.specs.Prelude.{◌≡◌};
 ghost use Rattle.statuses.specs.Code.{code_of};
 
-use fault_order::Fault;
+use crate::fault_order::Fault;
 
 /// How a run ends.
 #[derive(Clone, Copy)]

@@ -10,15 +10,15 @@ use Rattle.tasks.specs.Meaning.{task_at}
 use Rattle.tasks.proofs.Growth.{task_later}
 use Rattle.name_entries.specs.declared.names.NameEntry.{NameEntry}
 use Rattle.rule_rows.specs.Trees.{RuleTree, StepTree}
-use Rattle.rule_words.specs.declared.argument.Argument.{Argument}
-use Rattle.rule_words.specs.declared.argument.ArgumentKind.{ArgumentKind}
-use Rattle.rule_words.specs.Arguments.{ArgumentTree, argument_at, arguments_at}
-use Rattle.rule_words.specs.Forms.{KindsOf}
-use Rattle.tree_lines.specs.declared.known.EarlierLines.{EarlierLines}
-use Rattle.tree_lines.specs.Words.{LineWord, texts, number, at_number, each}
-use Rattle.tree_lines.specs.Lines.{Earlier}
-use Rattle.tree_lines.specs.Made.{KnownHeld, earlier_at}
-use Rattle.tree_lines.proofs.Making.{words_taken, words_left, slice_left, earlier_later}
+use Rattle.step_lines.specs.declared.rule_words.argument.Argument.{Argument}
+use Rattle.step_lines.specs.declared.rule_words.argument.ArgumentKind.{ArgumentKind}
+use Rattle.step_lines.specs.rule_words.Arguments.{ArgumentTree, argument_at, arguments_at}
+use Rattle.step_lines.specs.rule_words.Forms.{KindsOf}
+use Rattle.step_lines.specs.declared.tree_lines.known.EarlierLines.{EarlierLines}
+use Rattle.step_lines.specs.tree_lines.Words.{LineWord, texts, number, at_number, each}
+use Rattle.step_lines.specs.tree_lines.Lines.{Earlier}
+use Rattle.step_lines.specs.tree_lines.Made.{KnownHeld, earlier_at}
+use Rattle.step_lines.proofs.tree_lines.Making.{words_taken, words_left, slice_left, earlier_later}
 use Rattle.step_lines.specs.Steps.{arguments, own_types, rule_arguments, rule_of_words, step_ended, step_of_line, step_by, before_colon, after_colon}
 
 module _ (t : TaskTree) (names : List NameEntry) (r : Earlier) (ks : KindsOf) (ws : List (Bor LineWord)) (c : ℕ) (cut : c ≡ min (length ks.first) (length ws)) where

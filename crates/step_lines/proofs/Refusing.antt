@@ -10,10 +10,10 @@ use Rattle.term_store.specs.trees.Tree.{Tree}
 use Rattle.term_store.specs.trees.Sorts.{WellSorted}
 use Rattle.tasks.specs.Task.{TaskTree}
 use Rattle.name_entries.specs.declared.names.NameEntry.{NameEntry}
-use Rattle.tree_lines.specs.Words.{LineWord, texts}
-use Rattle.tree_lines.specs.Lines.{Earlier, pattern_of_line, expression_of_line}
-use Rattle.tree_lines.specs.Made.{IsTreeMade}
-use Rattle.tree_lines.proofs.Making.{slice_left}
+use Rattle.step_lines.specs.tree_lines.Words.{LineWord, texts}
+use Rattle.step_lines.specs.tree_lines.Lines.{Earlier, pattern_of_line, expression_of_line}
+use Rattle.step_lines.specs.tree_lines.Made.{IsTreeMade}
+use Rattle.step_lines.proofs.tree_lines.Making.{slice_left}
 use Rattle.step_lines.specs.Steps.{Thing, PatternOf, ExpressionOf, line_made}
 use Rattle.step_lines.specs.Made.{ThingFits}
 

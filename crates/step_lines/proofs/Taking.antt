@@ -8,16 +8,16 @@ use Rattle.term_store.specs.trees.Tree.{Tree}
 use Rattle.term_store.specs.trees.Node.{tree_at, Holds}
 use Rattle.tasks.specs.Task.{TaskTree}
 use Rattle.tasks.specs.Meaning.{trees_at}
-use Rattle.rule_words.specs.declared.argument.Argument.{Argument}
-use Rattle.rule_words.specs.declared.argument.Argument.TheVariants as made
+use Rattle.step_lines.specs.declared.rule_words.argument.Argument.{Argument}
+use Rattle.step_lines.specs.declared.rule_words.argument.Argument.TheVariants as made
 use Rattle.name_entries.specs.declared.names.NameEntry.{NameEntry}
-use Rattle.rule_words.specs.declared.argument.ArgumentKind.{ArgumentKind}
-use Rattle.rule_words.specs.declared.argument.ArgumentKind.TheVariants as kind
-use Rattle.rule_words.specs.Arguments.{ArgumentTree, AType, argument_at, arguments_at, ArgumentHeld}
-use Rattle.tree_lines.specs.Words.{LineWord, texts}
-use Rattle.tree_lines.specs.Named.{meaning}
-use Rattle.tree_lines.specs.Lines.{Earlier}
-use Rattle.tree_lines.proofs.Making.{slice_left}
+use Rattle.step_lines.specs.declared.rule_words.argument.ArgumentKind.{ArgumentKind}
+use Rattle.step_lines.specs.declared.rule_words.argument.ArgumentKind.TheVariants as kind
+use Rattle.step_lines.specs.rule_words.Arguments.{ArgumentTree, AType, argument_at, arguments_at, ArgumentHeld}
+use Rattle.step_lines.specs.tree_lines.Words.{LineWord, texts}
+use Rattle.step_lines.specs.tree_lines.Named.{meaning}
+use Rattle.step_lines.specs.tree_lines.Lines.{Earlier}
+use Rattle.step_lines.proofs.tree_lines.Making.{slice_left}
 use Rattle.step_lines.specs.Steps.{argument, then_argument, arguments, next_kinds, types_named, own_types}
 
 pub first_and_rest : {A : Type 0} (xs : List A) (d : A) → 1 ≤ length xs → xs ≡ get_or xs 0 d ∷ take (length xs - 1) (drop 1 xs)

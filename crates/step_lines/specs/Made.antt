@@ -4,7 +4,7 @@ use Rattle.term_store.specs.trees.Tree.{Tree}
 use Rattle.term_store.specs.trees.Node.{tree_at, Holds}
 use Rattle.term_store.specs.trees.Sorts.{WellSorted}
 use Rattle.rule_rows.specs.Meaning.{step_at, StepHeld}
-use Rattle.tree_lines.specs.Made.{IsTypeHeld}
+use Rattle.step_lines.specs.tree_lines.Made.{IsTypeHeld}
 use Rattle.step_lines.specs.declared.thing.MadeThing.{MadeThing}
 use Rattle.step_lines.specs.declared.thing.MadeThing.TheVariants as made
 use Rattle.step_lines.specs.Steps.{Thing, TypeOf, PatternOf, ExpressionOf, StepOf}

@@ -7,15 +7,15 @@ use Rattle.tasks.specs.Task.{TaskTree}
 use Rattle.rule_rows.specs.Trees.{RuleTree, StepTree}
 use Rattle.name_entries.specs.declared.names.NameEntry.{NameEntry}
 use Rattle.integer_words.specs.Integers.{integer}
-use Rattle.rule_words.specs.declared.argument.ArgumentKind.{ArgumentKind}
-use Rattle.rule_words.specs.declared.argument.ArgumentKind.TheVariants as kind
-use Rattle.rule_words.specs.declared.name.RuleName.{RuleName}
-use Rattle.rule_words.specs.Arguments.{ArgumentTree, ANumber, ASymbol, AInteger, AExpression, AType}
-use Rattle.rule_words.specs.Forms.{KindsOf, argument_kinds}
-use Rattle.rule_words.specs.Rules.{rule_row, name_by_word, rule_from}
-use Rattle.tree_lines.specs.Words.{LineWord, number, at_number, each}
-use Rattle.tree_lines.specs.Named.{NameMeaning, entry_named, meaning}
-use Rattle.tree_lines.specs.Lines.{Earlier, symbol_number, type_of_line, pattern_of_line, expression_of_line}
+use Rattle.step_lines.specs.declared.rule_words.argument.ArgumentKind.{ArgumentKind}
+use Rattle.step_lines.specs.declared.rule_words.argument.ArgumentKind.TheVariants as kind
+use Rattle.step_lines.specs.declared.rule_words.name.RuleName.{RuleName}
+use Rattle.step_lines.specs.rule_words.Arguments.{ArgumentTree, ANumber, ASymbol, AInteger, AExpression, AType}
+use Rattle.step_lines.specs.rule_words.Forms.{KindsOf, argument_kinds}
+use Rattle.step_lines.specs.rule_words.Rules.{rule_row, name_by_word, rule_from}
+use Rattle.step_lines.specs.tree_lines.Words.{LineWord, number, at_number, each}
+use Rattle.step_lines.specs.tree_lines.Named.{NameMeaning, entry_named, meaning}
+use Rattle.step_lines.specs.tree_lines.Lines.{Earlier, symbol_number, type_of_line, pattern_of_line, expression_of_line}
 
 -- what a line makes
 pub data Thing : Type 0 where

@@ -5,19 +5,19 @@ ghost use Rattle.std.specs.Option.{option_map, option_and_then};
 ghost use Rattle.term_store.specs.trees.Node.{Grows};
 ghost use Rattle.binders.specs.Visits.{HoldTypes};
 ghost use Rattle.tasks.specs.Meaning.{task_at, trees_at};
-ghost use Rattle.rule_words.specs.Arguments.{AType, argument_at, arguments_at, ArgumentHeld};
-ghost use Rattle.tree_lines.specs.Words.{texts};
-ghost use Rattle.tree_lines.specs.Named.{entry_named, meaning};
-ghost use Rattle.tree_lines.specs.Lines.{symbol_number};
-ghost use Rattle.tree_lines.specs.Made.{KnownHeld, IsNamesOf, earlier_at};
+ghost use Rattle.step_lines.specs.rule_words.Arguments.{AType, argument_at, arguments_at, ArgumentHeld};
+ghost use Rattle.step_lines.specs.tree_lines.Words.{texts};
+ghost use Rattle.step_lines.specs.tree_lines.Named.{entry_named, meaning};
+ghost use Rattle.step_lines.specs.tree_lines.Lines.{symbol_number};
+ghost use Rattle.step_lines.specs.tree_lines.Made.{KnownHeld, IsNamesOf, earlier_at};
 ghost use Rattle.step_lines.specs.Steps.{argument, arguments, next_kinds, types_named, own_types};
 
+use crate::rule_words::{Argument, ArgumentKind};
+use crate::tree_lines::{EarlierLines, meaning_of, number_of_word, thing};
 use integer_words::integer;
 use name_entries::NameOf;
-use rule_words::{Argument, ArgumentKind};
 use std::alloc::{AllocError, Global};
 use term_store::{Store, TermId};
-use tree_lines::{EarlierLines, meaning_of, number_of_word, thing};
 
 // The symbol that a name stands for.
 fn symbol_named(x: &EarlierLines<'_>, word: &[u8]) -> Option<usize>
@@ -32,7 +32,7 @@ fn symbol_named(x: &EarlierLines<'_>, word: &[u8]) -> Option<usize>
 }
 
 // The argument of a kind that a word writes.
-#[tactic(auto, unfolding(rule_words::specs::Arguments::argument_at, rule_words::specs::Arguments::ArgumentHeld), using(tree_lines::proofs::Growing::types_held))]
+#[tactic(auto, unfolding(crate::specs::rule_words::Arguments::argument_at, crate::specs::rule_words::Arguments::ArgumentHeld), using(crate::proofs::tree_lines::Growing::types_held))]
 fn word_argument(
     store: &Store,
     x: &EarlierLines<'_>,
@@ -98,7 +98,7 @@ pub(crate) fn word_arguments(
 }
 
 // Types as arguments.
-#[tactic(auto, unfolding(rule_words::specs::Arguments::argument_at, rule_words::specs::Arguments::ArgumentHeld))]
+#[tactic(auto, unfolding(crate::specs::rule_words::Arguments::argument_at, crate::specs::rule_words::Arguments::ArgumentHeld))]
 fn type_arguments(
     alloc: Global,
     store: &Store,

@@ -5,8 +5,10 @@
 
 mod arguments;
 mod line;
+pub mod rule_words;
 mod steps;
 mod thing;
+pub mod tree_lines;
 mod words;
 
 pub use integer_words::{integer, integer_word};

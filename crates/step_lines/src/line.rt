@@ -3,17 +3,17 @@
 ghost use Rattle.std.specs.Prelude.{IfOk};
 ghost use Rattle.term_store.specs.trees.Node.{Grows};
 ghost use Rattle.tasks.specs.Meaning.{task_at};
-ghost use Rattle.tree_lines.specs.Words.{texts};
-ghost use Rattle.tree_lines.specs.Made.{KnownHeld, earlier_at};
+ghost use Rattle.step_lines.specs.tree_lines.Words.{texts};
+ghost use Rattle.step_lines.specs.tree_lines.Made.{KnownHeld, earlier_at};
 ghost use Rattle.step_lines.specs.Steps.{line_made};
 ghost use Rattle.step_lines.specs.Made.{IsMadeThing};
 
 use crate::steps::line_step;
 use crate::thing::MadeThing;
+use crate::tree_lines::{EarlierLines, line_expression, line_pattern, line_type};
 use crate::words::is;
 use std::alloc::{AllocError, Global};
 use term_store::Store;
-use tree_lines::{EarlierLines, line_expression, line_pattern, line_type};
 
 /// What a line makes, by its words; none where they make nothing, or a tree whose parts don't fit. Only want of memory
 /// refuses.

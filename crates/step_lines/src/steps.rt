@@ -5,21 +5,21 @@ ghost use Rattle.std.specs.Option.{option_map};
 ghost use Rattle.term_store.specs.trees.Node.{Holds, Grows};
 ghost use Rattle.tasks.specs.Meaning.{task_at, trees_at};
 ghost use Rattle.rule_rows.specs.Meaning.{rule_at, step_at, RuleHeld, StepHeld};
-ghost use Rattle.rule_words.specs.Arguments.{arguments_at, ArgumentHeld};
-ghost use Rattle.rule_words.specs.Forms.{argument_kinds};
-ghost use Rattle.rule_words.specs.Rules.{rule_row};
-ghost use Rattle.tree_lines.specs.Words.{texts};
-ghost use Rattle.tree_lines.specs.Made.{KnownHeld, earlier_at};
+ghost use Rattle.step_lines.specs.rule_words.Arguments.{arguments_at, ArgumentHeld};
+ghost use Rattle.step_lines.specs.rule_words.Forms.{argument_kinds};
+ghost use Rattle.step_lines.specs.rule_words.Rules.{rule_row};
+ghost use Rattle.step_lines.specs.tree_lines.Words.{texts};
+ghost use Rattle.step_lines.specs.tree_lines.Made.{KnownHeld, earlier_at};
 ghost use Rattle.step_lines.specs.Steps.{rule_arguments, rule_named, rule_of_words, step_ended, step_of_line};
 
 use crate::arguments::{types_of_first, word_arguments};
+use crate::rule_words::{Argument, RuleName, kinds_of, name_of_word, rule_of};
+use crate::tree_lines::{EarlierLines, things_at};
 use crate::words::{colon, numbers};
 use rule_rows::{Rule, Step};
-use rule_words::{Argument, RuleName, kinds_of, name_of_word, rule_of};
 use std::alloc::{AllocError, Global};
 use tasks::Seq;
 use term_store::{Store, TermId};
-use tree_lines::{EarlierLines, things_at};
 
 // Three lists of arguments as one.
 fn join_arguments(

@@ -3,11 +3,11 @@
 ghost use Rattle.std.specs.Prelude.{◌≡◌, ◌<◌, ◌+◌, Some, None, length, take, drop, IfOk, MatchOption};
 ghost use Rattle.std.specs.Str.{bytes_eq};
 ghost use Rattle.std.specs.Option.{option_map};
-ghost use Rattle.tree_lines.specs.Words.{number, each, texts};
+ghost use Rattle.step_lines.specs.tree_lines.Words.{number, each, texts};
 ghost use Rattle.step_lines.specs.Steps.{before_colon, after_colon};
 
+use crate::tree_lines::number_of_word;
 use std::alloc::{AllocError, Global};
-use tree_lines::number_of_word;
 
 // Whether a word is this one.
 pub(crate) fn is(word: &[u8], text: &str) -> bool

@@ -12,8 +12,8 @@ use Rattle.tasks.specs.Meaning.{SymbolHeld, DeclHeld}
 use Rattle.elab_parts.specs.elab_walk.Drafts.{HoldsType, SymbolTyped}
 use Rattle.tasks.proofs.Growth.{all_held_later, decl_held_later}
 use Rattle.rule_rows.specs.Meaning.{StepHeld, StepsHeld}
-use Rattle.written_files.proofs.kernel.Growth.{steps_held_later}
-use Rattle.tree_lines.proofs.Growing.{types_pushed}
+use Rattle.step_writing.proofs.kernel.Growth.{steps_held_later}
+use Rattle.step_lines.proofs.tree_lines.Growing.{types_pushed}
 use Rattle.step_lines.specs.declared.thing.MadeThing.{MadeThing}
 use Rattle.step_lines.specs.declared.thing.MadeThing.TheVariants as made
 use Rattle.step_lines.specs.Made.{ThingHeld}

@@ -11,9 +11,9 @@ use crate::words::number_of;
 use row_texts::put_number;
 use rule_rows::Step;
 use std::alloc::{AllocError, Global};
+use step_lines::tree_lines::TableNames;
+use step_writing::{NameEntry, NameOf, closes, ends_in_start, first_wrong};
 use tasks::{Seq, Store, Task, Text};
-use tree_lines::TableNames;
-use written_files::{NameEntry, NameOf, closes, ends_in_start, first_wrong};
 
 // What a name stands for: `int` for the number 0, a type variable of the goal for a number after `!`, else a symbol.
 fn meaning_of(word: &str) -> NameOf {

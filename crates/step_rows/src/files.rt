@@ -2,16 +2,16 @@
 // They depend on the reader and the writer of step files; the answers depend on them.
 ghost use Rattle.std.specs.Prelude.{List, ℕ, IfOk};
 ghost use Rattle.tasks.specs.Meaning.{task_at, TaskHeld};
-ghost use Rattle.written_files.specs.kernel.Right.{Closes};
-ghost use Rattle.written_files.specs.step_files.Fed.{IsFed};
+ghost use Rattle.step_writing.specs.kernel.Right.{Closes};
+ghost use Rattle.step_writing.specs.step_reading.Fed.{IsFed};
 ghost use Rattle.rule_rows.specs.Meaning.{steps_at, StepsHeld};
 
 use crate::words::number_of;
 use row_texts::put_number;
 use rule_rows::Step;
 use std::alloc::{AllocError, Global};
+use step_writing::{NameEntry, ReadFault, StepReader, written_steps};
 use tasks::{Store, Task};
-use written_files::{NameEntry, ReadFault, StepReader, written_steps};
 
 /// The names by which files are read, and those by which they are written.
 #[derive(Drop)]

@@ -4,7 +4,7 @@ ghost use Rattle.std.specs.Prelude.{IfOk, IfSome, OnOk};
 ghost use Rattle.tasks.specs.trees.Node.{Grows};
 ghost use Rattle.tasks.specs.Meaning.{TaskHeld};
 ghost use Rattle.rule_rows.specs.Meaning.{StepHeld, StepsHeld};
-ghost use Rattle.tree_lines.specs.Made.{IsNamesOf};
+ghost use Rattle.step_lines.specs.tree_lines.Made.{IsNamesOf};
 ghost use Rattle.step_lines.specs.Made.{ThingHeld};
 ghost use Rattle.step_rows.specs.Read.{RowReadHeld};
 
@@ -12,10 +12,10 @@ use crate::read::{Read, keep};
 use row_texts::{put_number, put_tree, put_trees};
 use rule_rows::{Rule, Step};
 use std::alloc::{AllocError, Global};
+use step_lines::tree_lines::{EarlierLines, TableNames};
 use step_lines::{MadeThing, integer_word, made_by_line};
+use step_writing::{Argument, NameEntry, right_step, word_of, written_rule};
 use tasks::{Store, Task};
-use tree_lines::{EarlierLines, TableNames};
-use written_files::{Argument, NameEntry, right_step, word_of, written_rule};
 
 // An argument of a rule: the letter of its kind, and its number or its tree.
 fn put_argument(

@@ -1,45 +1,56 @@
--- What a valid task and the ends of its parts give.
-use Rattle.std.specs.Prelude.{Ok}
-use Rattle.std.proofs.Common.{◌≡◌, ℕ, ◌<◌, List, [], ◌∷◌, ◌++◌, length, map, get_or, All, sym, ap, subst, ◌∙◌, arith}
-use Rattle.std.proofs.lemmas.List.{get_or-map, length-map}
-use Rattle.std.proofs.lemmas.List.Elements.{All-map}
-use Rattle.trees.specs.Tree.{Tree, Leaf, HEnd}
-use Rattle.trees.specs.Node.{tree_at}
-use Rattle.tasks.specs.declared.task.Task.{Task}
-use Rattle.tasks.specs.declared.facts.Fact.{Fact}
-use Rattle.tasks.specs.Task.{TaskTree, neg, start}
+-- Steps of goals over drafts that have grown, and after a fault.
+use Rattle.std.proofs.Common.{◌≡◌, ℕ, List, [], ◌∷◌, ◌++◌, ◌∙◌, Result, IsErrAnd, append_assoc}
+use Rattle.std.proofs.lemmas.Result.{IfOk-weaker}
+use Rattle.std.proofs.lemmas.List.Elements.{All-cons, All-nil}
+use Rattle.std.specs.declared.alloc.AllocError.{AllocError}
+use Rattle.tasks.specs.trees.declared.TermId.{TermId}
+use Rattle.tasks.specs.trees.Tree.{Tree}
+use Rattle.tasks.specs.Task.{neg}
 use Rattle.tasks.specs.Meaning.{trees_at}
-use Rattle.tasks.specs.Copying.{with_goal}
-use Rattle.evidence.specs.Drafts.{DraftTree, Refutes}
-use Rattle.evidence.specs.Facts.{IsFact}
-use Rattle.task_parts.proofs.Facts.{fact_renamed, named_kept}
-use Rattle.tr_split.specs.Kept.{parts_are_split}
-use Rattle.evidence.specs.Stages.{Gives, IsAmong, IsOwnTask, EndIn, no_task, start_of}
-use Rattle.tr_split.specs.Split.{split, split_task}
-use Rattle.tr_split.specs.Glue.{EndsOfParts}
+use Rattle.tasks.proofs.outside.Passed.{no_value}
+use Rattle.evidence.specs.Drafts.{DraftTree, Extends, Refutes, AreFormulas, IsFormulaAt}
+use Rattle.evidence.specs.Laws.{Extends_trans}
+use Rattle.evidence.proofs.Formulas.{same, formulas_later}
+use Rattle.evidence.proofs.Ends.{neg_back}
+use Rattle.proof_scripts.specs.declared.line.Line.{Line}
+use Rattle.proof_scripts.specs.Scripts.{LineHeld, LinesHeld}
+use Rattle.tr_split.specs.Gluing.{CanGlue, RefutesGoal, IsGlued, IsGoalOpened}
 
-starts_at : (t : TaskTree) (es : List Tree) (i : ℕ) → i < length es → start_of (map (with_goal t) es) i ≡ t.locals ++ neg (get_or es i (Leaf HEnd)) ∷ []
-starts_at t es i h = ap start (get_or-map (with_goal t) es i (Leaf HEnd) no_task h)
+-- nothing was made
+pub glued_none : (d d1 : DraftTree) (front : List TermId) (goal : TermId) (r : Result ℕ AllocError) (Q : AllocError → Type 0) → Extends d d1 → IsErrAnd r Q → IsGlued d d1 front goal r
+glued_none d d1 front goal r Q x h = record { refutes = no_value (RefutesGoal d d1 front goal) Q r h; grows = x }
 
-task_ends : (d : DraftTree) (ends : List ℕ) (tasks : List TaskTree) → tasks ≡ split_task d.task → EndIn d ends tasks → EndsOfParts d ends d.task.locals (split d.task.goal)
-task_ends d ends tasks e u =
-    let es = split d.task.goal in
-    let n : length tasks ≡ length es = ap length e ∙ length-map es (with_goal d.task) in
+-- what is said of the later draft, by the trees of the earlier one
+module _ (d d1 : DraftTree) (x : Extends d d1) (front : List TermId) (f : AreFormulas d front) (goal : TermId) (g : IsFormulaAt d goal) where
+  pub refutes_before : (d2 : DraftTree) (k : ℕ) → RefutesGoal d1 d2 front goal k → RefutesGoal d d2 front goal k
+  refutes_before d2 k r = neg_back d d1 x front f goal g d2 k r
+
+  pub glued_before : (d2 : DraftTree) (r : Result ℕ AllocError) → IsGlued d1 d2 front goal r → IsGlued d d2 front goal r
+  glued_before d2 r h = record { refutes = IfOk-weaker r (RefutesGoal d1 d2 front goal) (RefutesGoal d d2 front goal) (λ k q. refutes_before d2 k q) h.refutes; grows = Extends_trans d d1 d2 x h.grows }
+
+-- the end of a goal, by equal trees
+pub end_trees : (d : DraftTree) (k : ℕ) {f g : List Tree} {a b : Tree} → f ≡ g → a ≡ b → Refutes d k (f ++ neg a ∷ []) → Refutes d k (g ++ neg b ∷ [])
+end_trees d k e q r = record { within = r.within; is = r.is ∙ cc (e, q) }
+
+pub regroup_back : (d : DraftTree) (k : ℕ) (f : List Tree) (a b : Tree) → Refutes d k ((f ++ a ∷ []) ++ neg b ∷ []) → Refutes d k (f ++ a ∷ neg b ∷ [])
+regroup_back d k f a b r = record { within = r.within; is = r.is ∙ append_assoc f (a ∷ []) (neg b ∷ []) }
+
+-- what a goal is opened to can be glued
+pub opened_can : (d d1 : DraftTree) (x : Extends d d1) (front : List TermId) (f : AreFormulas d front) (e : Tree) (n m : ℕ) (id : TermId) (made ends : List ℕ) → m ≡ n → ends ≡ made → IsGoalOpened d d1 front e n id made → CanGlue d1 front id m ends
+opened_can d d1 x front f e n m id made ends p q o =
+    let b : trees_at d1.trees front ≡ trees_at d.trees front = same d d1 x front f in
     record {
-      as_many = u.as_many ∙ n;
-      each = λ i h. subst (λ (z : List Tree). Refutes d (get_or ends i 0) z) (ap (λ (ts : List TaskTree). start_of ts i) e ∙ starts_at d.task es i h) (u.each i (omega arith));
+      front = formulas_later d d1 x front f;
+      goal = o.formula;
+      below = rw (b, o.is, p) o.below;
+      ends = rw (b, o.is, q) o.ends;
     }
 
-pub own_ends : (d : DraftTree) (from : Task) (ends : List ℕ) (tasks : List TaskTree) → IsOwnTask d from → tasks ≡ split_task d.task → EndIn d ends tasks → EndsOfParts d ends (trees_at d.trees from.locals) (split (tree_at d.trees from.goal))
-own_ends d from ends tasks o e u =
-    let l : d.task.locals ≡ trees_at d.trees from.locals = sym (ap (λ (t : TaskTree). t.locals) o.is) in
-    let g : d.task.goal ≡ tree_at d.trees from.goal = sym (ap (λ (t : TaskTree). t.goal) o.is) in
-    subst (λ (z : Tree). EndsOfParts d ends (trees_at d.trees from.locals) (split z)) g (subst (λ (z : List Tree). EndsOfParts d ends z (split d.task.goal)) l (task_ends d ends tasks e u))
+-- the lines of a script one by one
+abbrev pub EachHeld : DraftTree → List Line → Type 0
+EachHeld d [] = Unit {0}
+EachHeld d (l ∷ ls) = LineHeld d l × EachHeld d ls
 
--- a fact of a task of the split is one of the old task
-pub fact_kept : (from t : TaskTree) (name : Fact) (types : List Tree) (formula : Tree) → IsAmong (Gives (λ z. Ok (split_task z)) from) t → IsFact from t name types formula → IsFact from from name types formula
-fact_kept from t name types formula a =
-    let P : TaskTree → Type 0 = λ z. IsFact from z name types formula → IsFact from from name types formula in
-    let said : (e : Tree) → P (with_goal from e) = λ e. fact_renamed from (with_goal from e) from name name types formula (named_kept from from.params from.locals e name) in
-    let all : All P a.tasks = subst (All P) (sym (parts_are_split from a.tasks a.is)) (All-map P (with_goal from) (split from.goal) (λ k z h. said _)) in
-    subst P a.there (all a.place no_task a.within)
+pub lines_held : (d : DraftTree) (ls : List Line) → EachHeld d ls → LinesHeld d ls
+lines_held d [] h = All-nil (LineHeld d)
+lines_held d (l ∷ ls) h = All-cons (LineHeld d) l ls h.0 (lines_held d ls h.1)

@@ -1,5 +1,7 @@
-pub mod Sentences
-pub mod Gained
-pub mod Tasks
-pub mod Pieces
+pub mod Instances
+pub mod Scripts
+pub mod Inner
+pub mod Overs
+pub mod Values
+pub mod Opened
 pub mod Glued

@@ -1,4 +1,5 @@
-pub mod Split
-pub mod Parts
-pub mod Glue
+pub mod parts
+pub mod Goals
+pub mod Gluing
+pub mod Over
 pub mod Kept

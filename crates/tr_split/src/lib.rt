@@ -1,9 +1,13 @@
-//! The parts of a goal, as `split_goal_right` takes it apart, and a task for each.
+//! The transformation that splits every goal, under `forall`, `let` and `if` too, and brings refutations of the parts back.
 //!
-//! Contract: the tasks of its equation.
+//! Contract: `Transform`.
 #![tactic(auto)]
 
-mod parts;
-mod split;
+mod gluing;
+mod opening;
+mod over;
+pub mod parts;
+mod refuting;
+mod splitting;
 
-pub use split::split_goal;
+pub use splitting::Split;

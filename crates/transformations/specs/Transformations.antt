@@ -20,8 +20,8 @@ use Rattle.tr_recursion.specs.Kept.{recursions_equation, recursions_keep}
 use Rattle.tr_remove.specs.Kept.{remove_keeps}
 use Rattle.tr_remove.specs.Remove.{remove_equation}
 use Rattle.tr_simplify.specs.Kept.{simplified_equation, simplified_keep}
-use Rattle.tr_split_goals.specs.Goals.{split_equation}
-use Rattle.tr_split_goals.specs.Kept.{split_keeps}
+use Rattle.tr_split.specs.Goals.{split_equation}
+use Rattle.tr_split.specs.Kept.{split_keeps}
 use Rattle.transformations.specs.declared.transformation.Transformation.{Transformation}
 use Rattle.transformations.specs.declared.transformation.Transformation.TheVariants.{Remove, Split, Introduce, Definitions, InductiveGroups, Inline, Lets, Matches, Conditionals, SimplifiedFormulas, Discriminate, Recursion, AlgebraicTypes}
 

@@ -1,6 +1,6 @@
 -- The transformations that the words of a driver name.
-use Rattle.driver_items.specs.declared.kinds.Trans.{Trans}
-use Rattle.driver_items.specs.declared.kinds.Trans.TheVariants.{SplitGoalRight, IntroducePremises, EliminateDefinition, EliminateInductive, InlineAll, InlineGoal, InlineTrivial, EliminateLet, EliminateMatch, EliminateIf, SimplifyFormula, Discriminate, EliminateRecursion, EliminateAlgebraic}
+use Rattle.drivers.specs.declared.driver_items.kinds.Trans.{Trans}
+use Rattle.drivers.specs.declared.driver_items.kinds.Trans.TheVariants.{SplitGoalRight, IntroducePremises, EliminateDefinition, EliminateInductive, InlineAll, InlineGoal, InlineTrivial, EliminateLet, EliminateMatch, EliminateIf, SimplifyFormula, Discriminate, EliminateRecursion, EliminateAlgebraic}
 use Rattle.tr_inline.specs.full_bodies.inlining.declared.modes.InlineMode.TheVariants as mode
 use Rattle.transformations.specs.declared.transformation.Transformation.{Transformation}
 use Rattle.transformations.specs.declared.transformation.Transformation.TheVariants.{Split, Introduce, Definitions, InductiveGroups, Inline, Lets, Matches, Conditionals, SimplifiedFormulas, Discriminate, Recursion, AlgebraicTypes}

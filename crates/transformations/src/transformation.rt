@@ -16,7 +16,7 @@ use tr_match::Matches;
 use tr_recursion::Recursion;
 use tr_remove::Remove;
 use tr_simplify::SimplifiedFormulas;
-use tr_split_goals::Split;
+use tr_split::Split;
 
 /// A transformation of tasks.
 #[derive(Drop)]

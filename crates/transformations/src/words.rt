@@ -4,7 +4,7 @@ ghost use Rattle.std.specs.Prelude.{◌≡◌};
 ghost use Rattle.transformations.specs.Words.{transformation_of};
 
 use crate::transformation::Transformation;
-use driver_items::Trans;
+use drivers::driver_items::Trans;
 use tr_algebraic::AlgebraicTypes;
 use tr_define::{Definitions, InductiveGroups};
 use tr_discriminate::Discriminate;
@@ -15,7 +15,7 @@ use tr_let::Lets;
 use tr_match::Matches;
 use tr_recursion::Recursion;
 use tr_simplify::SimplifiedFormulas;
-use tr_split_goals::Split;
+use tr_split::Split;
 
 /// The transformation that a word names.
 pub fn transformation_of(name: Trans) -> Transformation

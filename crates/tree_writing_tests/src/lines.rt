@@ -6,9 +6,9 @@ ghost use Rattle.trees.specs.Node.{Holds};
 use crate::names::{MEMORY, table};
 use std::alloc::Global;
 use std::process::Abort;
+use step_lines::tree_lines::TableNames;
+use step_writing::tree_writing::{SymbolNames, find_line, push_line, push_numbers, written_trees};
 use term_store::{Grow, Store};
-use tree_lines::TableNames;
-use tree_writing::{SymbolNames, find_line, push_line, push_numbers, written_trees};
 use trees::{Node, Op, TermId};
 
 const END: TermId = TermId(0);

@@ -5,9 +5,9 @@ use name_entries::{NameEntry, NameOf};
 use outside::{Seq, Text};
 use std::alloc::Global;
 use std::process::Abort;
+use step_lines::tree_lines::TableNames;
+use step_writing::tree_writing::SymbolNames;
 use term_store::{Grow, Store};
-use tree_lines::TableNames;
-use tree_writing::SymbolNames;
 use trees::{Node, TermId};
 
 pub(crate) const MEMORY: &str = "out of memory";

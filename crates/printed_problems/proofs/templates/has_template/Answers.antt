@@ -2,7 +2,7 @@ use Rattle.std.proofs.Common.{◌≡◌, ◌==◌, ℕ, List, Bool, false, if◌
 use Rattle.std.specs.List.{list_any}
 use Rattle.std.specs.Option.{is_some}
 use Rattle.std.proofs.lemmas.Bool.Decides.{nat_tests}
-use Rattle.driver_items.specs.declared.kinds.Piece.{Piece}
+use Rattle.drivers.specs.declared.driver_items.kinds.Piece.{Piece}
 use Rattle.printed_problems.specs.Templates.{bytes_alone, template_in}
 use Rattle.printed_problems.proofs.FactList.{any_template}
 use Rattle.printed_problems.proofs.templates.has_template.Goals as goal

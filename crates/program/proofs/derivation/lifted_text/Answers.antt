@@ -6,7 +6,7 @@ use Rattle.tasks.specs.Valid.{IsValid}
 use Rattle.tasks.proofs.Growth.{task_later, task_held_later}
 use Rattle.rule_rows.specs.declared.rule.Step.{Step}
 use Rattle.rule_rows.specs.Meaning.{steps_at, StepsHeld}
-use Rattle.written_files.specs.kernel.Right.{Closes}
+use Rattle.step_writing.specs.kernel.Right.{Closes}
 use Rattle.stages.specs.evidence.Stages.{parts_at}
 use Rattle.stages.specs.transformations.declared.transformation.Transformation.{Transformation}
 use Rattle.stages.specs.transformations.Transformations.{equation_of}

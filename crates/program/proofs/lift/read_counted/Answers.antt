@@ -3,7 +3,7 @@ use Rattle.std.proofs.lemmas.List.{length-map}
 use Rattle.tasks.specs.Meaning.{task_at, tasks_at}
 use Rattle.statuses.specs.fault_order.Answers.{Answers}
 use Rattle.program.specs.Order.{Handed}
-use Rattle.statuses.specs.fault_order.declared.faults.RunFault.{RunFault}
+use Rattle.statuses.specs.declared.fault_order.faults.RunFault.{RunFault}
 use Rattle.program.proofs.Lifting.{count_refused, handed_answers}
 use Rattle.program.proofs.lift.read_counted.Goals as goal
 

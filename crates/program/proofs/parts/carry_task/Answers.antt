@@ -7,7 +7,7 @@ use Rattle.stages.specs.Faults.{IsCarryFault}
 use Rattle.stages.specs.Levels.{IsCarried}
 use Rattle.stages.specs.Steps.{AreTasksOf}
 use Rattle.statuses.specs.fault_order.Answers.{IsStageAnswer}
-use Rattle.statuses.specs.fault_order.declared.faults.RunFault.{RunFault}
+use Rattle.statuses.specs.declared.fault_order.faults.RunFault.{RunFault}
 use Rattle.program.specs.Order.{Carried}
 use Rattle.program.specs.Values.{setting_at}
 use Rattle.program.proofs.PartAnswers.{carried_ok, carried_err}

@@ -8,13 +8,13 @@ use Rattle.rule_rows.specs.declared.rule.Step.{Step}
 use Rattle.rule_rows.specs.Trees.{StepTree}
 use Rattle.rule_rows.specs.Meaning.{steps_at}
 use Rattle.stages.specs.evidence.Stages.{parts_at, task_or, PartsHeld}
-use Rattle.written_files.specs.kernel.Right.{Closes}
+use Rattle.step_writing.specs.kernel.Right.{Closes}
 use Rattle.part_texts.specs.printed_problems.declared.printed.Problem.{Problem}
 use Rattle.part_texts.specs.printed_problems.Problems.{problem_of}
 use Rattle.part_texts.proofs.Parted.{problem_there, names_there}
 use Rattle.statuses.specs.fault_order.Answers.{Answers}
 use Rattle.program.specs.Order.{PartFile, FirstFiles}
-use Rattle.statuses.specs.fault_order.declared.faults.RunFault.{RunFault}
+use Rattle.statuses.specs.declared.fault_order.faults.RunFault.{RunFault}
 use Rattle.program.proofs.Files.{FirstClose, close_all, part_later, part_held, handed_later, handed_held, handed_more, held_more, close_more, name_at, files_more, files_stop}
 use Rattle.program.proofs.refutations.read_files.Goals as goal
 

@@ -1,9 +1,9 @@
 use Rattle.std.proofs.Common.{Ok, Err, Result, sym, subst}
-use Rattle.driver_files.specs.driver_parts.declared.driver.Driver.{Driver}
-use Rattle.fault_order.specs.Answers.{Answers}
+use Rattle.drivers.specs.declared.driver_parts.driver.Driver.{Driver}
+use Rattle.statuses.specs.fault_order.Answers.{Answers}
 use Rattle.source_goals.specs.Order.{DriverOf}
 use Rattle.source_goals.specs.Values.{next_after_driver}
-use Rattle.fault_order.specs.declared.faults.RunFault.{RunFault}
+use Rattle.statuses.specs.declared.fault_order.faults.RunFault.{RunFault}
 use Rattle.source_goals.proofs.Driving.{driver_answers}
 use Rattle.source_goals.proofs.driver.fetch_driver.Goals as goal
 

@@ -1,9 +1,9 @@
 use Rattle.std.proofs.Common.{ℕ, List, subst}
-use Rattle.fault_order.specs.Answers.{IsStageAnswer}
+use Rattle.statuses.specs.fault_order.Answers.{IsStageAnswer}
 use Rattle.source_goals.specs.Order.{SourceTheories}
 use Rattle.source_goals.specs.Values.{theories_in}
-use Rattle.fault_order.proofs.Meeting.{answers_then}
-use Rattle.fault_order.proofs.Stages.{answers_stage}
+use Rattle.statuses.proofs.fault_order.Meeting.{answers_then}
+use Rattle.statuses.proofs.fault_order.Stages.{answers_stage}
 use Rattle.source_goals.proofs.goal.fetch_theories.Goals as goal
 
 pub returns-clause-answers : goal.returns-clause-answers

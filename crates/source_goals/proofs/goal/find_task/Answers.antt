@@ -1,8 +1,8 @@
 use Rattle.theories.specs.goal_tasks.Meaning.{theories_at}
 use Rattle.source_goals.specs.Order.{TaskOf}
 use Rattle.source_goals.specs.Values.{task_in}
-use Rattle.fault_order.proofs.Meeting.{answers_then}
-use Rattle.fault_order.proofs.Stages.{answers_stage}
+use Rattle.statuses.proofs.fault_order.Meeting.{answers_then}
+use Rattle.statuses.proofs.fault_order.Stages.{answers_stage}
 use Rattle.source_goals.proofs.Naming.{naming}
 use Rattle.source_goals.proofs.goal.find_task.Goals as goal
 

@@ -1,5 +1,5 @@
 use Rattle.source_goals.specs.Order.{Driven}
-use Rattle.fault_order.proofs.Meeting.{answers_then}
+use Rattle.statuses.proofs.fault_order.Meeting.{answers_then}
 use Rattle.source_goals.proofs.setting.find_setting.Goals as goal
 
 pub returns-clause-answers : goal.returns-clause-answers

@@ -1,6 +1,6 @@
 use Rattle.std.proofs.Common.{rules}
 use Rattle.theories.specs.goal_tasks.Meaning.{theories_at}
-use Rattle.fault_order.proofs.Meeting.{answers_then, answers_stop}
+use Rattle.statuses.proofs.fault_order.Meeting.{answers_then, answers_stop}
 use Rattle.source_goals.specs.Values.{next_in, setting_in}
 use Rattle.source_goals.proofs.Settings.{under, under_answers}
 use Rattle.source_goals.proofs.setting.task_driven.Goals as goal

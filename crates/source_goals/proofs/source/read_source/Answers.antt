@@ -2,7 +2,7 @@ use Rattle.std.proofs.Common.{List, Ok, subst}
 use Rattle.syntax_why.specs.tokens_why.declared.token.Token.{Token}
 use Rattle.syntax_why.specs.Lexeme.{rest}
 use Rattle.syntax_why.specs.SurfaceDeclarations.{file_of}
-use Rattle.fault_order.proofs.Stages.{gives_then}
+use Rattle.statuses.proofs.fault_order.Stages.{gives_then}
 use Rattle.source_goals.specs.Order.{Lexes, Parses, FileTheories, Declares}
 use Rattle.source_goals.specs.Values.{theories_in}
 use Rattle.source_goals.proofs.source.read_source.Goals as goal

@@ -1,8 +1,8 @@
 use Rattle.std.proofs.Common.{Result, Err, sym, subst}
 use Rattle.syntax_why.specs.SurfaceDeclarations.{file_of}
 use Rattle.theories.specs.goal_tasks.Theories.{TheoriesTree}
-use Rattle.fault_order.specs.declared.faults.RunFault.{RunFault}
-use Rattle.fault_order.specs.Answers.{IsStageAnswer}
+use Rattle.statuses.specs.declared.fault_order.faults.RunFault.{RunFault}
+use Rattle.statuses.specs.fault_order.Answers.{IsStageAnswer}
 use Rattle.plain_theories.proofs.Typed.{theories_plainly}
 use Rattle.source_goals.specs.Order.{Declares}
 use Rattle.source_goals.proofs.Faults.{no_theories}

@@ -1,7 +1,7 @@
 use Rattle.std.proofs.lemmas.List.Elements.{All-push}
 use Rattle.term_store.specs.trees.declared.TermId.{TermId}
-use Rattle.rule_words.specs.Arguments.{ArgumentHeld}
-use Rattle.tree_lines.proofs.Growing.{type_there}
+use Rattle.step_lines.specs.rule_words.Arguments.{ArgumentHeld}
+use Rattle.step_lines.proofs.tree_lines.Growing.{type_there}
 use Rattle.step_lines.proofs.Taking.{type_taken, type_is_held}
 use Rattle.step_lines.proofs.arguments.type_arguments.Goals as goal
 

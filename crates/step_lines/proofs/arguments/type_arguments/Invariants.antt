@@ -1,6 +1,6 @@
 use Rattle.std.proofs.Common.{◌≡◌, ◌++◌, drop, map, All}
 use Rattle.tasks.specs.Meaning.{trees_at}
-use Rattle.rule_words.specs.Arguments.{AType, arguments_at, ArgumentHeld}
+use Rattle.step_lines.specs.rule_words.Arguments.{AType, arguments_at, ArgumentHeld}
 use Rattle.step_lines.proofs.arguments.type_arguments.Given as goal
 
 abbrev pub invariant-loop-ty : goal.invariant-loop-ty

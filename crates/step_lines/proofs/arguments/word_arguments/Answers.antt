@@ -4,10 +4,10 @@ use Rattle.std.proofs.lemmas.List.Elements.{All-push}
 use Rattle.std.specs.Option.{option_map}
 use Rattle.std.specs.Borrow.{Bor}
 use Rattle.tasks.specs.Meaning.{task_at}
-use Rattle.rule_words.specs.declared.argument.ArgumentKind.TheVariants as kind
-use Rattle.rule_words.specs.Arguments.{ArgumentTree, argument_at, arguments_at, ArgumentHeld}
-use Rattle.tree_lines.specs.Words.{LineWord, texts}
-use Rattle.tree_lines.specs.Made.{earlier_at}
+use Rattle.step_lines.specs.declared.rule_words.argument.ArgumentKind.TheVariants as kind
+use Rattle.step_lines.specs.rule_words.Arguments.{ArgumentTree, argument_at, arguments_at, ArgumentHeld}
+use Rattle.step_lines.specs.tree_lines.Words.{LineWord, texts}
+use Rattle.step_lines.specs.tree_lines.Made.{earlier_at}
 use Rattle.step_lines.specs.Steps.{arguments}
 use Rattle.step_lines.proofs.Taking.{arguments_more, arguments_too_many}
 use Rattle.step_lines.proofs.arguments.word_arguments.Goals as goal

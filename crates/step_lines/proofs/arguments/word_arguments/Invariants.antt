@@ -1,9 +1,9 @@
 use Rattle.std.proofs.Common.{◌≡◌, ◌++◌, drop, All}
 use Rattle.std.specs.Option.{option_map}
 use Rattle.tasks.specs.Meaning.{task_at}
-use Rattle.rule_words.specs.Arguments.{arguments_at, ArgumentHeld}
-use Rattle.tree_lines.specs.Words.{texts}
-use Rattle.tree_lines.specs.Made.{earlier_at}
+use Rattle.step_lines.specs.rule_words.Arguments.{arguments_at, ArgumentHeld}
+use Rattle.step_lines.specs.tree_lines.Words.{texts}
+use Rattle.step_lines.specs.tree_lines.Made.{earlier_at}
 use Rattle.step_lines.specs.Steps.{arguments}
 use Rattle.step_lines.proofs.arguments.word_arguments.Given as goal
 

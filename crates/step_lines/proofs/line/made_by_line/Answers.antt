@@ -1,6 +1,6 @@
 use Rattle.std.proofs.Common.{sym, ◌∙◌}
 use Rattle.tasks.specs.Meaning.{task_at}
-use Rattle.tree_lines.specs.Made.{earlier_at}
+use Rattle.step_lines.specs.tree_lines.Made.{earlier_at}
 use Rattle.step_lines.proofs.Refusing.{pattern_refused, expression_refused}
 use Rattle.step_lines.proofs.line.made_by_line.Goals as goal
 

@@ -1,14 +1,14 @@
 use Rattle.std.proofs.Common.{◌≡◌, ◌++◌, ◌-◌, min, List, [], length, take, drop, All, Some, sym, ap, subst, ◌∙◌, rules}
 use Rattle.std.proofs.lemmas.List.Elements.{All-append}
 use Rattle.tasks.specs.Meaning.{task_at}
-use Rattle.rule_words.specs.declared.argument.Argument.{Argument}
-use Rattle.rule_words.specs.declared.argument.ArgumentKind.{ArgumentKind}
-use Rattle.rule_words.specs.Arguments.{arguments_at, ArgumentHeld}
-use Rattle.rule_words.specs.Forms.{argument_kinds}
-use Rattle.rule_words.specs.Rules.{rule_row}
-use Rattle.tree_lines.specs.Words.{texts}
-use Rattle.tree_lines.specs.Made.{earlier_at}
-use Rattle.tree_lines.proofs.Making.{known_later}
+use Rattle.step_lines.specs.declared.rule_words.argument.Argument.{Argument}
+use Rattle.step_lines.specs.declared.rule_words.argument.ArgumentKind.{ArgumentKind}
+use Rattle.step_lines.specs.rule_words.Arguments.{arguments_at, ArgumentHeld}
+use Rattle.step_lines.specs.rule_words.Forms.{argument_kinds}
+use Rattle.step_lines.specs.rule_words.Rules.{rule_row}
+use Rattle.step_lines.specs.tree_lines.Words.{texts}
+use Rattle.step_lines.specs.tree_lines.Made.{earlier_at}
+use Rattle.step_lines.proofs.tree_lines.Making.{known_later}
 use Rattle.step_lines.specs.Steps.{arguments, own_types}
 use Rattle.step_lines.proofs.Ending.{all_made, no_first, no_rest, three_lists, arguments_same}
 use Rattle.step_lines.proofs.steps.all_arguments.Goals as goal

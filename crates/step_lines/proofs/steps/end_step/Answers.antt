@@ -5,9 +5,9 @@ use Rattle.tasks.specs.Meaning.{task_at, trees_at}
 use Rattle.tasks.proofs.Growth.{trees_later}
 use Rattle.rule_rows.specs.Trees.{StepTree}
 use Rattle.rule_rows.specs.Meaning.{rule_at}
-use Rattle.tree_lines.specs.Words.{LineWord, texts, number, each}
-use Rattle.tree_lines.specs.Made.{earlier_at}
-use Rattle.tree_lines.proofs.Making.{slice_left}
+use Rattle.step_lines.specs.tree_lines.Words.{LineWord, texts, number, each}
+use Rattle.step_lines.specs.tree_lines.Made.{earlier_at}
+use Rattle.step_lines.proofs.tree_lines.Making.{slice_left}
 use Rattle.step_lines.specs.Steps.{step_by}
 use Rattle.step_lines.proofs.Ending.{step_made}
 use Rattle.step_lines.proofs.steps.end_step.Goals as goal

@@ -6,9 +6,9 @@ use Rattle.term_store.specs.trees.Node.{Holds}
 use Rattle.tasks.specs.Meaning.{task_at, trees_at}
 use Rattle.rule_rows.specs.Trees.{StepTree}
 use Rattle.rule_rows.specs.Meaning.{step_at}
-use Rattle.tree_lines.specs.Words.{LineWord, texts}
-use Rattle.tree_lines.specs.Made.{earlier_at}
-use Rattle.tree_lines.proofs.Making.{slice_left, each_trees, each_held}
+use Rattle.step_lines.specs.tree_lines.Words.{LineWord, texts}
+use Rattle.step_lines.specs.tree_lines.Made.{earlier_at}
+use Rattle.step_lines.proofs.tree_lines.Making.{slice_left, each_trees, each_held}
 use Rattle.step_lines.specs.Steps.{step_ended}
 use Rattle.step_lines.proofs.Ending.{sequent_made, no_sequent}
 use Rattle.step_lines.proofs.steps.line_step.Goals as goal

@@ -1,5 +1,5 @@
 use Rattle.std.proofs.Common.{◌≡◌, ◌++◌, take, drop}
-use Rattle.tree_lines.specs.Words.{texts}
+use Rattle.step_lines.specs.tree_lines.Words.{texts}
 use Rattle.step_lines.specs.Steps.{before_colon, after_colon}
 use Rattle.step_lines.proofs.words.colon.Given as goal
 

@@ -1,6 +1,6 @@
 use Rattle.std.proofs.Common.{◌≡◌, ◌++◌, drop}
 use Rattle.std.specs.Option.{option_map}
-use Rattle.tree_lines.specs.Words.{number, each, texts}
+use Rattle.step_lines.specs.tree_lines.Words.{number, each, texts}
 use Rattle.step_lines.proofs.words.numbers.Given as goal
 
 abbrev pub invariant-loop-word : goal.invariant-loop-word

@@ -3,7 +3,7 @@ use Rattle.std.proofs.lemmas.Result.{IfOk-weaker}
 use Rattle.tasks.specs.Task.{TaskTree}
 use Rattle.tasks.specs.Meaning.{task_at}
 use Rattle.tasks.proofs.Growth.{task_held_later, task_later}
-use Rattle.written_files.specs.kernel.Right.{Closes}
+use Rattle.step_writing.specs.kernel.Right.{Closes}
 use Rattle.rule_rows.specs.Meaning.{steps_at}
 use Rattle.step_rows.proofs.files.finish_file.Goals as goal
 

@@ -1,6 +1,6 @@
 use Rattle.std.proofs.Common.{ℕ, List}
 use Rattle.tasks.specs.Meaning.{TaskHeld}
-use Rattle.written_files.specs.step_files.Fed.{IsFed}
+use Rattle.step_writing.specs.step_reading.Fed.{IsFed}
 use Rattle.step_rows.proofs.files.read_pieces.Given as goal
 
 abbrev pub invariant-loop-piece : goal.invariant-loop-piece

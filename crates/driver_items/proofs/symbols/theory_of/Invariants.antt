@@ -1,6 +1,0 @@
-use Rattle.std.proofs.Common.{◌≡◌, drop}
-use Rattle.driver_items.specs.Symbols.{theory_with_path}
-use Rattle.driver_items.proofs.symbols.theory_of.Given as goal
-
-abbrev pub invariant-loop-theory : goal.invariant-loop-theory
-invariant-loop-theory l = theory_with_path l.path (drop l.theory-index l.theories) ≡ theory_with_path l.path l.theories

@@ -1,3 +1,0 @@
-pub use Rattle.outside.specs as outside
-pub mod Order
-pub mod Answers

@@ -1,0 +1,8 @@
+use Rattle.std.proofs.Common.{◌≡◌, ◌++◌, drop}
+use Rattle.std.specs.List.{flat_map}
+use Rattle.printed_problems.specs.printed_terms.Meaning.{printing}
+use Rattle.part_texts.specs.tff_texts.Text.{tff_sort_line}
+use Rattle.part_texts.proofs.tff_texts.lines.push_sort_lines.Given as goal
+
+abbrev pub invariant-loop-place : goal.invariant-loop-place
+invariant-loop-place l = l.out.items ++ flat_map (tff_sort_line (printing l.c)) (drop l.place-index l.places) ≡ l.initial.out.items ++ flat_map (tff_sort_line (printing l.c)) l.places

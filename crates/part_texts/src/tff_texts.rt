@@ -1,0 +1,8 @@
+// The problems of whole tasks as TFF0 text.
+//
+// Contract: exactly the text of a problem.
+
+mod lines;
+mod text;
+
+pub use text::tff_text;

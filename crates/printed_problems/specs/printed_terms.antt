@@ -1,0 +1,5 @@
+pub mod Words
+pub mod Texts
+pub mod Ranks
+pub mod Problems
+pub mod Meaning

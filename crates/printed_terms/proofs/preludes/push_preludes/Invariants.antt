@@ -1,7 +1,0 @@
-use Rattle.std.proofs.Common.{◌≡◌, ◌++◌, drop}
-use Rattle.std.specs.List.{flat_map}
-use Rattle.printed_terms.specs.Problems.{line}
-use Rattle.printed_terms.proofs.preludes.push_preludes.Given as goal
-
-abbrev pub invariant-loop-prelude : goal.invariant-loop-prelude
-invariant-loop-prelude l = l.out.items ++ flat_map line (drop l.prelude-index l.preludes) ≡ l.initial.out.items ++ flat_map line l.preludes

@@ -1,9 +1,0 @@
-use Rattle.std.proofs.Common.{◌≡◌, ◌++◌, drop}
-use Rattle.printed_terms.specs.Texts.{each_behind}
-use Rattle.printed_terms.specs.Ranks.{sorts_at}
-use Rattle.printed_terms.specs.Meaning.{printing}
-use Rattle.printed_terms.proofs.ranks.push_each_sort.Given as goal
-
-abbrev pub invariant-loop-place : goal.invariant-loop-place
-invariant-loop-place l =
-    l.out.items ++ each_behind l.separator (sorts_at (printing l.c) (drop l.place-index l.places)) ≡ l.initial.out.items ++ each_behind l.separator (sorts_at (printing l.c) l.places)

@@ -1,4 +1,0 @@
-use Rattle.quick_steps.proofs.variables.+variable_type.Given as goal
-
-abbrev pub decreases-variable_type : goal.decreases-variable_type
-decreases-variable_type l = l.pattern.0

@@ -1,7 +1,0 @@
-use Rattle.std.proofs.Common.{◌≡◌, drop}
-use Rattle.rule_words.specs.Arguments.{arguments_at}
-use Rattle.rule_words.specs.Forms.{argument_pairs, pairs_from}
-use Rattle.rule_words.proofs.lists.any_pairs.Given as goal
-
-abbrev pub invariant-loop-argument : goal.invariant-loop-argument
-invariant-loop-argument l = pairs_from l.all.items l.place (arguments_at l.store (drop l.argument-index l.args)) ≡ argument_pairs (arguments_at l.store l.args)

@@ -1,6 +1,0 @@
-use Rattle.std.proofs.Common.{◌≡◌, ◌++◌, map, drop}
-use Rattle.rule_words.specs.declared.argument.Argument.TheVariants as made
-use Rattle.rule_words.proofs.lists.number_arguments.Given as goal
-
-abbrev pub invariant-loop-i : goal.invariant-loop-i
-invariant-loop-i l = l.all.items ++ map made.Number (drop l.i-index l.numbers) ≡ map made.Number l.numbers

@@ -1,6 +1,0 @@
-use Rattle.std.proofs.Common.{◌≡◌, ◌++◌, drop}
-use Rattle.rule_words.specs.Written.{arguments_of_pairs}
-use Rattle.rule_words.proofs.lists.pair_arguments.Given as goal
-
-abbrev pub invariant-loop-i : goal.invariant-loop-i
-invariant-loop-i l = l.all.items ++ arguments_of_pairs (drop l.i-index l.pairs) ≡ arguments_of_pairs l.pairs

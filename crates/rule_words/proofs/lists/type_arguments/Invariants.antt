@@ -1,6 +1,0 @@
-use Rattle.std.proofs.Common.{◌≡◌, ◌++◌, map, drop}
-use Rattle.rule_words.specs.declared.argument.Argument.TheVariants as made
-use Rattle.rule_words.proofs.lists.type_arguments.Given as goal
-
-abbrev pub invariant-loop-y : goal.invariant-loop-y
-invariant-loop-y l = l.all.items ++ map made.Type (drop l.y-index l.types) ≡ l.first ++ map made.Type l.types

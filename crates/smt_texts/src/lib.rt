@@ -1,9 +1,0 @@
-//! The problems of whole tasks as SMT-LIB 2.6 text.
-//!
-//! Contract: exactly the text of a problem.
-#![tactic(auto)]
-
-mod lines;
-mod text;
-
-pub use text::smt_text;

@@ -1,6 +1,0 @@
-use Rattle.std.proofs.Common.{rules}
-use Rattle.step_files.proofs.Fed.{none_fed}
-use Rattle.step_files.proofs.ended.no_lines.Goals as goal
-
-pub returns : goal.returns
-returns c = λ t names tallest s. none_fed t names tallest s _ (search rules) (search rules) (search rules) (search rules) (search rules) (search rules) (search rules)

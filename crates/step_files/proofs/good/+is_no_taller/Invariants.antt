@@ -1,4 +1,0 @@
-use Rattle.step_files.proofs.good.+is_no_taller.Given as goal
-
-abbrev pub decreases-is_no_taller : goal.decreases-is_no_taller
-decreases-is_no_taller l = l.most

@@ -1,0 +1,16 @@
+use Rattle.std.proofs.Common.{◌≡◌, ◌≤◌, length, map, drop}
+use Rattle.term_store.specs.trees.Node.{tree_at, Holds, Grows}
+use Rattle.step_lines.specs.tree_lines.Named.{cells}
+use Rattle.step_lines.specs.tree_lines.Made.{branch_at}
+use Rattle.step_lines.proofs.tree_lines.expressions.branch_list.Given as goal
+
+abbrev pub invariant-loop-i : goal.invariant-loop-i
+invariant-loop-i l = record {
+  within : l.i ≤ length l.branches;
+  grows : Grows l.fn.store l.store;
+  held : Holds l.store l.list;
+  tree : tree_at l.store l.list ≡ cells (map (branch_at l.fn.store) (drop l.i l.branches));
+}
+
+abbrev pub decreases-loop-i : goal.decreases-loop-i
+decreases-loop-i l = l.i

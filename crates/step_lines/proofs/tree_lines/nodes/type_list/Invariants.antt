@@ -1,0 +1,19 @@
+use Rattle.std.proofs.Common.{◌≡◌, ◌≤◌, length, drop}
+use Rattle.term_store.specs.trees.declared.Sort.TheVariants.{Kind}
+use Rattle.term_store.specs.trees.Node.{tree_at, Holds, Grows}
+use Rattle.term_store.specs.trees.Sorts.{IsList}
+use Rattle.tasks.specs.Meaning.{trees_at}
+use Rattle.step_lines.specs.tree_lines.Named.{cells}
+use Rattle.step_lines.proofs.tree_lines.nodes.type_list.Given as goal
+
+abbrev pub invariant-loop-i : goal.invariant-loop-i
+invariant-loop-i l = record {
+  within : l.i ≤ length l.types;
+  grows : Grows l.fn.store l.store;
+  held : Holds l.store l.list;
+  tree : tree_at l.store l.list ≡ cells (trees_at l.fn.store (drop l.i l.types));
+  sort : IsList Kind (tree_at l.store l.list);
+}
+
+abbrev pub decreases-loop-i : goal.decreases-loop-i
+decreases-loop-i l = l.i

@@ -1,0 +1,50 @@
+-- The rows of rules that put a term in, as a store grows: what was told over the grown store holds over the old one.
+use Rattle.std.proofs.Common.{◌≡◌, ◌↔◌, ℕ, Bool, false, IsTrue, List, [], ◌∷◌, Option, Some, None, sym, ap}
+use Rattle.tasks.specs.trees.Tree.{Tree, Two, HLet}
+use Rattle.tasks.specs.trees.Node.{Grows}
+use Rattle.tasks.specs.trees.Sorts.{type_of}
+use Rattle.tasks.specs.trees.Binding.{inst, Param}
+use Rattle.tasks.specs.Task.{TaskTree}
+use Rattle.tasks.specs.Open.{VariableHas}
+use Rattle.rule_rows.specs.Trees.{RLetDef}
+use Rattle.rule_rows.specs.Forms.{alike}
+use Rattle.rule_rows.specs.Rows.{Adds, signed, IsNew, AtTerm, AtNew, IsTemplate, IsRuleRow}
+use Rattle.rule_rows.proofs.Templates.{template_can}
+use Rattle.step_reading.specs.declared.quick_steps.place.Place.{Place}
+use Rattle.step_reading.specs.quick_steps.Rows.{ReplacesSide}
+use Rattle.step_reading.specs.quick_steps.Places.{task_here, sequent_here, premises_here, PlaceHeld}
+use Rattle.step_reading.proofs.quick_steps.Places.{adds_later}
+
+module _ (s s' : List Tree) (g : Grows s s') (p : Place) (h : PlaceHeld s p) (made : Tree) (sign b : Bool)
+    (k : IsTrue b ↔ Adds (sequent_here s' p) (premises_here s' p) ((signed sign made ∷ []) ∷ [])) where
+  pub adds_made : (x : Tree) → made ≡ x → IsTrue b ↔ Adds (sequent_here s p) (premises_here s p) ((signed sign x ∷ []) ∷ [])
+  adds_made x m = adds_later s s' g p h b ((signed sign x ∷ []) ∷ []) (rw m at k)
+
+  pub at_term_told : (o : Option (Tree × Tree)) (ty body t : Tree) → o ≡ Some (ty, body) → type_of t ≡ Some ty → made ≡ inst body t → IsTrue b ↔ AtTerm o (sequent_here s p) t sign (premises_here s p)
+  at_term_told o ty body t q y m = let a = adds_made (inst body t) m in rw q ((λ x. (y, a.0 x), λ x. a.1 x.1))
+
+  pub at_new_told : (o : Option (Tree × Tree)) (ty body : Tree) (n : ℕ) → o ≡ Some (ty, body) → IsNew n (sequent_here s p) → made ≡ inst body (Param n ty) → IsTrue b ↔ AtNew o (sequent_here s p) n sign (premises_here s p)
+  at_new_told o ty body n q y m = let a = adds_made (inst body (Param n ty)) m in rw q ((λ x. (y, a.0 x), λ x. a.1 x.1))
+
+-- a parameter that the sequent has
+pub at_old_told : (o : Option (Tree × Tree)) (q : List Tree) (n : ℕ) (sign : Bool) (ps : List (List Tree)) → (IsNew n q → ⊥) → IsTrue false ↔ AtNew o q n sign ps
+at_old_told None q n sign ps h = (λ t. absurd (cc), λ x. absurd x)
+at_old_told (Some w) q n sign ps h = (λ t. absurd (cc), λ x. absurd (h x.0))
+
+module _ (s s' : List Tree) (g : Grows s s') (p : Place) (h : PlaceHeld s p) where
+  pub let_told : (e value body e' made : Tree) (b : Bool) → e ≡ Two HLet value body → e' ≡ e → made ≡ inst body value
+      → IsTrue b ↔ Adds (sequent_here s' p) (premises_here s' p) ((alike e' made ∷ []) ∷ []) → IsTrue b ↔ IsRuleRow (task_here s p) (sequent_here s p) (RLetDef e) (premises_here s p)
+  let_told e value body e' made b q r m k =
+      let a : IsTrue b ↔ Adds (sequent_here s p) (premises_here s p) ((alike e (inst body value) ∷ []) ∷ []) = adds_later s s' g p h b ((alike e (inst body value) ∷ []) ∷ []) (rw (r, m) at k) in
+      rw q (rw q at a)
+
+-- the row of `replace` by its parts
+module _ (t : TaskTree) (a b f e ty : Tree) (q : List Tree) (ps : List (List Tree)) (y : type_of a ≡ Some ty) where
+  pub other_type : (VariableHas 0 ty e → ⊥) → IsTrue false ↔ ReplacesSide t (Some (a, b)) (Some f) q e ps
+  other_type n = (λ w. absurd (cc), λ x. let m : IsTemplate t ty e = rw y at x.0 in absurd (n (template_can t ty e m).1))
+
+  pub other_formula : (inst e a ≡ f → ⊥) → IsTrue false ↔ ReplacesSide t (Some (a, b)) (Some f) q e ps
+  other_formula n = (λ w. absurd (cc), λ x. let m : inst e a ≡ f = cc in absurd (n m))
+
+  pub replaced_told : IsTemplate t ty e → inst e a ≡ f → (r : Bool) → IsTrue r ↔ Adds q ps ((inst e b ∷ []) ∷ []) → IsTrue r ↔ ReplacesSide t (Some (a, b)) (Some f) q e ps
+  replaced_told m w r k = (λ x. (rw y m, ap Some (sym w), k.0 x), λ x. k.1 x.2)

@@ -1,0 +1,8 @@
+pub use Rattle.step_reading.specs.name_entries as name_entries
+pub use Rattle.kernel.specs as kernel
+pub use Rattle.step_reading.specs as step_reading
+pub use Rattle.name_tables.specs as name_tables
+pub mod tree_writing
+pub mod Named
+pub mod Words
+pub mod Written

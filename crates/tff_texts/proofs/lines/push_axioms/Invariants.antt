@@ -1,9 +1,0 @@
-use Rattle.std.proofs.Common.{◌≡◌, ◌++◌, drop}
-use Rattle.tasks.specs.Meaning.{trees_at}
-use Rattle.printed_terms.specs.Meaning.{printing}
-use Rattle.tff_texts.specs.Text.{axiom_lines}
-use Rattle.tff_texts.proofs.lines.push_axioms.Given as goal
-
-abbrev pub invariant-loop-number : goal.invariant-loop-number
-invariant-loop-number l =
-    l.out.items ++ axiom_lines (printing l.c) l.number (trees_at l.c.store.now (drop l.number l.formulas)) ≡ l.initial.out.items ++ axiom_lines (printing l.c) 0 (trees_at l.c.store.now l.formulas)

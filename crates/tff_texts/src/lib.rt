@@ -1,9 +1,0 @@
-//! The problems of whole tasks as TFF0 text.
-//!
-//! Contract: exactly the text of a problem.
-#![tactic(auto)]
-
-mod lines;
-mod text;
-
-pub use text::tff_text;

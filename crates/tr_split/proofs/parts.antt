@@ -1,0 +1,5 @@
+pub mod Sentences
+pub mod Gained
+pub mod Tasks
+pub mod Pieces
+pub mod Glued

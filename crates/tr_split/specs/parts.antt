@@ -1,0 +1,4 @@
+pub mod Split
+pub mod Parts
+pub mod Glue
+pub mod Kept

@@ -1,4 +1,0 @@
-pub mod Goals
-pub mod Gluing
-pub mod Over
-pub mod Kept

@@ -1,6 +1,0 @@
-use Rattle.trees.specs.Node.{tree_at}
-use Rattle.tree_lines.proofs.Others.{variable_other}
-use Rattle.tree_lines.proofs.forms.over_number.Goals as goal
-
-pub returns-in_default-clause-tree : goal.returns-in_default-clause-tree
-returns-in_default-clause-tree c = λ s. variable_other c.args.word c.in_default.not-Bound c.args.n (tree_at s c.args.ty)

@@ -1,7 +1,0 @@
-use Rattle.std.proofs.Common.{All, take}
-use Rattle.name_tables.specs.name_entries.declared.names.NameEntry.{NameEntry}
-use Rattle.written_files.specs.Named.{IsName}
-use Rattle.written_files.proofs.named.are_words.Given as goal
-
-abbrev pub invariant-loop-entry : goal.invariant-loop-entry
-invariant-loop-entry l = All (λ (n : NameEntry). IsName n.name) (take l.entry-index l.table)

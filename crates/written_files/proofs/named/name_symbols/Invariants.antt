@@ -1,7 +1,0 @@
-use Rattle.std.proofs.Common.{All, take}
-use Rattle.kernel.specs.rule_rows.Meaning.{steps_at}
-use Rattle.written_files.specs.Named.{SymbolsNamed}
-use Rattle.written_files.proofs.named.name_symbols.Given as goal
-
-abbrev pub invariant-loop-step : goal.invariant-loop-step
-invariant-loop-step l = All (SymbolsNamed l.table) (take l.step-index (steps_at l.store l.steps))

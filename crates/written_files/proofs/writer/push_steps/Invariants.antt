@@ -1,5 +1,0 @@
-use Rattle.written_files.specs.Written.{AddsFirst}
-use Rattle.written_files.proofs.writer.push_steps.Given as goal
-
-abbrev pub invariant-loop-step : goal.invariant-loop-step
-invariant-loop-step l = AddsFirst l.x l.steps l.step-index l.initial.text.items l.text.items
