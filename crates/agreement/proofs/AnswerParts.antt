@@ -5,7 +5,7 @@ use Rattle.trees.specs.Tree.{Tree, HEnd, Leaf, One, Two, Three, HNot, HJoin, HEq
 use Rattle.trees.specs.Binding.{inst, Param}
 use Rattle.trees.specs.Sorts.{type_of}
 use Rattle.tasks.specs.Task.{TaskTree, neg}
-use Rattle.congruence.specs.kernel.rule_rows.Forms.{negated, connected, universal, existential, equation_sides, let_of, if_of}
+use Rattle.congruence.specs.kernel.rules.Forms.{negated, connected, universal, existential, equation_sides, let_of, if_of}
 use Rattle.congruence.specs.Quantifiers.{quantifier_head}
 use Rattle.agreement.specs.Agreement.{ArePartsOf}
 use Rattle.agreement.proofs.PartLists.{Pairs}

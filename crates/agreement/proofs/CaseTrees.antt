@@ -19,8 +19,8 @@ use Rattle.tasks.specs.Valid.{IsGround, IsGroundFormula, IsValid}
 use Rattle.tasks.proofs.Closing.{typed_sorted}
 use Rattle.tasks.proofs.Counts.{bound_count}
 use Rattle.congruence.specs.kernel.Right.{IsGroundExpression}
-use Rattle.congruence.specs.instances.Instances.{AreFor}
-use Rattle.congruence.proofs.instances.Typed.{many_sort, many_type}
+use Rattle.congruence.specs.tasks.typed_trees.instances.Instances.{AreFor}
+use Rattle.congruence.proofs.tasks.typed_trees.instances.Typed.{many_sort, many_type}
 use Rattle.images.specs.Open.{IsEnvironment, IsOpenUnder}
 use Rattle.images.specs.PatternTerms.{IsTypedPattern, HasPartsOf, HasOfBoth}
 use Rattle.images.proofs.Images.{expression_sort, expression_type, branches_alike}

@@ -1,8 +1,8 @@
 -- The search for agreement: what is remembered, the questions for parts that agree, and the links that are found.
 use Rattle.std.proofs.Common.{◌≡◌, ℕ, ◌+◌, ◌*◌, ◌<◌, ◌≤◌, ◌⊎◌, inl, inr, nat_eq, cond, Bool, true, false, List, [], ◌∷◌, ◌++◌, length, get_or, All, Some, Contains, refl, sym, ap, subst, ◌∙◌, append_assoc, arith}
 use Rattle.std.proofs.lemmas.Bool.Decides.{nat_tests}
-use Rattle.binders.specs.Known.{same_pair}
-use Rattle.binders.proofs.Rebuilt.{both_true}
+use Rattle.trees.specs.binders.Known.{same_pair}
+use Rattle.trees.proofs.binders.Rebuilt.{both_true}
 use Rattle.std.proofs.lemmas.List.{append-nil}
 use Rattle.std.proofs.lemmas.List.Elements.{All-cons, All-nil, All-head, All-tail}
 use Rattle.indexmap.specs.IndexMap.{IndexMap, get}

@@ -7,13 +7,13 @@ use Rattle.trees.specs.Tree.{Tree, Two, HLet, above_params, loose}
 use Rattle.trees.specs.Node.{tree_at, Holds}
 use Rattle.trees.specs.Binding.{inst, Param}
 use Rattle.trees.specs.Sorts.{sort_of, type_of, IsExpression}
-use Rattle.trees.proofs.Sorts.{term_no_vars}
+use Rattle.trees.specs.laws.Sorts.{term_no_vars}
 use Rattle.tasks.specs.Vocabulary.{of_task}
 use Rattle.tasks.specs.Typing.{TypedUnder, option_list}
 use Rattle.tasks.specs.Valid.{IsGround}
 use Rattle.tasks.proofs.Closing.{typed_closed}
 use Rattle.evidence.specs.Drafts.{DraftTree, IsFormulaAt}
-use Rattle.congruence.specs.instances.Instances.{IsTermOf, IsInstance, IsClosedTerm}
+use Rattle.congruence.specs.tasks.typed_trees.instances.Instances.{IsTermOf, IsInstance, IsClosedTerm}
 use Rattle.images.proofs.Images.{expression_sort, expression_type}
 use Rattle.images.proofs.Changes.{open_inst_type, open_inst_sort}
 use Rattle.images.proofs.Templates.{term_has_type}

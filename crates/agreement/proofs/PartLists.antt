@@ -4,7 +4,7 @@ use Rattle.trees.specs.Tree.{Tree, Leaf, One, Two, Three, Head, HEnd, HCell, HAr
 use Rattle.trees.specs.Binding.{inst_many}
 use Rattle.tasks.specs.Task.{TaskTree}
 use Rattle.tasks.specs.MatchTests.{test, bind}
-use Rattle.congruence.specs.kernel.rule_rows.Forms.{negated, connected, universal, existential, equation_sides, let_of, if_of, application_parts}
+use Rattle.congruence.specs.kernel.rules.Forms.{negated, connected, universal, existential, equation_sides, let_of, if_of, application_parts}
 use Rattle.agreement.specs.Agreement.{cell_parts, arm_parts, case_parts, predicate_parts, ArePaired, asked_first, ArePairedBranches, OnePaired, TwoPaired, ThreePaired, ArePartsOf, number_under, AgreeWithin}
 use Rattle.agreement.specs.Laws.{MoreLevelsAgree, MorePairsAgree}
 

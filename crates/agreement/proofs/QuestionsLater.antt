@@ -5,7 +5,7 @@ use Rattle.trees.specs.declared.TermId.{TermId}
 use Rattle.trees.specs.Tree.{Tree, above_params}
 use Rattle.trees.specs.Node.{tree_at}
 use Rattle.tasks.specs.Task.{TaskTree, neg}
-use Rattle.congruence.specs.kernel.rule_rows.Forms.{alike}
+use Rattle.congruence.specs.kernel.rules.Forms.{alike}
 use Rattle.evidence.specs.Drafts.{DraftTree, Extends, Refutes}
 use Rattle.evidence.proofs.Rules.{refutes_later}
 use Rattle.congruence.proofs.Later.{tree_later, held_later, pair_later, shows_at}

@@ -5,8 +5,8 @@ use Rattle.trees.specs.declared.Sort.{Sort}
 use Rattle.trees.specs.Tree.{Tree, Leaf, One, Two, Three, Head, HTyVar, HEnd, HCell, HBound, HParam, HFun, HLet, HCase, HArm, head_of, loose, one_loose, binders_over}
 use Rattle.trees.specs.Binding.{change, leaf_by, one_by, instantiating_many, shift, AreClosed}
 use Rattle.trees.specs.Sorts.{sort_of, top_sort, IsExpression}
-use Rattle.trees.proofs.Indices.{ltb_true as lt_true, ltb_false as lt_false}
-use Rattle.trees.proofs.Changes.{binders_over-change, one_loose_le}
+use Rattle.trees.specs.laws.Indices.{ltb_true as lt_true, ltb_false as lt_false}
+use Rattle.trees.specs.laws.Changes.{binders_over-change, one_loose_le}
 use Rattle.trees.proofs.Laws.{shift_closed}
 use Rattle.agreement.specs.Ranks.{ranks_put, zero_ranks, one_rank, passed, asked, bound_rank, three_rank, rank}
 use Rattle.trees.proofs.Many.{many_below, many_at, many_above, cases_many, closed_terms, closed_at, puts_many}

@@ -1,7 +1,7 @@
 -- What a tree is of which parts are taken, and lists of pairs with a first one.
 use Rattle.std.proofs.Common.{◌≡◌, ℕ, [], ◌∷◌, IsSomeAnd, refl, ap}
 use Rattle.trees.specs.Tree.{Tree, Leaf, One, Two, Three, HCell, HArm, HCase, HFun, HPred}
-use Rattle.congruence.specs.kernel.rule_rows.Forms.{application_parts}
+use Rattle.congruence.specs.kernel.rules.Forms.{application_parts}
 use Rattle.agreement.specs.Agreement.{cell_parts, arm_parts, case_parts, predicate_parts}
 use Rattle.agreement.proofs.PartLists.{Pairs}
 

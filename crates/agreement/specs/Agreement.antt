@@ -7,7 +7,7 @@ use Rattle.trees.specs.Binding.{inst, inst_many, Param}
 use Rattle.trees.specs.Sorts.{type_of}
 use Rattle.tasks.specs.Task.{TaskTree}
 use Rattle.tasks.specs.MatchTests.{test, bind}
-use Rattle.congruence.specs.kernel.rule_rows.Forms.{negated, connected, universal, existential, equation_sides, let_of, if_of, application_parts}
+use Rattle.congruence.specs.kernel.rules.Forms.{negated, connected, universal, existential, equation_sides, let_of, if_of, application_parts}
 
 -- the first member of a list and the others
 abbrev pub cell_parts : Tree → Option (Tree × Tree)

@@ -6,13 +6,13 @@ use Rattle.trees.specs.declared.Sort.TheVariants.{Term}
 use Rattle.trees.specs.Tree.{Tree, Leaf, HEnd, above_params}
 use Rattle.trees.specs.Node.{tree_at, trees_at, Holds}
 use Rattle.trees.specs.Sorts.{type_of, IsList}
-use Rattle.binders.specs.Known.{same_pair}
+use Rattle.trees.specs.binders.Known.{same_pair}
 use Rattle.tasks.specs.Task.{neg}
 use Rattle.tasks.specs.Vocabulary.{of_task}
 use Rattle.tasks.specs.Typing.{TypedUnder, members}
 use Rattle.tasks.specs.Valid.{IsGround}
 use Rattle.images.specs.Templates.{listed}
-use Rattle.congruence.specs.kernel.rule_rows.Forms.{alike}
+use Rattle.congruence.specs.kernel.rules.Forms.{alike}
 use Rattle.evidence.specs.Drafts.{DraftTree, Refutes}
 use Rattle.congruence.specs.declared.alike.AlikeBy.{AlikeBy}
 use Rattle.congruence.specs.declared.applications.SymbolAt.{SymbolAt}

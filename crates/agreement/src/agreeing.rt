@@ -3,7 +3,7 @@ ghost use Rattle.std.specs.Prelude.{◌≡◌, ◌≤◌, ◌++◌, ℕ, List, [
 ghost use Rattle.trees.specs.Tree.{Tree, above_params};
 ghost use Rattle.trees.specs.Node.{tree_at};
 ghost use Rattle.tasks.specs.Task.{neg};
-ghost use Rattle.congruence.specs.kernel.rule_rows.Forms.{alike};
+ghost use Rattle.congruence.specs.kernel.rules.Forms.{alike};
 ghost use Rattle.evidence.specs.Drafts.{Extends, Refutes};
 ghost use Rattle.congruence.specs.Alike.{ArePair, Shows};
 ghost use Rattle.agreement.specs.Agreement.{AgreeOver, ArePartsOf, AgreeWithin, number_under};

@@ -5,7 +5,7 @@ ghost use Rattle.trees.specs.Tree.{Tree, Two, HCase, HCell, HArm};
 ghost use Rattle.trees.specs.Node.{tree_at, trees_at, Holds};
 ghost use Rattle.trees.specs.Binding.{inst_many};
 ghost use Rattle.trees.specs.Sorts.{sort_of};
-ghost use Rattle.binders.specs.Visits.{HoldTerms};
+ghost use Rattle.trees.specs.binders.Visits.{HoldTerms};
 ghost use Rattle.tasks.specs.MatchTests.{test, bind};
 ghost use Rattle.images.specs.PatternTerms.{IsTypedPattern};
 ghost use Rattle.evidence.specs.Drafts.{Extends, AddsTrees};
@@ -31,12 +31,12 @@ ghost use Rattle.agreement.specs.Branches.{
 
 use crate::answers::through;
 use crate::questions::{Link, Question};
-use binders::inst_many;
 use congruence::{AlikeBy, CaseLinks, Conditional, alike_branch, alike_matches, cells_of};
 use evidence::Draft;
-use match_terms::{Asked, ask};
+use images::match_terms::{Asked, ask};
 use std::alloc::AllocError;
 use tasks::{Grow, Lookup};
+use trees::binders::inst_many;
 use trees::{Node, TermId};
 
 /// The first branch of a list, and the list of the others.

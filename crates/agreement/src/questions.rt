@@ -2,7 +2,7 @@
 ghost use Rattle.std.specs.Prelude.{◌≡◌, [], ◌∷◌, None, IfSome, All, Contains};
 ghost use Rattle.trees.specs.Node.{tree_at, Holds};
 ghost use Rattle.tasks.specs.Task.{neg};
-ghost use Rattle.congruence.specs.kernel.rule_rows.Forms.{alike};
+ghost use Rattle.congruence.specs.kernel.rules.Forms.{alike};
 ghost use Rattle.evidence.specs.Drafts.{Refutes};
 ghost use Rattle.agreement.specs.Questions.{IsProvedPair, pairs_at};
 

@@ -11,7 +11,7 @@ ghost use Rattle.algebraic_forms.specs.Making.{IsOwnType, IsTermAt, AreTermsAt, 
 use crate::terms::{OwnType, apply, field_of, variable};
 use std::alloc::AllocError;
 use tasks::Con;
-use term_store::{Grow, Store};
+use trees::store::{Grow, Store};
 use trees::{Node, Op, TermId};
 
 // The list of the projections of a term to fields of these types.

@@ -13,8 +13,8 @@ ghost use Rattle.algebraic_forms.specs.Making.{AlgIsFit};
 use crate::laws::type_laws;
 use std::alloc::{AllocError, Global};
 use tasks::{Alg, Body, Con, Decl, Signature};
-use term_store::Store;
 use trees::TermId;
+use trees::store::Store;
 
 // The number of a symbol's type variables.
 fn vars_of(store: &Store, sig: &Signature, symbol: usize) -> usize

@@ -12,7 +12,7 @@ ghost use Rattle.algebraic_forms.specs.Making.{IsOwnType, ConIsFit};
 use crate::terms::{OwnType, con_on_variables, quantify};
 use std::alloc::AllocError;
 use tasks::Con;
-use term_store::{Grow, Store};
+use trees::store::{Grow, Store};
 use trees::{Node, TermId};
 
 // That two constructors differ, below the quantifiers.

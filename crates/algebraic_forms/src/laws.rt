@@ -12,8 +12,8 @@ use crate::projecting::push_all_projection_laws;
 use crate::terms::own_type;
 use std::alloc::{AllocError, Global};
 use tasks::Alg;
-use term_store::Store;
 use trees::TermId;
+use trees::store::Store;
 
 /// The laws of a type with so many type variables.
 pub(crate) fn type_laws(

@@ -8,7 +8,7 @@ ghost use Rattle.algebraic_forms.specs.Groups.{law, type_laws, group_laws};
 ghost use Rattle.algebraic_forms.specs.Search.{kinds_of_laws, AreAll, IsLawSearch};
 
 use tasks::{Alg, Con};
-use term_store::Store;
+use trees::store::Store;
 
 /// What a law says: that a projection gives its field, that two constructors differ, or that each value is made by a constructor.
 #[derive(Clone, Copy)]

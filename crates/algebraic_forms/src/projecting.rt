@@ -11,7 +11,7 @@ ghost use Rattle.algebraic_forms.specs.Making.{IsOwnType, ConIsFit};
 use crate::terms::{OwnType, con_on_variables, field_of, quantify, variable};
 use std::alloc::AllocError;
 use tasks::Con;
-use term_store::{Grow, Store};
+use trees::store::{Grow, Store};
 use trees::{Node, TermId};
 
 // That a projection of a constructor gives the field of this type, after which there are so many.

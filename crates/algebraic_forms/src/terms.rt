@@ -14,7 +14,7 @@ ghost use Rattle.algebraic_forms.specs.Making.{IsOwnType, IsTermAt, AreTermsAt, 
 
 use std::alloc::AllocError;
 use tasks::Con;
-use term_store::{Grow, Store};
+use trees::store::{Grow, Store};
 use trees::{Node, TermId};
 
 /// An algebraic type at its own type variables: its number, how many they are, their list, and the type.

@@ -15,8 +15,8 @@ use Rattle.tasks.specs.Typing.{members, pattern_types, bound_types, entry, OneTy
 use Rattle.tasks.specs.Equations.{cells}
 use Rattle.tasks.specs.Valid.{VariablesBelow, ParametersOf}
 use Rattle.tasks.proofs.TypeInstances.{some_kept}
-use Rattle.typing_laws.specs.HasTyping.{HasTyping}
-use Rattle.typing_laws.proofs.Sorted.{has_sorts, kinds_only, kind_has, types_parameters}
+use Rattle.images.specs.typing_laws.HasTyping.{HasTyping}
+use Rattle.images.proofs.typing_laws.Sorted.{has_sorts, kinds_only, kind_has, types_parameters}
 use Rattle.inlining.proofs.Bodies.{onto}
 use Rattle.spelled_groups.specs.Spelled.{PatternsAreUsable}
 use Rattle.spelled_groups.specs.Formulas.{members_cells}

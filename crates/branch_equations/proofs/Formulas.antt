@@ -14,10 +14,10 @@ use Rattle.tasks.specs.Facts.{FactTree, equation_fact}
 use Rattle.tasks.specs.Vocabulary.{Vocabulary}
 use Rattle.tasks.specs.Equations.{equated, for_all}
 use Rattle.tasks.specs.Valid.{VariablesBelow, ParametersOf, IsFormulaOver, IsTypeIn, IsDefinition, IsValidBody}
-use Rattle.typing_laws.specs.HasTyping.{HasTyping}
-use Rattle.typing_laws.proofs.Sorted.{typed_has, small_typed}
-use Rattle.recursive_groups.specs.Groups.{is_recursive}
-use Rattle.recursive_groups.specs.decl_checks.Structure.{defining_body}
+use Rattle.images.specs.typing_laws.HasTyping.{HasTyping}
+use Rattle.images.proofs.typing_laws.Sorted.{typed_has, small_typed}
+use Rattle.checks.specs.recursive_groups.Groups.{is_recursive}
+use Rattle.checks.specs.decl_checks.Structure.{defining_body}
 use Rattle.inlining.proofs.Bodies.{onto, under_typed, under_variables, under_parameters, under_body}
 use Rattle.spelled_groups.specs.declarations.Rewritten.{AreUsable}
 use Rattle.spelled_groups.specs.Spelled.{IsSpellable, IsSayable, PatternsAreUsable, IsSpelling}

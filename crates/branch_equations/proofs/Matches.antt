@@ -10,7 +10,7 @@ use Rattle.tasks.specs.Vocabulary.{Vocabulary}
 use Rattle.tasks.specs.Typing.{members, pattern_types, BranchesFit, BranchFits, first_body}
 use Rattle.tasks.specs.Valid.{VariablesBelow, ParametersOf}
 use Rattle.images.proofs.Images.{expression_sort, expression_type}
-use Rattle.typing_laws.specs.HasTyping.{HasTyping}
+use Rattle.images.specs.typing_laws.HasTyping.{HasTyping}
 use Rattle.branch_equations.specs.Branches.{ConstructorBranch, is_plain_field, constructor_branch, add_branch, constructor_branches, are_different, if_different, matched_parameter}
 
 -- ---- the form

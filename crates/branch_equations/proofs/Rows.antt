@@ -9,7 +9,7 @@ use Rattle.tasks.specs.declared.signature.SymbolKind.TheVariants.{Function, Pred
 use Rattle.tasks.specs.Task.{SymbolTree, int_symbol}
 use Rattle.tasks.specs.Equations.{cells, for_all}
 use Rattle.tasks.specs.Facts.{FactTree}
-use Rattle.recursive_groups.specs.Groups.{is_recursive}
+use Rattle.checks.specs.recursive_groups.Groups.{is_recursive}
 use Rattle.branch_equations.specs.Branches.{member_facts}
 
 -- `type n = Z | S n`; n is 1, Z is 2, S is 3, `function f n : int` is 4, `function g int n int : n` is 5, `predicate p n` is 6, `+` is 7,

@@ -13,9 +13,9 @@ use Rattle.tasks.specs.Vocabulary.{Vocabulary}
 use Rattle.tasks.specs.Typing.{members, pattern_types}
 use Rattle.tasks.specs.Equations.{for_all}
 use Rattle.tasks.specs.Valid.{VariablesBelow, ParametersOf}
-use Rattle.typing_laws.specs.HasTyping.{HasTyping}
-use Rattle.typing_laws.proofs.Sorted.{has_sorts, has_further}
-use Rattle.typing_laws.proofs.Changes.{many_has, many_type, many_sort, many_variables, many_parameters}
+use Rattle.images.specs.typing_laws.HasTyping.{HasTyping}
+use Rattle.images.proofs.typing_laws.Sorted.{has_sorts, has_further}
+use Rattle.images.proofs.typing_laws.Changes.{many_has, many_type, many_sort, many_variables, many_parameters}
 use Rattle.inlining.proofs.Bodies.{onto}
 use Rattle.spelled_groups.specs.Spelled.{PatternsAreUsable}
 use Rattle.branch_equations.specs.Branches.{ConstructorBranch, is_plain_field, field_type, parameters_before, parameters_after, variables_above, branch_types, branch_fields, built_term, branch_parameters, pattern_fields}

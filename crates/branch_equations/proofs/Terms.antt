@@ -8,8 +8,8 @@ use Rattle.trees.specs.Tree.{Tree, One, HBound}
 use Rattle.trees.specs.Sorts.{sort_of, type_of}
 use Rattle.tasks.specs.Vocabulary.{Vocabulary}
 use Rattle.tasks.specs.Valid.{VariablesBelow, ParametersOf}
-use Rattle.typing_laws.specs.HasTyping.{HasSorts, HasTyping, AreTermsFor}
-use Rattle.typing_laws.proofs.Sorted.{has_sorts}
+use Rattle.images.specs.typing_laws.HasTyping.{HasSorts, HasTyping, AreTermsFor}
+use Rattle.images.proofs.typing_laws.Sorted.{has_sorts}
 use Rattle.inlining.proofs.Bodies.{onto}
 use Rattle.branch_equations.specs.Branches.{variables_above}
 

@@ -13,8 +13,8 @@ use Rattle.tasks.specs.Task.{SymbolTree, symbol_or, DefinitionTree, Defines}
 use Rattle.tasks.specs.Typing.{members}
 use Rattle.tasks.specs.Equations.{cells, for_all}
 use Rattle.tasks.specs.Facts.{FactTree, equation_fact}
-use Rattle.recursive_groups.specs.Groups.{is_recursive}
-use Rattle.recursive_groups.specs.decl_checks.Structure.{defining_body}
+use Rattle.checks.specs.recursive_groups.Groups.{is_recursive}
+use Rattle.checks.specs.decl_checks.Structure.{defining_body}
 use Rattle.spelled_groups.specs.Spelled.{GroupFacts}
 
 -- a branch whose pattern is a constructor, at types, on variables and wildcards

@@ -4,7 +4,7 @@ use Rattle.trees.specs.declared.Sort.{Sort}
 use Rattle.trees.specs.declared.Sort.TheVariants.{Kind, List}
 use Rattle.trees.specs.Tree.{Tree, One, Two, Three, Head, HTyApp, HFun, HPred, HPatCon, HEnd, HCell, HArm, HCase, head_of}
 use Rattle.trees.specs.Sorts.{one_sort, two_sort, three_sort, yield, top_sort, sort_of, two_first, first_sort, OneFits, TwoFits, ThreeFits, Fits, CaseHasBranch}
-use Rattle.trees.proofs.Sorts.{first_sort_none, top_kind}
+use Rattle.trees.specs.laws.Sorts.{first_sort_none, top_kind}
 use Rattle.clones.specs.Mapped.{head_mapped}
 use Rattle.clones.specs.Meaning.{IsAlike}
 

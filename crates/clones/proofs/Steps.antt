@@ -9,7 +9,7 @@ use Rattle.trees.specs.declared.Sort.TheVariants.{Kind}
 use Rattle.trees.specs.Tree.{Tree, Leaf, One, Two, Three, Head, HEnd, HCell}
 use Rattle.trees.specs.Node.{tree_at, Holds, Grows}
 use Rattle.trees.specs.Sorts.{sort_of, Fits, IsList}
-use Rattle.binders.specs.Visits.{HoldTypes}
+use Rattle.trees.specs.binders.Visits.{HoldTypes}
 use Rattle.clones.specs.declared.maps.SymbolMap.{SymbolMap}
 use Rattle.clones.specs.Mapped.{Map, mapped, one_mapped, head_mapped}
 use Rattle.clones.specs.Meaning.{map_at, MapHeld, IsAlike, IsMapped, AreKnown}

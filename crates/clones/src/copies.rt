@@ -10,11 +10,10 @@ ghost use Rattle.clones.specs.Meaning.{map_at, MapHeld, AreKnown};
 ghost use Rattle.clones.specs.Copies.{DefHeld, con_mapped, body_mapped, declaration_copied, entry_copied};
 
 use crate::maps::{MappedTrees, SymbolMap, map_symbol, map_tree};
-use outside::{Seq, Text};
 use std::alloc::{AllocError, Global};
-use tasks::{Alg, Body, Con, Decl, Def, Ind, SymbolInfo};
-use term_store::Store;
+use tasks::{Alg, Body, Con, Decl, Def, Ind, Seq, SymbolInfo, Text};
 use trees::TermId;
+use trees::store::Store;
 
 // Mapped trees.
 fn map_trees(

@@ -1,10 +1,13 @@
-//! Maps of symbols, under which type symbols may become types; the trees of one signature as trees of another, a shared
-//! tree mapped once; copies of declarations and entries under such a map.
+//! Maps of symbols, under which type symbols may become types; the trees of one signature as trees of another, a
+//! shared tree mapped once; what each element of a theory becomes in a clone; copies of declarations, entries and
+//! names under such a map.
 //!
-//! Contract: exactly the mapped tree and the copy: the kind of a declaration and the form of a clause, an equation and a
-//! proposition stay.
+//! Contract: exactly the mapped tree and the copies: the kind of a declaration and the form of a clause, an equation
+//! and a proposition stay.
 #![tactic(auto)]
 
+pub mod clone_copies;
+pub mod clone_elements;
 mod copies;
 mod making;
 mod maps;

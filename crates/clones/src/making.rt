@@ -10,7 +10,7 @@ ghost use Rattle.clones.specs.Meaning.{map_at, MapHeld, AreKnown};
 use crate::{MappedTrees, SymbolMap};
 use indexmap::IndexMap;
 use std::alloc::{AllocError, Global};
-use term_store::Store;
+use trees::store::Store;
 use trees::{Sort, TermId};
 
 /// No mapped trees. It takes no memory.

@@ -5,15 +5,15 @@ ghost use Rattle.trees.specs.Tree.{One};
 ghost use Rattle.trees.specs.Binding.{inst_types};
 ghost use Rattle.trees.specs.Node.{tree_at, assemble, Holds, Grows, head_of_node, parts_of, AreBelow, IsLike};
 ghost use Rattle.trees.specs.Sorts.{sort_of, Fits, IsList};
-ghost use Rattle.binders.specs.Visits.{HoldTypes, trees_at};
+ghost use Rattle.trees.specs.binders.Visits.{HoldTypes, trees_at};
 ghost use Rattle.tasks.specs.Typing.{members};
 ghost use Rattle.clones.specs.Mapped.{head_mapped, type_mapped, one_mapped};
 ghost use Rattle.clones.specs.Meaning.{map_at, MapHeld, IsAlike, IsMapped, AreKnown};
 
-use binders::inst_types;
 use indexmap::IndexMap;
 use std::alloc::{AllocError, Global};
-use term_store::{Grow, Store};
+use trees::binders::inst_types;
+use trees::store::{Grow, Store};
 use trees::{Node, Parts, Sort, TermId};
 
 /// A map of symbols: what each becomes, where it isn't itself. A type symbol among `types` becomes the type, in which its arguments

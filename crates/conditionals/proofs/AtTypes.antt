@@ -7,9 +7,9 @@ use Rattle.trees.specs.Sorts.{sort_of, IsExpression}
 use Rattle.trees.specs.Binding.{inst_types, TyVar}
 use Rattle.tasks.specs.Vocabulary.{Vocabulary}
 use Rattle.images.proofs.Images.{expression_sort}
-use Rattle.typing_laws.specs.HasTyping.{HasTyping, IsTypeAt}
-use Rattle.typing_laws.proofs.Images.{image_at_types}
-use Rattle.typing_laws.proofs.TypeInstances.{at_one, sort_at}
+use Rattle.images.specs.typing_laws.HasTyping.{HasTyping, IsTypeAt}
+use Rattle.images.proofs.TypedImages.{image_at_types}
+use Rattle.images.proofs.typing_laws.TypeInstances.{at_one, sort_at}
 use Rattle.conditionals.specs.Conditionals.{implications, first_if, cases_over, if_of_sort, if_rule, without_ifs}
 use Rattle.conditionals.proofs.Cases.{no_first}
 use Rattle.conditionals.proofs.Typed.{typed_rule}

@@ -6,8 +6,8 @@ use Rattle.trees.specs.Tree.{Tree, Leaf, One, Two, Three, Head, HPred, HEq, HIf,
 use Rattle.trees.specs.Node.{tree_at, Holds, Grows}
 use Rattle.trees.specs.Sorts.{Fits, sort_of}
 use Rattle.tasks.specs.Typing.{bound_types}
-use Rattle.typing_laws.specs.HasTyping.{HasTyping, over_parts}
-use Rattle.typing_laws.proofs.Images.{over_fits, image_over}
+use Rattle.images.specs.typing_laws.HasTyping.{HasTyping, over_parts}
+use Rattle.images.proofs.TypedImages.{over_fits, image_over}
 use Rattle.conditionals.specs.Conditionals.{implications, cases_over, if_of_sort, if_rule, without_ifs}
 use Rattle.conditionals.specs.declared.growth.GrowthFault.{GrowthFault}
 use Rattle.conditionals.specs.Held.{CanEliminate, IsEliminated, IsRuled, IsByCases, IsGrowthFault}

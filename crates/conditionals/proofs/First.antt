@@ -7,9 +7,9 @@ use Rattle.trees.specs.Tree.{Tree, Leaf, One, Two, Three, Head, HTyApp, HBound, 
 use Rattle.trees.specs.Sorts.{sort_of, IsList, IsListOf, IsExpression}
 use Rattle.tasks.specs.Vocabulary.{Vocabulary}
 use Rattle.images.proofs.Images.{expression_sort, first_of}
-use Rattle.typing_laws.specs.HasTyping.{HasTyping}
-use Rattle.typing_laws.proofs.Sorted.{has_sorts}
-use Rattle.typing_laws.proofs.Images.{image_type}
+use Rattle.images.specs.typing_laws.HasTyping.{HasTyping}
+use Rattle.images.proofs.typing_laws.Sorted.{has_sorts}
+use Rattle.images.proofs.TypedImages.{image_type}
 use Rattle.conditionals.specs.Conditionals.{implications, earlier, first_if, one_changed, replace_first, cases_over, if_of_sort, if_rule, without_ifs, has_let_or_match}
 use Rattle.conditionals.specs.Laws.{is_atom_head}
 use Rattle.conditionals.proofs.Cases.{no_first, first_case}

@@ -5,8 +5,8 @@ use Rattle.trees.specs.declared.Sort.TheVariants.{Formula}
 use Rattle.trees.specs.Tree.{Tree, Leaf, One, Two, Three, Head, HPred, HEq, HIf, size}
 use Rattle.trees.specs.Sorts.{sort_of}
 use Rattle.images.specs.Images.{image}
-use Rattle.typing_laws.specs.HasTyping.{over_parts}
-use Rattle.typing_laws.proofs.Images.{image_over}
+use Rattle.images.specs.typing_laws.HasTyping.{over_parts}
+use Rattle.images.proofs.TypedImages.{image_over}
 use Rattle.conditionals.specs.Conditionals.{cases_over, if_of_sort, if_rule, without_ifs}
 use Rattle.conditionals.proofs.Cases.{cases_grow}
 

@@ -1,5 +1,4 @@
 pub use Rattle.images.proofs as images
-pub use Rattle.typing_laws.proofs as typing_laws
 pub mod Cases
 pub mod Typed
 pub mod AtTypes

@@ -11,9 +11,9 @@ use Rattle.tasks.specs.Valid.{VariablesBelow, ParametersOf}
 use Rattle.tasks.proofs.TypeInstances.{some_kept}
 use Rattle.images.specs.Images.{IsOtherHead}
 use Rattle.images.proofs.Images.{expression_sort, expression_type, expression_first, expression_members}
-use Rattle.typing_laws.specs.HasTyping.{HasTyping, KeepsTyping, IsTypedRule}
-use Rattle.typing_laws.proofs.Sorted.{formula_no_type}
-use Rattle.typing_laws.proofs.Images.{image_keeps_typing}
+use Rattle.images.specs.typing_laws.HasTyping.{HasTyping, KeepsTyping, IsTypedRule}
+use Rattle.images.proofs.typing_laws.Sorted.{formula_no_type}
+use Rattle.images.proofs.TypedImages.{image_keeps_typing}
 use Rattle.conditionals.specs.Conditionals.{implications, cases_over, if_of_sort, if_rule, without_ifs}
 use Rattle.conditionals.proofs.Cases.{IsByParts, implications_keep, cases_keep}
 

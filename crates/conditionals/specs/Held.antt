@@ -6,7 +6,7 @@ use Rattle.trees.specs.Tree.{Tree, Three, HIf}
 use Rattle.trees.specs.Node.{tree_at, Holds}
 use Rattle.trees.specs.Sorts.{Fits, sort_of, IsExpression}
 use Rattle.tasks.specs.Vocabulary.{Vocabulary}
-use Rattle.typing_laws.specs.HasTyping.{HasTyping, over_parts}
+use Rattle.images.specs.typing_laws.HasTyping.{HasTyping, over_parts}
 use Rattle.conditionals.specs.Conditionals.{first_if, replace_first, cases_over, if_rule, without_ifs}
 use Rattle.conditionals.specs.declared.growth.GrowthFault.{GrowthFault}
 use Rattle.conditionals.specs.declared.growth.GrowthFault.TheVariants as fault

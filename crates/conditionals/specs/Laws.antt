@@ -5,7 +5,7 @@ use Rattle.trees.specs.Tree.{Tree, Two, Three, Head, HIf, HPred, HEq, size}
 use Rattle.trees.specs.Sorts.{sort_of}
 use Rattle.trees.specs.Binding.{inst_types, TyVar}
 use Rattle.tasks.specs.Vocabulary.{Vocabulary}
-use Rattle.typing_laws.specs.HasTyping.{HasTyping, IsTypeAt, KeepsTyping}
+use Rattle.images.specs.typing_laws.HasTyping.{HasTyping, IsTypeAt, KeepsTyping}
 use Rattle.conditionals.specs.Conditionals.{implications, first_if, replace_first, without_ifs, has_let_or_match}
 
 -- a predicate or an equation

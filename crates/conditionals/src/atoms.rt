@@ -8,7 +8,7 @@ ghost use Rattle.conditionals.specs.Held.{IsFormulaNumber, IsByCases, IsGrowthFa
 use crate::firsts::{first_if, if_parts, replace_first};
 use crate::growth::GrowthFault;
 use std::alloc::AllocError;
-use term_store::{Grow, Store};
+use trees::store::{Grow, Store};
 use trees::{Node, Op, TermId};
 
 const NODES: u64 = 1 << 20;

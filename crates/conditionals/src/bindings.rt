@@ -3,7 +3,7 @@ ghost use Rattle.std.specs.Prelude.{◌≡◌};
 ghost use Rattle.trees.specs.Node.{tree_at, Holds, head_of_node};
 ghost use Rattle.conditionals.specs.Conditionals.{is_let_or_match, has_let_or_match};
 
-use term_store::Store;
+use trees::store::Store;
 use trees::{Node, Parts, TermId};
 
 // Whether a node is one.

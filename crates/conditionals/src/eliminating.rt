@@ -2,13 +2,13 @@
 ghost use Rattle.std.specs.Prelude.{◌≡◌, IfOk, IfErr};
 ghost use Rattle.trees.specs.Tree.{size};
 ghost use Rattle.trees.specs.Node.{tree_at, Holds, Grows};
-ghost use Rattle.typing_laws.specs.HasTyping.{over_parts};
+ghost use Rattle.images.specs.typing_laws.HasTyping.{over_parts};
 ghost use Rattle.conditionals.specs.Conditionals.{if_rule, without_ifs};
 ghost use Rattle.conditionals.specs.Held.{CanEliminate, IsEliminated, IsGrowthFault, IsRuled, IsOver};
 
 use crate::atoms::{atom_by_cases, bounded, implications};
 use crate::growth::GrowthFault;
-use term_store::{Grow, Store};
+use trees::store::{Grow, Store};
 use trees::{Node, Parts, Sort, TermId};
 
 // What the rule makes of a node.

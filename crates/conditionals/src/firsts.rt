@@ -7,7 +7,7 @@ ghost use Rattle.conditionals.specs.Held.{IsNumberOf, AreIfParts, CanPlace, IsMa
 ghost use Rattle.conditionals.specs.Places.{with_first, IsFirstPlace};
 
 use std::alloc::AllocError;
-use term_store::{Grow, Store};
+use trees::store::{Grow, Store};
 use trees::{Node, TermId};
 
 /// The condition and the parts of a conditional.

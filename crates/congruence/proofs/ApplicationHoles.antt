@@ -11,9 +11,9 @@ use Rattle.tasks.specs.Vocabulary.{of_task}
 use Rattle.tasks.specs.Typing.{TypedUnder}
 use Rattle.tasks.specs.Valid.{IsGround, IsValid}
 use Rattle.congruence.specs.kernel.Right.{IsGroundExpression}
-use Rattle.instances.specs.Instances.{IsTermOf}
-use Rattle.instances.proofs.Typed.{inst_typed, inst_sort}
-use Rattle.instances.proofs.Kept.{inst_variables}
+use Rattle.tasks.specs.typed_trees.instances.Instances.{IsTermOf}
+use Rattle.tasks.proofs.typed_trees.instances.Typed.{inst_typed, inst_sort}
+use Rattle.tasks.proofs.KeptInstances.{inst_variables}
 use Rattle.evidence.specs.Drafts.{DraftTree, Extends}
 use Rattle.evidence.specs.Laws.{Extends_trans}
 use Rattle.images.specs.Templates.{listed}

@@ -12,7 +12,7 @@ use Rattle.tasks.specs.Typing.{TypedUnder, entry}
 use Rattle.tasks.specs.Valid.{VariablesBelow}
 use Rattle.tasks.proofs.Closing.{typed_closed, typed_sorted}
 use Rattle.tasks.proofs.TypeInstances.{typed_further, some_kept}
-use Rattle.instances.specs.Instances.{AreFor}
+use Rattle.tasks.specs.typed_trees.instances.Instances.{AreFor}
 use Rattle.images.specs.Templates.{listed, IsClosedType}
 use Rattle.images.proofs.Holes.{hole_function, hole_predicate}
 use Rattle.images.proofs.Templates.{function_typed, predicate_typed}

@@ -9,7 +9,7 @@ use Rattle.trees.specs.Sorts.{sort_of}
 use Rattle.tasks.specs.Task.{neg}
 use Rattle.tasks.specs.Vocabulary.{of_task}
 use Rattle.tasks.proofs.TypeInstances.{typed_further}
-use Rattle.rule_rows.specs.Forms.{equal}
+use Rattle.rules.specs.Forms.{equal}
 use Rattle.evidence.specs.Drafts.{DraftTree}
 use Rattle.images.proofs.Holes.{hole_beside}
 use Rattle.congruence.specs.Alike.{ArePair, HoleAt, TemplateFor}

@@ -13,12 +13,12 @@ use Rattle.tasks.specs.MatchTests.{test, bind}
 use Rattle.tasks.specs.Valid.{IsGround, IsGroundFormula}
 use Rattle.tasks.specs.Typing.{TypedUnder}
 use Rattle.tasks.specs.Vocabulary.{of_task}
-use Rattle.rule_rows.specs.Forms.{alike, equal}
+use Rattle.rules.specs.Forms.{alike, equal}
 use Rattle.evidence.specs.Drafts.{DraftTree, Extends, Refutes, IsFormulaAt}
 use Rattle.evidence.specs.Laws.{Extends_trans}
 use Rattle.evidence.proofs.Rules.{refutes_later}
 use Rattle.evidence.proofs.Formulas.{formula_later}
-use Rattle.proof_scripts.specs.Added.{AreComparable}
+use Rattle.evidence.specs.proof_scripts.Added.{AreComparable}
 use Rattle.images.proofs.Images.{expression_sort, expression_type}
 use Rattle.congruence.specs.Alike.{IsClosedAt, ArePair, HasHalves}
 use Rattle.congruence.specs.declared.conditionals.Conditional.{Conditional}

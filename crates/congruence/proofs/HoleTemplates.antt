@@ -13,7 +13,7 @@ use Rattle.tasks.specs.Typing.{TypedUnder}
 use Rattle.tasks.specs.Valid.{IsGround, VariablesBelow, IsValid}
 use Rattle.tasks.proofs.Closing.{typed_closed}
 use Rattle.tasks.proofs.TypeInstances.{typed_further}
-use Rattle.rule_rows.specs.Forms.{equal}
+use Rattle.rules.specs.Forms.{equal}
 use Rattle.evidence.specs.Drafts.{DraftTree, Extends, Refutes}
 use Rattle.evidence.specs.Laws.{Extends_trans}
 use Rattle.evidence.proofs.Rules.{refutes_later}

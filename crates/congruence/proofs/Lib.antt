@@ -1,4 +1,4 @@
-pub use Rattle.instances.proofs as instances
+pub use Rattle.tasks.proofs as tasks
 pub mod Later
 pub mod Scripts
 pub mod PlainScripts

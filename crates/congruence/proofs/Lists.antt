@@ -12,8 +12,8 @@ use Rattle.trees.specs.Node.{tree_at, trees_at, node_tree}
 use Rattle.trees.specs.Binding.{inst_many}
 use Rattle.trees.specs.Sorts.{Fits, LeafFits, WellSorted, sort_of, yield, leaf_sort, one_sort, two_sort, three_sort, top_sort, first_sort, type_of, IsList, IsListOf}
 use Rattle.images.proofs.Images.{leaf_no_list}
-use Rattle.instances.proofs.Typed.{many_sort, many_type}
-use Rattle.instances.specs.Instances.{AreFor}
+use Rattle.tasks.proofs.typed_trees.instances.Typed.{many_sort, many_type}
+use Rattle.tasks.specs.typed_trees.instances.Instances.{AreFor}
 use Rattle.tasks.specs.Vocabulary.{Vocabulary}
 use Rattle.tasks.specs.Typing.{TypedUnder, members}
 use Rattle.tasks.specs.Valid.{VariablesBelow}

@@ -8,7 +8,7 @@ use Rattle.trees.specs.Node.{tree_at, Holds}
 use Rattle.trees.specs.Binding.{inst, Param}
 use Rattle.trees.specs.Facts.{has_param}
 use Rattle.tasks.specs.Task.{neg}
-use Rattle.rule_rows.specs.Rows.{IsNew}
+use Rattle.rules.specs.Rows.{IsNew}
 use Rattle.evidence.specs.Drafts.{DraftTree, Extends}
 use Rattle.congruence.proofs.Later.{tree_later}
 

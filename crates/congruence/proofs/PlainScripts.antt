@@ -6,13 +6,13 @@ use Rattle.trees.specs.declared.Op.{Op}
 use Rattle.trees.specs.declared.Op.TheVariants.{And, AndThen, Or, OrElse, Imp, Iff}
 use Rattle.trees.specs.Tree.{Tree, Two, HJoin}
 use Rattle.tasks.specs.Task.{neg}
-use Rattle.rule_rows.specs.Trees.{RClash, RIrrefl}
-use Rattle.rule_rows.specs.Forms.{equal}
+use Rattle.rules.specs.Trees.{RClash, RIrrefl}
+use Rattle.rules.specs.Forms.{equal}
 use Rattle.evidence.specs.Drafts.{DraftTree, Refutes, RefutesAt, IsFormulaAt, AreFormulas}
 use Rattle.evidence.proofs.Formulas.{more_formulas, two_formulas}
-use Rattle.proof_scripts.specs.declared.line.Line.{Line}
-use Rattle.proof_scripts.specs.Scripts.{KeptLine, HoldingLine, FailingLine, CutLine, TailLine, Follows, LineHeld, LinesHeld, lines_at}
-use Rattle.proof_scripts.proofs.Lines.{clash_line, irrefl_line}
+use Rattle.evidence.specs.declared.proof_scripts.line.Line.{Line}
+use Rattle.evidence.specs.proof_scripts.Scripts.{KeptLine, HoldingLine, FailingLine, CutLine, TailLine, Follows, LineHeld, LinesHeld, lines_at}
+use Rattle.evidence.proofs.proof_scripts.Lines.{clash_line, irrefl_line}
 use Rattle.congruence.specs.Alike.{HasHalves}
 use Rattle.congruence.specs.Lines.{join_lines}
 use Rattle.congruence.proofs.Scripts.{one_kept, two_kept}

@@ -11,13 +11,13 @@ use Rattle.trees.specs.Binding.{inst, Param}
 use Rattle.trees.specs.Facts.{has_param}
 use Rattle.trees.specs.Sorts.{sort_of, type_of}
 use Rattle.tasks.specs.Task.{TaskTree, neg}
-use Rattle.rule_rows.specs.Trees.{RClash, RNotNot, RForall, RNotForall, RExists, RNotExists, RReplace, RLetDef, RIfDef, RMatchDef}
-use Rattle.rule_rows.specs.Forms.{equal, alike, alike_by, by_cases}
-use Rattle.rule_rows.specs.Rows.{IsNew, IsTemplate}
+use Rattle.rules.specs.Trees.{RClash, RNotNot, RForall, RNotForall, RExists, RNotExists, RReplace, RLetDef, RIfDef, RMatchDef}
+use Rattle.rules.specs.Forms.{equal, alike, alike_by, by_cases}
+use Rattle.rules.specs.Rows.{IsNew, IsTemplate}
 use Rattle.kernel.specs.Right.{IsGroundExpression}
 use Rattle.evidence.specs.Drafts.{DraftTree, Extends, Refutes, RefutesAt}
-use Rattle.proof_scripts.specs.Scripts.{LineTree, KeptLine, HoldingLine, CutLine, TailLine, MadeLine, Follows}
-use Rattle.proof_scripts.proofs.Lines.{clash_line, not_not_line, forall_line, not_forall_line, exists_line, not_exists_line, replace_line, let_line, if_line, branch_unfolds, branches_unfold}
+use Rattle.evidence.specs.proof_scripts.Scripts.{LineTree, KeptLine, HoldingLine, CutLine, TailLine, MadeLine, Follows}
+use Rattle.evidence.proofs.proof_scripts.Lines.{clash_line, not_not_line, forall_line, not_forall_line, exists_line, not_exists_line, replace_line, let_line, if_line, branch_unfolds, branches_unfold}
 use Rattle.congruence.specs.Alike.{TemplateFor}
 use Rattle.congruence.specs.Conditionals.{IsMatchCases, IsLastBranch}
 use Rattle.congruence.proofs.Later.{tree_later}

@@ -6,7 +6,7 @@ use Rattle.trees.specs.Tree.{Tree, Two, Head, HLet, HCase, loose}
 use Rattle.trees.specs.Node.{tree_at, Holds}
 use Rattle.trees.specs.Binding.{instantiating, inst}
 use Rattle.trees.specs.Sorts.{sort_of, type_of}
-use Rattle.trees.proofs.Changes.{change_closed}
+use Rattle.trees.specs.laws.Changes.{change_closed}
 use Rattle.trees.proofs.Laws.{keeps_inst}
 use Rattle.tasks.specs.Vocabulary.{of_task}
 use Rattle.tasks.specs.Typing.{TypedUnder, option_list, BranchesFit, first_body}

@@ -10,8 +10,8 @@ use Rattle.tasks.specs.Task.{TaskTree, neg}
 use Rattle.tasks.specs.Vocabulary.{of_task}
 use Rattle.tasks.specs.Typing.{TypedUnder}
 use Rattle.tasks.specs.Valid.{IsGround}
-use Rattle.rule_rows.specs.Forms.{equal}
-use Rattle.rule_rows.specs.Rows.{IsTemplate}
+use Rattle.rules.specs.Forms.{equal}
+use Rattle.rules.specs.Rows.{IsTemplate}
 use Rattle.kernel.specs.Right.{IsGroundExpression}
 use Rattle.evidence.specs.Drafts.{DraftTree, Refutes}
 use Rattle.congruence.specs.declared.alike.AlikeBy.{AlikeBy}

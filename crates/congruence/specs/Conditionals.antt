@@ -7,7 +7,7 @@ use Rattle.trees.specs.Node.{tree_at}
 use Rattle.trees.specs.Binding.{inst_many}
 use Rattle.tasks.specs.Task.{TaskTree, neg}
 use Rattle.tasks.specs.MatchTests.{test, bind}
-use Rattle.rule_rows.specs.Forms.{alike}
+use Rattle.rules.specs.Forms.{alike}
 use Rattle.evidence.specs.Drafts.{DraftTree, Refutes, IsFormulaAt}
 use Rattle.congruence.specs.declared.conditionals.Conditional.{Conditional}
 use Rattle.congruence.specs.declared.conditionals.CaseValues.{CaseValues}

@@ -1,4 +1,4 @@
-pub use Rattle.instances.specs as instances
+pub use Rattle.tasks.specs as tasks
 pub use Rattle.kernel.specs as kernel
 pub mod Alike
 pub mod Applications

@@ -2,9 +2,9 @@
 use Rattle.std.specs.Prelude.{ℕ, List, [], ◌∷◌}
 use Rattle.trees.specs.declared.Op.{Op}
 use Rattle.trees.specs.declared.Op.TheVariants.{And, AndThen, Or, OrElse, Imp, Iff}
-use Rattle.proof_scripts.specs.declared.line.Places.TheVariants as places
-use Rattle.proof_scripts.specs.declared.line.Line.{Line}
-use Rattle.proof_scripts.specs.declared.line.Line.TheVariants as line
+use Rattle.evidence.specs.declared.proof_scripts.line.Places.TheVariants as places
+use Rattle.evidence.specs.declared.proof_scripts.line.Line.{Line}
+use Rattle.evidence.specs.declared.proof_scripts.line.Line.TheVariants as line
 
 abbrev pub kept_pair : ℕ → ℕ → ℕ → Line
 kept_pair k i j = line.Kept k (places.Two i j)

@@ -5,12 +5,12 @@ ghost use Rattle.trees.specs.Node.{tree_at, Holds};
 ghost use Rattle.trees.specs.Binding.{inst};
 ghost use Rattle.trees.specs.Sorts.{sort_of, type_of};
 ghost use Rattle.tasks.specs.Task.{neg};
-ghost use Rattle.rule_rows.specs.Forms.{equal};
+ghost use Rattle.rules.specs.Forms.{equal};
 ghost use Rattle.evidence.specs.Drafts.{DraftTree, Extends, AddsTrees, Refutes, IsFormulaAt};
 ghost use Rattle.congruence.specs.Alike.{IsClosedAt, HasHalves, Shows, ArePair, TemplateFor, IsIrreflexive};
 
+use evidence::proof_scripts::{Line, Places, Word, derive};
 use evidence::{Draft, negation};
-use proof_scripts::{Line, Places, Word, derive};
 use std::alloc::AllocError;
 use tasks::Grow;
 use trees::{Node, Op, Sort, TermId};

@@ -12,9 +12,9 @@ ghost use Rattle.congruence.specs.Applications.{applied, IsSymbolHeld};
 use crate::alike::AlikeBy;
 use crate::replacing::{alike_replaced, open_hole};
 use evidence::Draft;
-use instances::instance;
 use std::alloc::AllocError;
 use tasks::Grow;
+use tasks::typed_trees::instances::instance;
 use trees::{Node, Sort, TermId};
 
 /// A symbol at types: a function with the type of its result, or a predicate.

@@ -4,14 +4,14 @@ ghost use Rattle.trees.specs.Tree.{Tree, Two, HJoin};
 ghost use Rattle.trees.specs.Node.{tree_at};
 ghost use Rattle.trees.specs.Sorts.{sort_of};
 ghost use Rattle.tasks.specs.Task.{neg};
-ghost use Rattle.rule_rows.specs.Forms.{alike, equal};
+ghost use Rattle.rules.specs.Forms.{alike, equal};
 ghost use Rattle.evidence.specs.Drafts.{Extends, AddsTrees, Refutes, IsFormulaAt};
 ghost use Rattle.congruence.specs.Alike.{HasHalves, Shows, ArePair};
 
 use crate::alike::{AlikeBy, Halves, irreflexive, make_halves};
 use crate::replacing::apart;
+use evidence::proof_scripts::{Line, Places, Word, derive};
 use evidence::{Draft, negation};
-use proof_scripts::{Line, Places, Word, derive};
 use std::alloc::AllocError;
 use tasks::Grow;
 use trees::{Node, Op, Sort, TermId};

@@ -3,13 +3,13 @@
 ghost use Rattle.std.specs.Prelude.{[], ◌∷◌, IfOk};
 ghost use Rattle.trees.specs.Node.{tree_at};
 ghost use Rattle.tasks.specs.Task.{neg};
-ghost use Rattle.rule_rows.specs.Forms.{alike};
+ghost use Rattle.rules.specs.Forms.{alike};
 ghost use Rattle.evidence.specs.Drafts.{Extends, Refutes};
 ghost use Rattle.congruence.specs.Conditionals.{IsConditional, IsIfAt, IsMatchAt, HasValues};
 
 use crate::claims::denial;
+use evidence::proof_scripts::{Line, Word, derive};
 use evidence::{Draft, negation};
-use proof_scripts::{Line, Word, derive};
 use std::alloc::AllocError;
 use trees::{Op, TermId};
 

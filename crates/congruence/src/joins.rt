@@ -6,14 +6,14 @@ ghost use Rattle.trees.specs.Node.{tree_at, Holds};
 ghost use Rattle.trees.specs.Sorts.{sort_of};
 ghost use Rattle.trees.specs.Binding.{inst, Param};
 ghost use Rattle.tasks.specs.Task.{neg};
-ghost use Rattle.rule_rows.specs.Rows.{IsNew};
+ghost use Rattle.rules.specs.Rows.{IsNew};
 ghost use Rattle.evidence.specs.Drafts.{Extends, Refutes, IsFormulaAt};
 ghost use Rattle.congruence.specs.Alike.{HasHalves, Shows, ArePair, IsClosedAt};
 ghost use Rattle.congruence.specs.Lines.{kept_pair, join_lines};
 
 use crate::alike::{AlikeBy, Halves, make_halves};
+use evidence::proof_scripts::{Line, Places, Word, derive};
 use evidence::{Draft, negation};
-use proof_scripts::{Line, Places, Word, derive};
 use std::alloc::{AllocError, Global};
 use trees::{Op, Sort, TermId};
 

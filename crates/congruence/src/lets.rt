@@ -4,14 +4,14 @@ ghost use Rattle.trees.specs.Tree.{Two, HLet};
 ghost use Rattle.trees.specs.Node.{tree_at, Holds};
 ghost use Rattle.trees.specs.Binding.{inst};
 ghost use Rattle.tasks.specs.Task.{neg};
-ghost use Rattle.rule_rows.specs.Forms.{alike};
+ghost use Rattle.rules.specs.Forms.{alike};
 ghost use Rattle.evidence.specs.Drafts.{Extends, Refutes};
 ghost use Rattle.congruence.specs.Alike.{Shows, ArePair};
 
 use crate::alike::AlikeBy;
 use crate::claims::{alike_by_step, denial};
 use evidence::Draft;
-use proof_scripts::{Line, Word, derive};
+use evidence::proof_scripts::{Line, Word, derive};
 use std::alloc::AllocError;
 use trees::TermId;
 

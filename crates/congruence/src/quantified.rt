@@ -4,7 +4,7 @@ ghost use Rattle.trees.specs.Tree.{Tree, Two, above_params};
 ghost use Rattle.trees.specs.Node.{tree_at, Holds};
 ghost use Rattle.trees.specs.Binding.{inst, Param};
 ghost use Rattle.tasks.specs.Task.{neg};
-ghost use Rattle.rule_rows.specs.Rows.{IsNew};
+ghost use Rattle.rules.specs.Rows.{IsNew};
 ghost use Rattle.evidence.specs.Drafts.{Extends, Refutes, IsFormulaAt};
 ghost use Rattle.congruence.specs.Alike.{HasHalves, IsClosedAt, ArePair, Shows};
 ghost use Rattle.congruence.specs.Quantifiers.{quantifier_head};

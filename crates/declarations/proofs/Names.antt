@@ -13,7 +13,7 @@ use Rattle.tasks.specs.Facts.{FactTree}
 use Rattle.tasks.specs.Inversion.{inversion}
 use Rattle.tasks.specs.Looking.{fact_name}
 use Rattle.tasks.specs.Valid.{IsValid}
-use Rattle.rule_rows.specs.Rows.{equation, clauses}
+use Rattle.rules.specs.Rows.{equation, clauses}
 use Rattle.evidence.specs.Facts.{at_symbol, fact_named, IsFoundByName, IsFact}
 use Rattle.evidence.proofs.FactNames.{all_named}
 use Rattle.declarations.specs.Rewritten.{DeclarationRule, rewritten_task, KeepsMade}

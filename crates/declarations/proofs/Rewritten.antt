@@ -14,7 +14,7 @@ use Rattle.tasks.specs.Valid.{IsTypeIn, IsFormulaOver, IsValid, IsValidDecl}
 use Rattle.tasks.proofs.Declared.{contains_step, made_usable}
 use Rattle.tasks.proofs.Moved.{IsWithin}
 use Rattle.evidence.specs.Stages.{IsGrouped, Keeps}
-use Rattle.task_parts.specs.Kept.{parts_keep}
+use Rattle.evidence.specs.task_parts.Kept.{parts_keep}
 use Rattle.declarations.specs.Rewritten.{DeclarationRule, rewritten_decls, rewritten_task, IsAsBefore, KeepsMade, KeepsConstructors, AreUsable, KeepsValid}
 use Rattle.declarations.specs.Within.{NamesAll}
 

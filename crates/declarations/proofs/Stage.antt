@@ -6,8 +6,8 @@ use Rattle.tasks.specs.Task.{TaskTree, start}
 use Rattle.evidence.specs.Drafts.{DraftTree, Refutes}
 use Rattle.evidence.specs.Facts.{IsFact}
 use Rattle.evidence.specs.Stages.{Gives, IsAmong, EndIn, limited_gives}
-use Rattle.task_parts.proofs.One.{among_one, end_of_one}
-use Rattle.task_parts.proofs.One as one
+use Rattle.evidence.proofs.task_parts.One.{among_one, end_of_one}
+use Rattle.evidence.proofs.task_parts.One as one
 use Rattle.declarations.specs.Rewritten.{DeclarationRule, rewritten_task}
 use Rattle.declarations.specs.Names.{IsOldName}
 use Rattle.declarations.specs.Equation.{rewrite_equation}

@@ -14,7 +14,7 @@ use Rattle.tasks.specs.Vocabulary.{of_task}
 use Rattle.tasks.specs.Valid.{IsValid, IsValidDecl}
 use Rattle.tasks.specs.Meaning.{symbols_at, declaration_at, declarations_at, task_at, SymbolHeld, DeclHeld, TaskHeld}
 use Rattle.tasks.proofs.Growth.{symbol_held_later, symbols_later, declaration_later, decl_held_later, task_later}
-use Rattle.task_parts.specs.Parts.{task_with}
+use Rattle.evidence.specs.task_parts.Parts.{task_with}
 use Rattle.declarations.specs.Rewritten.{DeclarationRule, rewritten_task}
 use Rattle.declarations.specs.Stored.{IsValidIn}
 

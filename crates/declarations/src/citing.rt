@@ -18,8 +18,8 @@ use crate::{FactSearch, RewriteDeclarations};
 use evidence::{Draft, fact_lemma};
 use std::alloc::AllocError;
 use tasks::{Body, Decl, Fact, Task};
-use term_store::{Grow, Store};
 use trees::TermId;
+use trees::store::{Grow, Store};
 
 // How many propositions a declaration says.
 fn said_in(store: &Store, body: &Body) -> usize

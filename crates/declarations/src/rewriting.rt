@@ -7,11 +7,11 @@ ghost use Rattle.tasks.specs.Valid.{IsValid};
 ghost use Rattle.declarations.specs.Rewritten.{rewritten_decls, rewritten_task};
 
 use crate::RewriteDeclarations;
+use evidence::task_parts::{one_task, with_parts};
 use outside::Seq;
 use std::alloc::{AllocError, Global};
-use task_parts::{one_task, with_parts};
 use tasks::{Decl, Task};
-use term_store::Store;
+use trees::store::Store;
 
 // What is put in the place of each declaration, in order.
 fn rewritten_decls<R: RewriteDeclarations>(

@@ -12,7 +12,7 @@ ghost use Rattle.declarations.specs.Stored.{IsValidIn};
 
 use std::alloc::{AllocError, Global};
 use tasks::{Body, Decl, Fact, Signature};
-use term_store::Store;
+use trees::store::Store;
 
 /// A name that is looked for in a list of names: it is there, or so many are left after them.
 #[derive(Clone, Copy)]

@@ -4,18 +4,18 @@ use Rattle.std.specs.Option.{is_none}
 use Rattle.std.specs.List.{AllByRecursion}
 use Rattle.tasks.specs.trees.Tree.{Tree}
 use Rattle.tasks.specs.trees.Facts.{TyVarsBelow}
-use Rattle.elab_names.specs.syntax_why.Lexeme.{Word}
-use Rattle.elab_names.specs.Abstract.{Expression}
-use Rattle.elab_names.specs.Where.{Where}
-use Rattle.elab_walk.specs.Patterns.{taken, LocalTree}
-use Rattle.elab_walk.specs.Pieces.{NotedTree, unknown_after}
-use Rattle.elab_walk.specs.Scoped.{IsScoped}
-use Rattle.elab_walk.proofs.Below.{AreBelow, LocalsBelow, below_more, list_more, wanted_more, reversed}
-use Rattle.elab_walk.proofs.Bounded.{IsBelow, bounded}
-use Rattle.elab_parts.specs.Declarations.{GroupMember, with_vars}
-use Rattle.elab_parts.proofs.MatchesBelow.{NotesBelow, followed, matches_bounded}
-use Rattle.elab_members.specs.Members.{SignatureTree, words_of_parameters, body_fault}
-use Rattle.elab_members.specs.Sources.{IsScopedSignature, AreResolved}
+use Rattle.name_resolution.specs.surface.Lexeme.{Word}
+use Rattle.name_resolution.specs.Abstract.{Expression}
+use Rattle.name_resolution.specs.Where.{Where}
+use Rattle.open_types.specs.Patterns.{taken, LocalTree}
+use Rattle.open_types.specs.Pieces.{NotedTree, unknown_after}
+use Rattle.open_types.specs.Scoped.{IsScoped}
+use Rattle.open_types.proofs.Below.{AreBelow, LocalsBelow, below_more, list_more, wanted_more, reversed}
+use Rattle.open_types.proofs.Bounded.{IsBelow, bounded}
+use Rattle.elab_groups.specs.parts.Declarations.{GroupMember, with_vars}
+use Rattle.elab_groups.proofs.parts.MatchesBelow.{NotesBelow, followed, matches_bounded}
+use Rattle.elab_groups.specs.members.Members.{SignatureTree, words_of_parameters, body_fault}
+use Rattle.elab_groups.specs.members.Sources.{IsScopedSignature, AreResolved}
 use Rattle.elab_groups.specs.Groups.{most_variables, typed_locals, body_piece, member_piece, member_pieces, bodies_pieces, pieces_notes, pieces_trees}
 use Rattle.elab_groups.specs.Bodies.{AreBounded}
 

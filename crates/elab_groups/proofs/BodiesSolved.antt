@@ -7,23 +7,23 @@ use Rattle.tasks.specs.trees.Node.{tree_at, Holds, Grows}
 use Rattle.tasks.specs.trees.Sorts.{sort_of}
 use Rattle.tasks.specs.trees.Binding.{typing}
 use Rattle.tasks.proofs.trees.Nodes.{Grows_trans}
-use Rattle.tasks.proofs.trees.Sorts.{sort_of-change}
-use Rattle.binders.specs.Visits.{sorts_typing}
+use Rattle.tasks.specs.trees.laws.Sorts.{sort_of-change}
+use Rattle.trees.specs.binders.Visits.{sorts_typing}
 use Rattle.tasks.specs.Meaning.{trees_at}
-use Rattle.elab_walk.specs.Patterns.{Notes, taken}
-use Rattle.elab_walk.specs.declared.draft.MatchAt.{MatchAt}
-use Rattle.elab_walk.specs.Drafts.{HoldsType, MatchHeld, match_at, instances}
-use Rattle.elab_walk.proofs.Below.{AreBelow}
-use Rattle.elab_walk.proofs.Growing.{types_stay}
-use Rattle.elab_parts.specs.declared.solution.TypingFault.{TypingFault}
-use Rattle.elab_parts.specs.Elaborated.{IsTypingFault}
-use Rattle.elab_parts.specs.Values.{AreSolvedTypes, notes_after, match_instance}
-use Rattle.elab_parts.proofs.MatchesBelow.{MatchesBelow}
-use Rattle.elab_parts.proofs.Putting.{trees_stay, matches_stay}
-use Rattle.elab_parts.proofs.Solving.{trees_at_types, matches_at_types}
+use Rattle.open_types.specs.Patterns.{Notes, taken}
+use Rattle.open_types.specs.declared.draft.MatchAt.{MatchAt}
+use Rattle.open_types.specs.Drafts.{HoldsType, MatchHeld, match_at, instances}
+use Rattle.open_types.proofs.Below.{AreBelow}
+use Rattle.open_types.proofs.Growing.{types_stay}
+use Rattle.elab_groups.specs.declared.parts.solution.TypingFault.{TypingFault}
+use Rattle.elab_groups.specs.parts.Elaborated.{IsTypingFault}
+use Rattle.elab_groups.specs.parts.Values.{AreSolvedTypes, notes_after, match_instance}
+use Rattle.elab_groups.proofs.parts.MatchesBelow.{MatchesBelow}
+use Rattle.elab_groups.proofs.parts.Putting.{trees_stay, matches_stay}
+use Rattle.elab_groups.proofs.parts.Solving.{trees_at_types, matches_at_types}
 use Rattle.elab_groups.specs.Groups.{AreSolved}
 use Rattle.elab_groups.specs.Bodies.{AreBounded}
-use Rattle.elab_walk.proofs.Forming.{hold_types}
+use Rattle.open_types.proofs.Forming.{hold_types}
 
 -- walked in the store s1, at the types of the store s2; the stores s3 and s4 have the trees and the matches
 pub group_solved : (s1 s2 s3 s4 : List Tree) → Grows s1 s2 → Grows s2 s3 → Grows s3 s4 → (r : ℕ) (ns : Notes) (types : List TermId) → AreSolvedTypes s2 r ns types

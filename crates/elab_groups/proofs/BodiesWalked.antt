@@ -8,20 +8,20 @@ use Rattle.tasks.specs.trees.Tree.{Tree, Leaf, HEnd}
 use Rattle.tasks.specs.trees.Node.{tree_at, Holds, Grows}
 use Rattle.tasks.specs.trees.Sorts.{sort_of}
 use Rattle.tasks.specs.Meaning.{trees_at}
-use Rattle.elab_names.specs.syntax_why.Lexeme.{Word}
-use Rattle.elab_names.specs.Abstract.{Expression}
-use Rattle.elab_names.specs.Faults.{fault}
-use Rattle.elab_names.specs.Where.{Where}
-use Rattle.elab_walk.specs.declared.draft.Constraints.{Constraints}
-use Rattle.elab_walk.specs.Patterns.{LocalTree}
-use Rattle.elab_walk.specs.Pieces.{NotedTree, piece}
-use Rattle.elab_walk.specs.Drafts.{IsReady, IsWalked, due}
-use Rattle.elab_walk.proofs.Taking.{mapped_more}
-use Rattle.elab_walk.proofs.Noting.{nothing_noted, more_noted, noted_before, no_elements}
-use Rattle.elab_parts.specs.Declarations.{GroupMember, with_vars}
-use Rattle.elab_parts.proofs.Putting.{trees_stay}
-use Rattle.elab_members.specs.declared.signing.Signed.{Signed}
-use Rattle.elab_members.specs.Members.{SignatureTree, words_of_parameters, body_fault}
+use Rattle.name_resolution.specs.surface.Lexeme.{Word}
+use Rattle.name_resolution.specs.Abstract.{Expression}
+use Rattle.name_resolution.specs.Faults.{fault}
+use Rattle.name_resolution.specs.Where.{Where}
+use Rattle.open_types.specs.declared.draft.Constraints.{Constraints}
+use Rattle.open_types.specs.Patterns.{LocalTree}
+use Rattle.open_types.specs.Pieces.{NotedTree, piece}
+use Rattle.open_types.specs.Drafts.{IsReady, IsWalked, due}
+use Rattle.open_types.proofs.Taking.{mapped_more}
+use Rattle.open_types.proofs.Noting.{nothing_noted, more_noted, noted_before, no_elements}
+use Rattle.elab_groups.specs.parts.Declarations.{GroupMember, with_vars}
+use Rattle.elab_groups.proofs.parts.Putting.{trees_stay}
+use Rattle.elab_groups.specs.declared.members.signing.Signed.{Signed}
+use Rattle.elab_groups.specs.members.Members.{SignatureTree, words_of_parameters, body_fault}
 use Rattle.elab_groups.specs.Groups.{typed_locals, body_piece, member_piece, member_pieces, pieces_trees}
 use Rattle.elab_groups.specs.Bodies.{IsBodyWalked, AreBodiesWalked, AreDefined, sorts_due}
 

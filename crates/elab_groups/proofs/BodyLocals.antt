@@ -6,10 +6,10 @@ use Rattle.std.proofs.lemmas.List.Elements.{All-append, All-cons, All-nil}
 use Rattle.tasks.specs.trees.declared.TermId.{TermId}
 use Rattle.tasks.specs.trees.Tree.{Tree}
 use Rattle.tasks.specs.trees.Node.{tree_at}
-use Rattle.elab_names.specs.syntax_why.Lexeme.{Word}
-use Rattle.elab_walk.specs.declared.locals.Local.{Local}
-use Rattle.elab_walk.specs.Patterns.{LocalTree}
-use Rattle.elab_walk.specs.Drafts.{HoldsType, local_at, local_name, is_due}
+use Rattle.name_resolution.specs.surface.Lexeme.{Word}
+use Rattle.open_types.specs.declared.locals.Local.{Local}
+use Rattle.open_types.specs.Patterns.{LocalTree}
+use Rattle.open_types.specs.Drafts.{HoldsType, local_at, local_name, is_due}
 use Rattle.elab_groups.specs.Groups.{typed_locals}
 
 abbrev name_of : LocalTree → Word

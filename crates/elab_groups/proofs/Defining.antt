@@ -14,16 +14,16 @@ use Rattle.tasks.specs.declared.declaration.Def.{Def}
 use Rattle.tasks.specs.declared.declaration.Decl.{Decl}
 use Rattle.tasks.specs.Task.{DefinitionTree, DeclarationTree, Defines}
 use Rattle.tasks.specs.Meaning.{trees_at, definition_at, declaration_at, declarations_at, DeclHeld}
-use Rattle.elab_names.specs.syntax_why.declared.expressions.Expr.{Expr}
-use Rattle.elab_names.specs.Abstract.{Expression, expression_of}
-use Rattle.elab_walk.specs.Drafts.{due}
-use Rattle.elab_walk.proofs.Growing.{held_grows}
-use Rattle.elab_parts.specs.Declarations.{GroupMember}
-use Rattle.elab_parts.proofs.Putting.{all_first, all_rest, trees_stay, all_held}
-use Rattle.elab_members.specs.declared.signing.Signed.{Signed}
-use Rattle.elab_members.specs.Members.{SignatureTree}
-use Rattle.elab_members.specs.Sources.{signed_at, SignedHeld}
-use Rattle.elab_members.proofs.SignaturesHeld.{all_signed_stay}
+use Rattle.name_resolution.specs.surface.declared.expressions.Expr.{Expr}
+use Rattle.name_resolution.specs.Abstract.{Expression, expression_of}
+use Rattle.open_types.specs.Drafts.{due}
+use Rattle.open_types.proofs.Growing.{held_grows}
+use Rattle.elab_groups.specs.parts.Declarations.{GroupMember}
+use Rattle.elab_groups.proofs.parts.Putting.{all_first, all_rest, trees_stay, all_held}
+use Rattle.elab_groups.specs.declared.members.signing.Signed.{Signed}
+use Rattle.elab_groups.specs.members.Members.{SignatureTree}
+use Rattle.elab_groups.specs.members.Sources.{signed_at, SignedHeld}
+use Rattle.elab_groups.proofs.members.SignaturesHeld.{all_signed_stay}
 use Rattle.elab_groups.specs.Groups.{definitions, group_body}
 use Rattle.elab_groups.specs.Bodies.{IsBody, AreBodies, AreDefined, AllHaveBodies, sorts_due}
 use Rattle.tasks.proofs.Growth.{map_agree as map_same}

@@ -9,27 +9,27 @@ use Rattle.tasks.proofs.trees.Nodes.{Grows_refl}
 use Rattle.tasks.specs.Task.{SymbolTree, int_symbol}
 use Rattle.tasks.specs.Meaning.{symbol_at, symbols_at, declarations_at}
 use Rattle.tasks.specs.declared.signature.Signature.{Signature}
-use Rattle.elab_names.specs.names_space.Names.{ScopeNames}
-use Rattle.elab_names.specs.syntax_why.Lexeme.{Word}
-use Rattle.elab_names.specs.declared.NamingFault.{NamingFault}
-use Rattle.elab_names.specs.Faults.{first_of}
-use Rattle.elab_names.specs.Where.{Where}
-use Rattle.elab_walk.specs.Drafts.{match_at}
-use Rattle.elab_walk.specs.Scoped.{IsScopedEntry}
-use Rattle.elab_parts.specs.declared.made.Elaborated.{Elaborated}
-use Rattle.elab_parts.specs.declared.made.Place.{Place}
-use Rattle.elab_parts.specs.Declarations.{GroupMember, made_by_members, made_fault}
-use Rattle.elab_parts.specs.Entries.{IsSignature, AreScopes}
-use Rattle.elab_parts.specs.Outcomes.{Setting, over, setting, declared_in, IsKept}
-use Rattle.elab_parts.proofs.Entering.{entries_stay, signature_grows, first_stays}
-use Rattle.elab_parts.proofs.Overs.{some_entry, over_stays}
-use Rattle.elab_parts.proofs.Refused.{no_fault}
-use Rattle.elab_parts.proofs.Scopes.{scopes_grow}
-use Rattle.elab_members.specs.declared.signing.Signatures.{Signatures}
-use Rattle.elab_members.specs.Members.{SignatureTree, signature_of, signed_entries, member_entries, with_members, members_fault}
-use Rattle.elab_members.specs.Sources.{signed_at, IsEntered, IsScopedSignature, AreResolved}
-use Rattle.elab_members.proofs.MembersNamed.{members_types, members_scopes, entries_count}
-use Rattle.elab_members.proofs.MembersScoped.{members_scoped, signatures_scoped, members_resolved}
+use Rattle.name_resolution.specs.scopes.Names.{ScopeNames}
+use Rattle.name_resolution.specs.surface.Lexeme.{Word}
+use Rattle.name_resolution.specs.declared.NamingFault.{NamingFault}
+use Rattle.name_resolution.specs.Faults.{first_of}
+use Rattle.name_resolution.specs.Where.{Where}
+use Rattle.open_types.specs.Drafts.{match_at}
+use Rattle.open_types.specs.Scoped.{IsScopedEntry}
+use Rattle.elab_groups.specs.declared.parts.made.Elaborated.{Elaborated}
+use Rattle.elab_groups.specs.declared.parts.made.Place.{Place}
+use Rattle.elab_groups.specs.parts.Declarations.{GroupMember, made_by_members, made_fault}
+use Rattle.elab_groups.specs.parts.Entries.{IsSignature, AreScopes}
+use Rattle.elab_groups.specs.parts.Outcomes.{Setting, over, setting, declared_in, IsKept}
+use Rattle.elab_groups.proofs.parts.Entering.{entries_stay, signature_grows, first_stays}
+use Rattle.elab_groups.proofs.parts.Overs.{some_entry, over_stays}
+use Rattle.elab_groups.proofs.parts.Refused.{no_fault}
+use Rattle.elab_groups.proofs.parts.Scopes.{scopes_grow}
+use Rattle.elab_groups.specs.declared.members.signing.Signatures.{Signatures}
+use Rattle.elab_groups.specs.members.Members.{SignatureTree, signature_of, signed_entries, member_entries, with_members, members_fault}
+use Rattle.elab_groups.specs.members.Sources.{signed_at, IsEntered, IsScopedSignature, AreResolved}
+use Rattle.elab_groups.proofs.members.MembersNamed.{members_types, members_scopes, entries_count}
+use Rattle.elab_groups.proofs.members.MembersScoped.{members_scoped, signatures_scoped, members_resolved}
 use Rattle.elab_groups.specs.Groups.{group_tuples, before_group, group_signatures, group_scope, within_group, group_used, group_fault, group_decls, BodiesSolved, IsGroup, IsGroupElaborated}
 use Rattle.elab_groups.specs.Bodies.{IsGroupMade}
 

@@ -4,13 +4,13 @@ use Rattle.tasks.specs.trees.Tree.{Tree, Leaf, One, Two, Three, HTyVar, HTyApp, 
 use Rattle.tasks.specs.declared.signature.SymbolKind.TheVariants.{Function}
 use Rattle.tasks.specs.Task.{int_symbol}
 use Rattle.tasks.specs.Equations.{cells}
-use Rattle.elab_names.specs.syntax_why.Lexeme.{Word}
-use Rattle.elab_names.specs.names_space.Names.{empty_names}
-use Rattle.elab_names.specs.Abstract.{TypeExpression, Expression, variable_type, composed_type, no_types, applied_expression, integer_expression, no_expressions, more_expressions}
-use Rattle.elab_names.specs.declared.NamingFault.TheVariants.{Unknown, Duplicate, Arity}
-use Rattle.elab_parts.specs.Declarations.{GroupMember, token_name}
-use Rattle.elab_parts.specs.Outcomes.{Setting}
-use Rattle.elab_members.specs.Members.{member_entries}
+use Rattle.name_resolution.specs.surface.Lexeme.{Word}
+use Rattle.name_resolution.specs.scopes.Names.{empty_names}
+use Rattle.name_resolution.specs.Abstract.{TypeExpression, Expression, variable_type, composed_type, no_types, applied_expression, integer_expression, no_expressions, more_expressions}
+use Rattle.name_resolution.specs.declared.NamingFault.TheVariants.{Unknown, Duplicate, Arity}
+use Rattle.elab_groups.specs.parts.Declarations.{GroupMember, token_name}
+use Rattle.elab_groups.specs.parts.Outcomes.{Setting}
+use Rattle.elab_groups.specs.members.Members.{member_entries}
 use Rattle.elab_groups.specs.Groups.{before_group, group_signatures, group_fault, group_notes, definitions}
 
 -- a theory `T` that has `int` alone

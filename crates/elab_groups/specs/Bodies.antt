@@ -9,16 +9,16 @@ use Rattle.tasks.specs.trees.Node.{tree_at, Holds}
 use Rattle.tasks.specs.trees.Sorts.{sort_of}
 use Rattle.tasks.specs.trees.Facts.{TyVarsBelow}
 use Rattle.tasks.specs.Meaning.{trees_at, declarations_at, DeclHeld}
-use Rattle.elab_names.specs.syntax_why.Lexeme.{Word}
-use Rattle.elab_names.specs.Where.{Where}
-use Rattle.elab_walk.specs.declared.draft.Constraints.{Constraints}
-use Rattle.elab_walk.specs.Patterns.{Notes, taken}
-use Rattle.elab_walk.specs.Pieces.{NotedTree}
-use Rattle.elab_walk.specs.Drafts.{IsReady, IsNoted, MatchHeld, match_at, due}
-use Rattle.elab_parts.specs.declared.made.Elaborated.{Elaborated}
-use Rattle.elab_parts.specs.Declarations.{GroupMember}
-use Rattle.elab_members.specs.declared.signing.Signed.{Signed}
-use Rattle.elab_members.specs.Members.{SignatureTree}
+use Rattle.name_resolution.specs.surface.Lexeme.{Word}
+use Rattle.name_resolution.specs.Where.{Where}
+use Rattle.open_types.specs.declared.draft.Constraints.{Constraints}
+use Rattle.open_types.specs.Patterns.{Notes, taken}
+use Rattle.open_types.specs.Pieces.{NotedTree}
+use Rattle.open_types.specs.Drafts.{IsReady, IsNoted, MatchHeld, match_at, due}
+use Rattle.elab_groups.specs.declared.parts.made.Elaborated.{Elaborated}
+use Rattle.elab_groups.specs.parts.Declarations.{GroupMember}
+use Rattle.elab_groups.specs.declared.members.signing.Signed.{Signed}
+use Rattle.elab_groups.specs.members.Members.{SignatureTree}
 use Rattle.elab_groups.specs.declared.solving.Bodies.{Bodies}
 use Rattle.elab_groups.specs.Groups.{pieces_notes, pieces_trees, BodiesSolved, group_decls}
 

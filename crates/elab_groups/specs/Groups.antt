@@ -6,22 +6,22 @@ use Rattle.tasks.specs.Task.{SymbolTree, DefinitionTree, BodyTree, Makes, Define
 use Rattle.tasks.specs.Equations.{cells, type_variables, bound_variables, for_all, equated}
 use Rattle.tasks.specs.declared.signature.SymbolKind.TheVariants.{Function, Predicate}
 use Rattle.tasks.specs.declared.signature.Signature.{Signature}
-use Rattle.unify_types.specs.Assigned.{assign}
-use Rattle.unify_types.specs.Pairs.{IsSolution}
-use Rattle.elab_names.specs.names_space.Names.{ScopeNames}
-use Rattle.elab_names.specs.syntax_why.Lexeme.{Word}
-use Rattle.elab_names.specs.Abstract.{Expression}
-use Rattle.elab_names.specs.declared.NamingFault.{NamingFault}
-use Rattle.elab_names.specs.Faults.{first_of}
-use Rattle.elab_names.specs.Where.{Where}
-use Rattle.elab_walk.specs.Patterns.{Notes, no_notes, follow, LocalTree, local}
-use Rattle.elab_walk.specs.Pieces.{NotedTree, piece, bare_piece, unknown_after}
-use Rattle.elab_parts.specs.declared.ElabFault.{ElabFault}
-use Rattle.elab_parts.specs.declared.made.Elaborated.{Elaborated}
-use Rattle.elab_parts.specs.Elaborated.{IsDetermined, AreMatches, unseen}
-use Rattle.elab_parts.specs.Declarations.{GroupMember, with_vars, made_by_members, made_fault}
-use Rattle.elab_parts.specs.Outcomes.{Setting, Outcome, tuples_wanting, declared_in, IsRefusalFor, IsElaboratedAs}
-use Rattle.elab_members.specs.Members.{SignatureTree, words_of_parameters, members_seen, signature_trees, member_entries, with_members, inside_group, members_fault}
+use Rattle.open_types.specs.unify_types.Assigned.{assign}
+use Rattle.open_types.specs.unify_types.Pairs.{IsSolution}
+use Rattle.name_resolution.specs.scopes.Names.{ScopeNames}
+use Rattle.name_resolution.specs.surface.Lexeme.{Word}
+use Rattle.name_resolution.specs.Abstract.{Expression}
+use Rattle.name_resolution.specs.declared.NamingFault.{NamingFault}
+use Rattle.name_resolution.specs.Faults.{first_of}
+use Rattle.name_resolution.specs.Where.{Where}
+use Rattle.open_types.specs.Patterns.{Notes, no_notes, follow, LocalTree, local}
+use Rattle.open_types.specs.Pieces.{NotedTree, piece, bare_piece, unknown_after}
+use Rattle.elab_groups.specs.declared.parts.ElabFault.{ElabFault}
+use Rattle.elab_groups.specs.declared.parts.made.Elaborated.{Elaborated}
+use Rattle.elab_groups.specs.parts.Elaborated.{IsDetermined, AreMatches, unseen}
+use Rattle.elab_groups.specs.parts.Declarations.{GroupMember, with_vars, made_by_members, made_fault}
+use Rattle.elab_groups.specs.parts.Outcomes.{Setting, Outcome, tuples_wanting, declared_in, IsRefusalFor, IsElaboratedAs}
+use Rattle.elab_groups.specs.members.Members.{SignatureTree, words_of_parameters, members_seen, signature_trees, member_entries, with_members, inside_group, members_fault}
 
 -- ---- bodies
 -- the variables of these names and types

@@ -5,15 +5,15 @@ ghost use Rattle.tasks.specs.trees.Tree.{Tree};
 ghost use Rattle.tasks.specs.trees.Node.{tree_at, Holds, Grows};
 ghost use Rattle.tasks.specs.trees.Sorts.{sort_of};
 ghost use Rattle.tasks.specs.Meaning.{trees_at};
-ghost use Rattle.elab_names.specs.Naming.{where_at};
-ghost use Rattle.elab_walk.specs.Drafts.{HoldsType, WorldHeld, IsReady, local_at, due};
-ghost use Rattle.elab_members.specs.Sources.{member_at, members_at, signed_at, SignedHeld, IsResolved, AreResolved};
+ghost use Rattle.name_resolution.specs.Naming.{where_at};
+ghost use Rattle.open_types.specs.Drafts.{HoldsType, WorldHeld, IsReady, local_at, due};
+ghost use Rattle.elab_groups.specs.members.Sources.{member_at, members_at, signed_at, SignedHeld, IsResolved, AreResolved};
 ghost use Rattle.elab_groups.specs.Groups.{typed_locals, member_piece, member_pieces};
 ghost use Rattle.elab_groups.specs.Bodies.{IsBodyWalked, AreBodiesWalked};
 
-use elab_members::{MemberSource, Signed, over_vars, push_param_names};
-use elab_names::World;
-use elab_walk::{Constraints, Local, Locals, walk};
+use crate::members::{MemberSource, Signed, over_vars, push_param_names};
+use name_resolution::World;
+use open_types::{Constraints, Local, Locals, walk};
 use std::alloc::{AllocError, Global};
 use tasks::{Grow, Node, Store, TermId, Text};
 

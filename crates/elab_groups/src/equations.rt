@@ -6,14 +6,14 @@ ghost use Rattle.tasks.specs.trees.Sorts.{sort_of, IsList};
 ghost use Rattle.tasks.specs.declared.declaration.Def.{Def};
 ghost use Rattle.tasks.specs.Meaning.{trees_at, definition_at};
 ghost use Rattle.tasks.specs.Equations.{cells, bound_variables, for_all};
-ghost use Rattle.elab_walk.specs.Drafts.{HoldsType};
-ghost use Rattle.elab_members.specs.Sources.{signed_at, SignedHeld};
+ghost use Rattle.open_types.specs.Drafts.{HoldsType};
+ghost use Rattle.elab_groups.specs.members.Sources.{signed_at, SignedHeld};
 ghost use Rattle.elab_groups.specs.Groups.{inner_equation, definitions};
 ghost use Rattle.elab_groups.specs.Bodies.{IsBody, AreBodies};
 
-use elab_members::Signed;
-use elab_parts::variables;
-use elab_walk::list_of;
+use crate::members::Signed;
+use crate::parts::variables;
+use open_types::list_of;
 use std::alloc::{AllocError, Global};
 use tasks::{Def, Grow, Node, Op, Seq, Store, TermId};
 

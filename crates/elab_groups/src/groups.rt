@@ -4,26 +4,26 @@ ghost use Rattle.std.specs.List.{AllByRecursion};
 ghost use Rattle.std.specs.Option.{is_some};
 ghost use Rattle.tasks.specs.trees.Node.{Grows};
 ghost use Rattle.tasks.specs.Meaning.{trees_at, body_at, BodyHeld, declarations_at, DeclHeld};
-ghost use Rattle.elab_names.specs.Naming.{where_at};
-ghost use Rattle.elab_walk.specs.Drafts.{WorldHeld};
-ghost use Rattle.elab_walk.specs.Scoped.{IsScoped};
-ghost use Rattle.elab_parts.specs.Elaborated.{IsTypingFault};
-ghost use Rattle.elab_parts.specs.Entries.{IsSignature, AreScopes};
-ghost use Rattle.elab_parts.specs.Outcomes.{setting, IsKept};
-ghost use Rattle.elab_members.specs.Sources.{member_at, members_at, signed_at, SignedHeld, IsScopedSignature, AreResolved};
+ghost use Rattle.name_resolution.specs.Naming.{where_at};
+ghost use Rattle.open_types.specs.Drafts.{WorldHeld};
+ghost use Rattle.open_types.specs.Scoped.{IsScoped};
+ghost use Rattle.elab_groups.specs.parts.Elaborated.{IsTypingFault};
+ghost use Rattle.elab_groups.specs.parts.Entries.{IsSignature, AreScopes};
+ghost use Rattle.elab_groups.specs.parts.Outcomes.{setting, IsKept};
+ghost use Rattle.elab_groups.specs.members.Sources.{member_at, members_at, signed_at, SignedHeld, IsScopedSignature, AreResolved};
 ghost use Rattle.elab_groups.specs.Groups.{most_variables, bodies_pieces, pieces_notes, group_body, group_decls, IsGroupElaborated, IsGroupRefusal};
 ghost use Rattle.elab_groups.specs.Bodies.{AreDefined, AllHaveBodies, AreBodies, IsGroupMade};
 
 use crate::equations::push_definitions;
-use crate::solving::solve_group;
-use elab_members::{
+use crate::members::{
     MemberSource, Signatures, Signed, check_members, declare_members, enter_members, push_group,
 };
-use elab_names::{Scope, World, own_name};
-use elab_parts::{
+use crate::parts::{
     ElabFault, Elaborated, Place, TypingFault, join_words, naming_fault, typing_fault, world_over,
 };
-use elab_variables::Seen;
+use crate::solving::solve_group;
+use name_resolution::variables::Seen;
+use name_resolution::{Scope, World, own_name};
 use std::alloc::{AllocError, Global};
 use tasks::{Body, Decl, Seq, Signature, Store, TermId, Text};
 

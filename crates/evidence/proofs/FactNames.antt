@@ -15,7 +15,7 @@ use Rattle.tasks.specs.Facts.{FactTree, facts, facts_from, body_facts, equation_
 use Rattle.tasks.specs.Inversion.{inversion}
 use Rattle.tasks.specs.Valid.{IsValid}
 use Rattle.tasks.proofs.Declared.{contains_cases, contains_step, none_in, any_iff}
-use Rattle.rule_rows.specs.Rows.{equation, clauses}
+use Rattle.rules.specs.Rows.{equation, clauses}
 use Rattle.evidence.specs.Facts.{at_symbol, fact_named, IsFoundByName}
 
 -- ---- what a list contains

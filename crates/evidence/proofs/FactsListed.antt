@@ -11,7 +11,7 @@ use Rattle.tasks.specs.Task.{SymbolTree, symbol_or, DefinitionTree, InductiveTre
 use Rattle.tasks.specs.Roles.{RoleTree, PlainRole, DefinedRole, InductiveRole, AlgebraicRole, ConstructorRole, ProjectionRole, or_role, maker, role, role_by, role_in, is_made_by, defined_as, inductive_as, projection_at, projected_as, constructed_as, algebraic_as}
 use Rattle.tasks.specs.Facts.{FactTree, facts, facts_from, body_facts, equation_fact, inversion_fact, clause_facts, all_clause_facts, said_in}
 use Rattle.tasks.specs.Inversion.{inversion}
-use Rattle.rule_rows.specs.Rows.{equation, clauses}
+use Rattle.rules.specs.Rows.{equation, clauses}
 use Rattle.evidence.specs.Facts.{at_symbol, fact_of, IsListed}
 use Rattle.evidence.proofs.FactNames.{first_or_rest, first_contained, rest_contains, nothing_in}
 

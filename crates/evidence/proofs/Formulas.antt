@@ -14,12 +14,12 @@ use Rattle.tasks.specs.Task.{TaskTree, neg, start}
 use Rattle.tasks.specs.Valid.{IsGroundFormula, IsTypeOver}
 use Rattle.tasks.specs.Meaning.{trees_at}
 use Rattle.tasks.proofs.Growth.{trees_later, all_held_later}
-use Rattle.rule_rows.specs.Trees.{RuleTree, RClash, RCut, RKeep, StepTree, no_step, step_or, rule_trees, rule_types}
-use Rattle.rule_rows.specs.declared.rule.Step.{Step}
-use Rattle.rule_rows.specs.Forms.{negated, connected}
-use Rattle.rule_rows.specs.Rows.{Adds, where_true, where_false}
-use Rattle.rule_rows.specs.Meaning.{step_at, steps_at, StepHeld, StepsHeld}
-use Rattle.rule_rows.proofs.Sequents.{All-unmap}
+use Rattle.rules.specs.Trees.{RuleTree, RClash, RCut, RKeep, StepTree, no_step, step_or, rule_trees, rule_types}
+use Rattle.rules.specs.declared.rule.Step.{Step}
+use Rattle.rules.specs.Forms.{negated, connected}
+use Rattle.rules.specs.Rows.{Adds, where_true, where_false}
+use Rattle.rules.specs.Meaning.{step_at, steps_at, StepHeld, StepsHeld}
+use Rattle.rules.proofs.Sequents.{All-unmap}
 use Rattle.kernel.specs.Right.{AreRight, last_starts}
 use Rattle.kernel.proofs.Places.{step_or-at}
 use Rattle.evidence.specs.Drafts.{DraftTree, Extends, Refutes, IsFormulaAt, AreFormulas, RefutesAt}

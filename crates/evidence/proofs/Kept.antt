@@ -14,10 +14,10 @@ use Rattle.tasks.specs.Task.{neg}
 use Rattle.tasks.specs.Meaning.{task_at}
 use Rattle.tasks.specs.Valid.{IsValid}
 use Rattle.tasks.proofs.Growth.{task_later, task_held_later}
-use Rattle.rule_rows.specs.declared.rule.Step.{Step}
-use Rattle.rule_rows.specs.Trees.{StepTree}
+use Rattle.rules.specs.declared.rule.Step.{Step}
+use Rattle.rules.specs.Trees.{StepTree}
 use Rattle.kernel.specs.Right.{IsRight, AreRight}
-use Rattle.rule_rows.specs.Meaning.{step_at, steps_at, StepHeld}
+use Rattle.rules.specs.Meaning.{step_at, steps_at, StepHeld}
 use Rattle.kernel.proofs.Growth.{right_more, steps_later, steps_held_later}
 use Rattle.evidence.specs.Drafts.{DraftTree, Extends, AddsTrees, Refutes}
 use Rattle.evidence.specs.Inside.{AreLemmas, IsDraft, draft_at}

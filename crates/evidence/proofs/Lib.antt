@@ -1,3 +1,5 @@
+pub use Rattle.images.proofs as images
+pub mod ChangedTasks
 pub mod Kept
 pub mod Typed
 pub mod Rules

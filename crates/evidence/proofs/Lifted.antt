@@ -15,14 +15,14 @@ use Rattle.tasks.specs.Task.{TaskTree, neg, start}
 use Rattle.tasks.specs.Valid.{IsValid, IsTypeOver, IsGroundFormula}
 use Rattle.tasks.specs.Meaning.{trees_at, task_at, tasks_at, TaskHeld, TasksHeld}
 use Rattle.tasks.proofs.Growth.{map_agree, task_later, task_held_later}
-use Rattle.rule_rows.specs.declared.rule.Step.{Step}
-use Rattle.rule_rows.specs.Trees.{RuleTree, StepTree, no_step, step_or, sequents, rule_trees, rule_types}
-use Rattle.rule_rows.specs.Rows.{IsRuleRow}
+use Rattle.rules.specs.declared.rule.Step.{Step}
+use Rattle.rules.specs.Trees.{RuleTree, StepTree, no_step, step_or, sequents, rule_trees, rule_types}
+use Rattle.rules.specs.Rows.{IsRuleRow}
 use Rattle.kernel.specs.Right.{IsRight, AreRight, Closes}
-use Rattle.rule_rows.specs.Meaning.{rule_at, step_at, steps_at, StepsHeld}
+use Rattle.rules.specs.Meaning.{rule_at, step_at, steps_at, StepsHeld}
 use Rattle.kernel.proofs.Growth.{steps_later, steps_held_later}
 use Rattle.kernel.proofs.Places.{step_or-at}
-use Rattle.rule_rows.proofs.Sequents.{map_twice}
+use Rattle.rules.proofs.Sequents.{map_twice}
 use Rattle.evidence.specs.Drafts.{DraftTree, Extends, Refutes, IsFormulaAt, AreFormulas}
 use Rattle.evidence.specs.Facts.{citing, CitesNone, IsFact}
 use Rattle.evidence.specs.Stages.{TaskEquation, Gives, HaveSequents, StandFor, EndIn, HasSequents, KeepsDeclared, Keeps, IsAmong, IsOwnTask, InStage, Cites, PartsClose, PartsHeld, parts_at, part_or, task_or, no_task, sequent_of_step, start_of}

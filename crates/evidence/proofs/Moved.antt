@@ -15,9 +15,9 @@ use Rattle.tasks.specs.Conjunctions.{conjunction}
 use Rattle.tasks.specs.MatchTests.{result_at, field, fields, rebuilt, projections_by, constructor_projections, parts, top, other_terms, con_equation, one_tests, three_tests, tests, test, one_binds, three_binds, pattern_terms, bind}
 use Rattle.tasks.proofs.Declared.{contains_step, contains_cases}
 use Rattle.linear_leaf.specs.Linear.{ClosesLinear}
-use Rattle.rule_rows.specs.Trees.{RuleTree, rule_trees, RDistinct, RLinear, RReplace, RMatchDef, RFact, RDef, RClause, RInv, RCase, RInject, RProject, RTrichotomy, RBound}
-use Rattle.rule_rows.specs.Forms.{equation_sides, match_of, application_parts, type_applied, equal, comparison}
-use Rattle.rule_rows.specs.Rows.{IsRuleRow, Adds, Constructors, DeclaresFour, DeclaresInts, equal_each, unfolded, constructors, projected}
+use Rattle.rules.specs.Trees.{RuleTree, rule_trees, RDistinct, RLinear, RReplace, RMatchDef, RFact, RDef, RClause, RInv, RCase, RInject, RProject, RTrichotomy, RBound}
+use Rattle.rules.specs.Forms.{equation_sides, match_of, application_parts, type_applied, equal, comparison}
+use Rattle.rules.specs.Rows.{IsRuleRow, Adds, Constructors, DeclaresFour, DeclaresInts, equal_each, unfolded, constructors, projected}
 use Rattle.kernel.specs.Right.{IsGroundExpression}
 use Rattle.evidence.specs.Facts.{CitesNone}
 use Rattle.evidence.specs.Stages.{IsGrouped, KeepsDeclared}

@@ -23,11 +23,11 @@ use Rattle.tasks.specs.Meaning.{trees_at}
 use Rattle.tasks.specs.Valid.{IsGroundFormula}
 use Rattle.tasks.specs.MatchTests.{test, bind, rebuilt}
 use Rattle.linear_leaf.specs.Linear.{ClosesLinear}
-use Rattle.rule_rows.specs.declared.rule.Rule.{Rule}
-use Rattle.rule_rows.specs.Trees.{RuleTree, RFalse, RNotTrue, RClash, RIrrefl, RNotNot, RForall, RNotForall, RExists, RNotExists, RCut, RKeep, RRefl, RReplace, RLetDef, RIfDef, RMatchDef, RDistinct, RLinear, RCase, RInject, RProject, RTrichotomy, RBound, StepTree, no_step, step_or, sequents}
-use Rattle.rule_rows.specs.Forms.{negated, equal, alike, by_cases, comparison}
-use Rattle.rule_rows.specs.Rows.{IsRuleRow, Adds, Holding, Failing, IsNew, IsTemplate, unfolded, equation, clauses, equal_each, DeclaresInts}
-use Rattle.rule_rows.specs.Meaning.{rule_at}
+use Rattle.rules.specs.declared.rule.Rule.{Rule}
+use Rattle.rules.specs.Trees.{RuleTree, RFalse, RNotTrue, RClash, RIrrefl, RNotNot, RForall, RNotForall, RExists, RNotExists, RCut, RKeep, RRefl, RReplace, RLetDef, RIfDef, RMatchDef, RDistinct, RLinear, RCase, RInject, RProject, RTrichotomy, RBound, StepTree, no_step, step_or, sequents}
+use Rattle.rules.specs.Forms.{negated, equal, alike, by_cases, comparison}
+use Rattle.rules.specs.Rows.{IsRuleRow, Adds, Holding, Failing, IsNew, IsTemplate, unfolded, equation, clauses, equal_each, DeclaresInts}
+use Rattle.rules.specs.Meaning.{rule_at}
 use Rattle.kernel.specs.Right.{IsRight}
 use Rattle.evidence.specs.Drafts.{DraftTree, Extends, Refutes, RefuteAll, AreFormulas}
 use Rattle.evidence.specs.Facts.{at_symbol, fact_named, citing}

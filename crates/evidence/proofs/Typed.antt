@@ -10,7 +10,7 @@ use Rattle.tasks.specs.Vocabulary.{of_task}
 use Rattle.tasks.specs.Valid.{IsGroundFormula, IsTypeOver}
 use Rattle.tasks.proofs.Declared.{contains_step, contains_cases, usable_made, made_usable}
 use Rattle.tasks.proofs.Moved.{IsWithin, typed_within}
-use Rattle.rule_rows.specs.Rows.{IsTemplate}
+use Rattle.rules.specs.Rows.{IsTemplate}
 use Rattle.kernel.specs.Right.{IsGroundExpression}
 use Rattle.evidence.specs.Stages.{IsGrouped, KeepsDeclared}
 

@@ -2,8 +2,8 @@
 use Rattle.std.specs.Prelude.{◌≡◌, ℕ, List, Result, Ok, Err, refl, true}
 use Rattle.std.proofs.Common.{sym, ap, ◌∙◌}
 use Rattle.tasks.specs.Task.{TaskTree}
-use Rattle.stage_limits.specs.Limits.{are_small}
-use Rattle.stage_limits.specs.Laws.{limited_gives, limited_small}
+use Rattle.evidence.specs.stage_limits.Limits.{are_small}
+use Rattle.evidence.specs.stage_limits.Laws.{limited_gives, limited_small}
 use Rattle.evidence.specs.Stages.{TaskEquation, Gives, stage_answer}
 
 pub gives_tasks : (equation : TaskEquation) (t : TaskTree) (ts : List TaskTree) → Gives equation t ts → equation t ≡ Ok ts

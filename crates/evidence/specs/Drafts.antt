@@ -8,8 +8,8 @@ use Rattle.trees.specs.Coding.{trees_code}
 use Rattle.tasks.specs.Task.{TaskTree}
 use Rattle.tasks.specs.Valid.{IsGroundFormula}
 use Rattle.tasks.specs.Meaning.{trees_at}
-use Rattle.rule_rows.specs.Trees.{RCut, RKeep, StepTree, step_or}
-use Rattle.rule_rows.specs.Codes.{steps_code}
+use Rattle.rules.specs.Trees.{RCut, RKeep, StepTree, step_or}
+use Rattle.rules.specs.Codes.{steps_code}
 use Rattle.tasks.specs.Codes.{task_code}
 
 -- the trees of the store, the task and the steps

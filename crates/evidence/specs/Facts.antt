@@ -11,8 +11,8 @@ use Rattle.tasks.specs.Roles.{role}
 use Rattle.tasks.specs.Facts.{FactTree, facts}
 use Rattle.tasks.specs.Inversion.{inversion}
 use Rattle.tasks.specs.Valid.{IsTypeOver}
-use Rattle.rule_rows.specs.Trees.{RuleTree, RFact, RDef, RClause, RInv}
-use Rattle.rule_rows.specs.Rows.{equation, clauses}
+use Rattle.rules.specs.Trees.{RuleTree, RFact, RDef, RClause, RInv}
+use Rattle.rules.specs.Rows.{equation, clauses}
 
 -- a formula with as many type variables as a symbol has
 abbrev pub at_symbol : TaskTree → ℕ → Tree → PropositionTree

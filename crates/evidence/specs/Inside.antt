@@ -8,9 +8,9 @@ use Rattle.tasks.specs.declared.task.Task.{Task}
 use Rattle.tasks.specs.Task.{neg}
 use Rattle.tasks.specs.Meaning.{task_at, TaskHeld}
 use Rattle.tasks.specs.Valid.{IsValid}
-use Rattle.rule_rows.specs.declared.rule.Step.{Step}
+use Rattle.rules.specs.declared.rule.Step.{Step}
 use Rattle.kernel.specs.Right.{AreRight}
-use Rattle.rule_rows.specs.Meaning.{steps_at, StepsHeld}
+use Rattle.rules.specs.Meaning.{steps_at, StepsHeld}
 use Rattle.evidence.specs.Drafts.{DraftTree, Refutes}
 
 -- the step that is remembered of a formula refutes the formula's negation, alone

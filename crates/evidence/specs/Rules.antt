@@ -6,9 +6,9 @@ use Rattle.trees.specs.Tree.{Tree}
 use Rattle.trees.specs.Facts.{Each}
 use Rattle.tasks.specs.Task.{TaskTree}
 use Rattle.tasks.specs.Valid.{IsTypeOver}
-use Rattle.rule_rows.specs.Trees.{RuleTree, RAnd, RNotAnd, RAndThen, RNotAndThen, ROr, RNotOr, ROrElse, RNotOrElse, RImp, RNotImp, RIff, RNotIff, rule_trees, rule_types}
-use Rattle.rule_rows.specs.Forms.{negated, connected}
-use Rattle.rule_rows.specs.Rows.{IsRuleRow, where_true, where_false}
+use Rattle.rules.specs.Trees.{RuleTree, RAnd, RNotAnd, RAndThen, RNotAndThen, ROr, RNotOr, ROrElse, RNotOrElse, RImp, RNotImp, RIff, RNotIff, rule_trees, rule_types}
+use Rattle.rules.specs.Forms.{negated, connected}
+use Rattle.rules.specs.Rows.{IsRuleRow, where_true, where_false}
 use Rattle.kernel.specs.Right.{IsGroundExpression}
 use Rattle.evidence.specs.Drafts.{DraftTree, RefuteAll}
 

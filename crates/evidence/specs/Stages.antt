@@ -7,15 +7,15 @@ use Rattle.tasks.specs.Task.{TaskTree, made, start}
 use Rattle.tasks.specs.Roles.{RoleTree, InductiveRole, AlgebraicRole, ConstructorRole, ProjectionRole, role}
 use Rattle.tasks.specs.Valid.{IsValid}
 use Rattle.tasks.specs.Meaning.{task_at, TaskHeld}
-use Rattle.rule_rows.specs.declared.rule.Step.{Step}
-use Rattle.rule_rows.specs.Trees.{StepTree, step_or}
+use Rattle.rules.specs.declared.rule.Step.{Step}
+use Rattle.rules.specs.Trees.{StepTree, step_or}
 use Rattle.kernel.specs.Right.{Closes}
-use Rattle.rule_rows.specs.Meaning.{steps_at, StepsHeld}
+use Rattle.rules.specs.Meaning.{steps_at, StepsHeld}
 use Rattle.evidence.specs.Drafts.{DraftTree, Refutes}
 use Rattle.evidence.specs.Facts.{IsFact}
-pub use Rattle.stage_limits.specs.Limits.{Refusal, Misplaced, TooLarge}
-use Rattle.stage_limits.specs.Limits.{limited}
-pub use Rattle.stage_limits.specs.Laws.{limited_gives, limited_small}
+pub use Rattle.evidence.specs.stage_limits.Limits.{Refusal, Misplaced, TooLarge}
+use Rattle.evidence.specs.stage_limits.Limits.{limited}
+pub use Rattle.evidence.specs.stage_limits.Laws.{limited_gives, limited_small}
 use Rattle.evidence.specs.declared.stage.StageFault.{StageFault}
 use Rattle.evidence.specs.declared.stage.StageFault.TheVariants as fault
 

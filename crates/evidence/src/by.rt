@@ -7,19 +7,18 @@ ghost use Rattle.trees.specs.Node.{tree_at, Holds};
 ghost use Rattle.tasks.specs.Task.{neg, start};
 ghost use Rattle.tasks.specs.Meaning.{trees_at};
 ghost use Rattle.kernel.specs.Right.{last_starts};
-ghost use Rattle.rule_rows.specs.Forms.{negated};
-ghost use Rattle.rule_rows.specs.Meaning.{rule_at, RuleHeld};
+ghost use Rattle.rules.specs.Forms.{negated};
+ghost use Rattle.rules.specs.Meaning.{rule_at, RuleHeld};
 ghost use Rattle.evidence.specs.Drafts.{Extends, AddsTrees, Refutes, HasLast, IsFormulaAt, AreFormulas};
 ghost use Rattle.evidence.specs.Facts.{citing, IsFact};
 ghost use Rattle.evidence.specs.Rules.{NamesOwn, RefuteAdded, RefuteHolding, RefuteFailing};
 ghost use Rattle.evidence.specs.Rules.{Clash, holding_rule, failing_rule, counted};
 
 use crate::Draft;
-use outside::Seq;
-use rule_rows::{Rule, Step};
+use rules::{Rule, Step};
 use std::alloc::{AllocError, Global};
-use tasks::Fact;
-use term_store::Grow;
+use tasks::{Fact, Seq};
+use trees::store::Grow;
 use trees::{Node, Op, TermId};
 
 /// The tail after the front.

@@ -6,19 +6,18 @@ ghost use Rattle.tasks.specs.Task.{neg};
 ghost use Rattle.tasks.specs.Meaning.{trees_at, task_at, TaskHeld};
 ghost use Rattle.tasks.specs.Valid.{IsValid};
 ghost use Rattle.kernel.specs.Right.{IsRight, AreRight};
-ghost use Rattle.rule_rows.specs.Meaning.{step_at, steps_at, StepHeld, StepsHeld};
+ghost use Rattle.rules.specs.Meaning.{step_at, steps_at, StepHeld, StepsHeld};
 ghost use Rattle.evidence.specs.Drafts.{Extends, AddsTrees, Refutes, IsFormulaAt, AreFormulas};
 ghost use Rattle.evidence.specs.Drafts.{RefutesAt, cut_step, keep_step};
 ghost use Rattle.evidence.specs.Laws.{AddsTrees_refl, AddsTrees_trans, AddsTrees_trees};
 
 use indexmap::IndexMap;
-use outside::Seq;
-use rule_rows::{Rule, Step};
+use rules::{Rule, Step};
 use std::alloc::{AllocError, Global};
 use std::marker::Model;
 use std::rc::Rc;
-use tasks::Task;
-use term_store::{Grow, Store};
+use tasks::{Seq, Task};
+use trees::store::{Grow, Store};
 use trees::{Node, TermId};
 
 /// A derivation in the making: a store, a valid task, and steps that are all right for the task.
@@ -40,7 +39,7 @@ impl Model for Draft {
     ghost coded = { draft_code };
 
     ghost use Rattle.tasks.specs.Meaning.{task_at};
-    ghost use Rattle.rule_rows.specs.Meaning.{steps_at};
+    ghost use Rattle.rules.specs.Meaning.{steps_at};
     ghost use Rattle.evidence.specs.Inside.{IsDraft};
 
     ghost view = { λ a. record {

@@ -6,17 +6,16 @@ ghost use Rattle.trees.specs.Node.{tree_at, Holds};
 ghost use Rattle.tasks.specs.Task.{neg, start};
 ghost use Rattle.tasks.specs.Meaning.{trees_at, task_at, tasks_at, TasksHeld};
 ghost use Rattle.kernel.specs.Right.{IsRight, AreRight, Closes};
-ghost use Rattle.rule_rows.specs.Meaning.{rule_at, RuleHeld, step_at, steps_at, StepHeld, StepsHeld};
+ghost use Rattle.rules.specs.Meaning.{rule_at, RuleHeld, step_at, steps_at, StepHeld, StepsHeld};
 ghost use Rattle.evidence.specs.Drafts.{Extends, Refutes, IsFormulaAt, AreFormulas};
 ghost use Rattle.evidence.specs.Facts.{citing, CitesNone, IsFact};
 ghost use Rattle.evidence.specs.Stages.{Gives, IsOwnTask, InStage, StandFor, HasSequents, Cites, parts_at, PartsHeld, PartsClose};
 
 use crate::by::{by_fact, keep_but, last_formula, negation};
 use crate::{Draft, Transform};
-use outside::Seq;
-use rule_rows::{Rule, Step};
+use rules::{Rule, Step};
 use std::alloc::{AllocError, Global};
-use tasks::{Fact, Task};
+use tasks::{Fact, Seq, Task};
 use trees::TermId;
 
 // The numbers of premises in a draft.

@@ -5,7 +5,7 @@ ghost use Rattle.trees.specs.Node.{tree_at, Holds, Grows};
 ghost use Rattle.tasks.specs.Task.{TaskTree, neg, start};
 ghost use Rattle.tasks.specs.Valid.{IsValid};
 ghost use Rattle.tasks.specs.Meaning.{trees_at, task_at, tasks_at, TaskHeld, TasksHeld};
-ghost use Rattle.stage_limits.specs.Limits.{limited};
+ghost use Rattle.evidence.specs.stage_limits.Limits.{limited};
 ghost use Rattle.evidence.specs.Drafts.{Extends, Refutes, IsFormulaAt};
 ghost use Rattle.evidence.specs.Facts.{IsFact};
 ghost use Rattle.evidence.specs.declared.stage.StageFault.{StageFault};
@@ -13,11 +13,11 @@ ghost use Rattle.evidence.specs.Stages.{TaskEquation, Gives, stage_equation, IsS
 ghost use Rattle.evidence.specs.Stages.{Keeps, IsOwnTask, InStage, EndIn};
 
 use crate::Draft;
-use stage_limits::limit_tasks;
+use crate::stage_limits::limit_tasks;
 use std::alloc::{AllocError, Global};
 use tasks::{Fact, Task};
-use term_store::Store;
 use trees::TermId;
+use trees::store::Store;
 
 /// Why a stage gives no tasks.
 #[derive(Clone, Copy)]

@@ -1,7 +1,7 @@
 // What is said of each row of the table, and of each code that has none.
 // It depends on the rows and on `explain`.
 use crate::row::{Row, read_row};
-use explain::explain;
+use statuses::explain::explain;
 use std::alloc::{AllocError, Global};
 
 // Its byte 2 is in line 1 and its token 2 begins line 2, so that a message tells what a number 2 counts.

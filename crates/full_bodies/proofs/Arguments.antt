@@ -5,8 +5,8 @@ use Rattle.trees.specs.Tree.{Tree, Leaf, One, Two, Three, Head, HTyVar, HBound, 
 use Rattle.trees.specs.Binding.{change, leaf_by, one_by, Bound, shift, instantiating_many, inst_many}
 use Rattle.trees.proofs.Above.{types_left}
 use Rattle.trees.proofs.Many.{many_below, many_at, many_above, cases_many, length_map}
-use Rattle.inlining.specs.typing_laws.HasTyping.{HasSorts}
-use Rattle.inlining.proofs.typing_laws.Sorted.{kinds_only}
+use Rattle.inlining.specs.images.typing_laws.HasTyping.{HasSorts}
+use Rattle.inlining.proofs.images.typing_laws.Sorted.{kinds_only}
 use Rattle.inlining.specs.images.Images.{image}
 use Rattle.full_bodies.specs.Least.{added, HasLargeInstances, one_used, is_used}
 use Rattle.full_bodies.specs.Arguments.{ArePutFor, HasLargeArgument}

@@ -12,7 +12,7 @@ use Rattle.tasks.specs.Vocabulary.{Vocabulary, of_task}
 use Rattle.tasks.proofs.Growth.{task_held_later, task_later}
 use Rattle.tasks.proofs.TypeInstances.{IsSoundVocabulary, sound_task}
 use Rattle.inlining.specs.images.Images.{image}
-use Rattle.image_trees.specs.Imaged.{KeepsItsTyping}
+use Rattle.images.specs.image_trees.Imaged.{KeepsItsTyping}
 use Rattle.inlining.specs.Inlining.{use_body}
 use Rattle.inlining.specs.FullBodies.{use_rule}
 use Rattle.inlining.proofs.Bodies.{IsBody}

@@ -14,11 +14,11 @@ use Rattle.tasks.specs.Typing.{members}
 use Rattle.tasks.specs.Vocabulary.{of_task}
 use Rattle.tasks.proofs.TypeInstances.{sound_task}
 use Rattle.inlining.specs.images.Images.{image}
-use Rattle.inlining.specs.typing_laws.HasTyping.{HasTyping, IsTypeAt, over_parts}
-use Rattle.inlining.proofs.typing_laws.Sorted.{has_sorts}
-use Rattle.inlining.proofs.typing_laws.TypeInstances.{has_types}
-use Rattle.inlining.proofs.typing_laws.Images.{image_type, image_over}
-use Rattle.image_trees.specs.Imaged.{IsTypedSomewhere}
+use Rattle.inlining.specs.images.typing_laws.HasTyping.{HasTyping, IsTypeAt, over_parts}
+use Rattle.inlining.proofs.images.typing_laws.Sorted.{has_sorts}
+use Rattle.inlining.proofs.images.typing_laws.TypeInstances.{has_types}
+use Rattle.inlining.proofs.images.TypedImages.{image_type, image_over}
+use Rattle.images.specs.image_trees.Imaged.{IsTypedSomewhere}
 use Rattle.inlining.specs.Inlining.{use_body}
 use Rattle.inlining.specs.FullBodies.{use_rule}
 use Rattle.inlining.proofs.Bodies.{onto}

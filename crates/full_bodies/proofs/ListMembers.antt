@@ -6,7 +6,7 @@ use Rattle.trees.specs.Tree.{Tree, Two, HCell, loose, size}
 use Rattle.trees.specs.Node.{tree_at, trees_at, Holds}
 use Rattle.trees.specs.Sorts.{Fits, sort_of, IsList}
 use Rattle.inlining.proofs.images.Images.{first_of}
-use Rattle.binders.specs.Visits.{AreHeldOfSort}
+use Rattle.trees.specs.binders.Visits.{AreHeldOfSort}
 
 pub held_push : (sort : Sort) (s : List Tree) (ids : List TermId) (id : TermId) → AreHeldOfSort sort s ids → Holds s id → sort_of (tree_at s id) ≡ sort → AreHeldOfSort sort s (ids ++ id ∷ [])
 held_push sort s [] id h k q = ((k, q), tt)

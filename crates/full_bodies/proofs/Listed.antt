@@ -13,8 +13,8 @@ use Rattle.tasks.specs.Meaning.{definition_at, definitions_at, body_at, declarat
 use Rattle.inlining.specs.declared.modes.InlineMode.{InlineMode}
 use Rattle.inlining.specs.declared.modes.InlineMode.TheVariants as mode
 use Rattle.inlining.specs.Inlining.{is_trivial, plain_definitions, all_definitions, trivial_definitions, inlined_definitions}
-use Rattle.recursive_groups.specs.Groups.{is_recursive}
-use Rattle.recursive_groups.specs.decl_checks.Structure.{defining_body}
+use Rattle.checks.specs.recursive_groups.Groups.{is_recursive}
+use Rattle.checks.specs.decl_checks.Structure.{defining_body}
 use Rattle.full_bodies.specs.Chosen.{is_chosen, chosen}
 use Rattle.full_bodies.specs.Listed.{AreDefsHeld, AreAppended}
 

@@ -8,7 +8,7 @@ use Rattle.trees.specs.declared.Node.TheVariants.{Cell, Bound, Num, Fun, Pred, E
 use Rattle.trees.specs.Tree.{Tree, Leaf, One, Two, Three, HCell, HBound}
 use Rattle.trees.specs.Node.{node_tree}
 use Rattle.tasks.proofs.outside.Bools.{or_false}
-use Rattle.recursive_groups.specs.decl_checks.Structure.{bound_index}
+use Rattle.checks.specs.decl_checks.Structure.{bound_index}
 use Rattle.inlining.specs.Inlining.{is_other_parameter, with_parameter, are_distinct_parameters, is_trivial}
 use Rattle.full_bodies.specs.Chosen.{AreTheSame, are_two_parameters}
 

@@ -13,11 +13,11 @@ use Rattle.trees.specs.Binding.{inst_types, inst_many}
 use Rattle.trees.specs.Node.{tree_at, node_tree, Holds, Grows, head_of_node}
 use Rattle.tasks.specs.Typing.{members}
 use Rattle.inlining.specs.images.Images.{image}
-use Rattle.inlining.specs.typing_laws.HasTyping.{HasTyping, over_parts}
-use Rattle.inlining.proofs.typing_laws.Sorted.{has_sorts}
-use Rattle.inlining.proofs.typing_laws.Images.{image_type, image_keeps_typing}
-use Rattle.image_trees.specs.Imaged.{RuleOver, KeepsItsTyping, IsTypedSomewhere, AreImages}
-use Rattle.image_trees.proofs.ImagedParts.{two_parts, go_on, as_before}
+use Rattle.inlining.specs.images.typing_laws.HasTyping.{HasTyping, over_parts}
+use Rattle.inlining.proofs.images.typing_laws.Sorted.{has_sorts}
+use Rattle.inlining.proofs.images.TypedImages.{image_type, image_keeps_typing}
+use Rattle.images.specs.image_trees.Imaged.{RuleOver, KeepsItsTyping, IsTypedSomewhere, AreImages}
+use Rattle.images.proofs.image_trees.ImagedParts.{two_parts, go_on, as_before}
 use Rattle.full_bodies.specs.declared.uses.Inlining.{Inlining}
 use Rattle.full_bodies.specs.declared.uses.SymbolUse.{SymbolUse}
 use Rattle.full_bodies.specs.declared.fault.InlineFault.{InlineFault}

@@ -6,7 +6,7 @@ use Rattle.tasks.specs.Task.{DefinitionTree}
 use Rattle.inlining.specs.declared.modes.InlineMode.{InlineMode}
 use Rattle.inlining.specs.declared.modes.InlineMode.TheVariants as mode
 use Rattle.inlining.specs.Inlining.{is_other_parameter, with_parameter, is_trivial}
-use Rattle.recursive_groups.specs.decl_checks.Structure.{defining_body}
+use Rattle.checks.specs.decl_checks.Structure.{defining_body}
 
 -- the same numbers are among them
 abbrev pub AreTheSame : List ℕ → List ℕ → Type 0

@@ -14,8 +14,8 @@ use Rattle.tasks.specs.Typing.{members}
 use Rattle.tasks.specs.Vocabulary.{Vocabulary, of_task}
 use Rattle.tasks.specs.Valid.{IsValid}
 use Rattle.inlining.specs.images.Images.{image}
-use Rattle.inlining.specs.typing_laws.HasTyping.{HasSorts, over_parts}
-use Rattle.image_trees.specs.Imaged.{RuleOver, IsTypedSomewhere, AreImages}
+use Rattle.inlining.specs.images.typing_laws.HasTyping.{HasSorts, over_parts}
+use Rattle.images.specs.image_trees.Imaged.{RuleOver, IsTypedSomewhere, AreImages}
 use Rattle.inlining.specs.Inlining.{use_body}
 use Rattle.inlining.specs.FullBodies.{use_rule}
 use Rattle.inlining.proofs.Bodies.{IsBody}

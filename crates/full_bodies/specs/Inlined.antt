@@ -5,7 +5,7 @@ use Rattle.trees.specs.declared.TermId.{TermId}
 use Rattle.trees.specs.Tree.{Tree}
 use Rattle.trees.specs.Node.{tree_at}
 use Rattle.inlining.specs.images.Images.{image}
-use Rattle.image_trees.specs.Imaged.{RuleOver, CanImage, IsImaged}
+use Rattle.images.specs.image_trees.Imaged.{RuleOver, CanImage, IsImaged}
 use Rattle.full_bodies.specs.declared.uses.Inlining.{Inlining}
 use Rattle.full_bodies.specs.FullBodies.{rule_over_bodies, AreReady}
 

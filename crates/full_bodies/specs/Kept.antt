@@ -8,7 +8,7 @@ use Rattle.tasks.specs.Valid.{IsValid}
 use Rattle.tasks.proofs.TypeInstances.{sound_task}
 use Rattle.inlining.specs.declared.modes.InlineMode.{InlineMode}
 use Rattle.inlining.specs.Inlining.{inlined, inlined_definitions}
-use Rattle.inlining.specs.typing_laws.HasTyping.{HasTyping, IsTypeAt, KeepsTyping}
+use Rattle.inlining.specs.images.typing_laws.HasTyping.{HasTyping, IsTypeAt, KeepsTyping}
 use Rattle.inlining.proofs.Inlined.{task_keeps, inlined_defined}
 use Rattle.inlining.proofs.InlinedAtTypes.{inlined_at_types}
 

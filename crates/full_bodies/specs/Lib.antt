@@ -7,6 +7,6 @@ pub mod Chosen
 pub mod Listed
 pub mod Made
 pub mod Kept
-pub use Rattle.binders.specs as binders
+pub use Rattle.trees.specs as trees
 pub use Rattle.inlining.specs as inlining
-pub use Rattle.recursive_groups.specs as recursive_groups
+pub use Rattle.checks.specs as checks

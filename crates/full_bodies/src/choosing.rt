@@ -3,12 +3,12 @@ ghost use Rattle.std.specs.Prelude.{◌≡◌, ◌==◌, List, [], ℕ, IfOk};
 ghost use Rattle.std.specs.List.{list_any};
 ghost use Rattle.trees.specs.Node.{tree_at, Holds};
 ghost use Rattle.inlining.specs.Inlining.{are_distinct_parameters, is_trivial};
-ghost use Rattle.recursive_groups.specs.decl_checks.Structure.{bound_index};
+ghost use Rattle.checks.specs.decl_checks.Structure.{bound_index};
 ghost use Rattle.full_bodies.specs.Chosen.{AreTheSame, are_two_parameters, is_chosen};
 
 use inlining::InlineMode;
 use std::alloc::{AllocError, Global};
-use term_store::Store;
+use trees::store::Store;
 use trees::{Node, TermId};
 
 // Whether a number is among others.

@@ -4,7 +4,7 @@ ghost use Rattle.trees.specs.Node.{tree_at, Holds, Grows};
 ghost use Rattle.tasks.specs.Meaning.{task_at};
 ghost use Rattle.tasks.specs.Vocabulary.{of_task};
 ghost use Rattle.inlining.specs.images.Images.{image};
-ghost use Rattle.inlining.specs.typing_laws.HasTyping.{HasTyping};
+ghost use Rattle.inlining.specs.images.typing_laws.HasTyping.{HasTyping};
 ghost use Rattle.full_bodies.specs.FullBodies.{rule_after, AreReady};
 ghost use Rattle.full_bodies.specs.Made.{IsFormulaFault};
 
@@ -13,8 +13,8 @@ use crate::imaging::inline_whole;
 use crate::uses::{FullBody, Inlining};
 use std::alloc::Global;
 use tasks::Task;
-use term_store::Store;
 use trees::TermId;
+use trees::store::Store;
 
 /// What a closed formula of a task becomes, where each use of a symbol with a body becomes the full body at the types and
 /// arguments of the use. `Large` says that it would have more than 2^20 nodes, or be higher than 2,000; one that is given

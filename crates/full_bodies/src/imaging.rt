@@ -4,8 +4,8 @@ ghost use Rattle.trees.specs.Tree.{Tree};
 ghost use Rattle.trees.specs.Node.{tree_at, assemble, Holds, Grows, head_of_node, parts_of, AreBelow, IsLike};
 ghost use Rattle.trees.specs.Sorts.{Fits, sort_of, IsList};
 ghost use Rattle.tasks.specs.Typing.{members};
-ghost use Rattle.inlining.specs.typing_laws.HasTyping.{over_parts};
-ghost use Rattle.image_trees.specs.Imaged.{RuleOver, IsTypedSomewhere};
+ghost use Rattle.inlining.specs.images.typing_laws.HasTyping.{over_parts};
+ghost use Rattle.images.specs.image_trees.Imaged.{RuleOver, IsTypedSomewhere};
 ghost use Rattle.full_bodies.specs.Least.{is_used};
 ghost use Rattle.full_bodies.specs.Faults.{IsFaultOf, IsArgumentFault, IsArgumentsFault};
 ghost use Rattle.full_bodies.specs.FullBodies.{AreReady, IsUseAt, IsArgument, AreArguments};
@@ -17,7 +17,7 @@ use crate::sizes::{refuse_large, uses_variable};
 use crate::uses::{Inlining, SymbolUse, find_use};
 use indexmap::IndexMap;
 use std::alloc::{AllocError, Global};
-use term_store::{Grow, Store};
+use trees::store::{Grow, Store};
 use trees::{Node, Parts, Sort, TermId};
 
 // What is made so far, by the number of a tree.

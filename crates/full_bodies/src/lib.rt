@@ -15,7 +15,7 @@ mod putting;
 mod sizes;
 mod uses;
 
-pub use binders::{inst_many, inst_types};
+pub use checks::recursive_groups::defining_body;
 pub use fault::InlineFault;
 pub use formulas::inline_formula;
 pub use inlining::InlineMode;
@@ -23,5 +23,5 @@ pub use listing::definitions_inlined;
 pub use making::full_bodies;
 pub use members::list_members;
 pub use putting::{put_arguments, put_types};
-pub use recursive_groups::defining_body;
+pub use trees::binders::{inst_many, inst_types};
 pub use uses::FullBody;

@@ -7,11 +7,11 @@ ghost use Rattle.full_bodies.specs.Chosen.{chosen};
 ghost use Rattle.full_bodies.specs.Listed.{AreDefsHeld, AreAppended};
 
 use crate::choosing::is_chosen;
+use checks::recursive_groups::{defining_body, is_recursive};
 use inlining::InlineMode;
-use recursive_groups::{defining_body, is_recursive};
 use std::alloc::{AllocError, Global};
 use tasks::{Body, Def, Task};
-use term_store::Store;
+use trees::store::Store;
 
 // Appends a definition, where its body is chosen.
 fn push_definition(

@@ -4,7 +4,7 @@ ghost use Rattle.trees.specs.Node.{tree_at, Holds, Grows};
 ghost use Rattle.tasks.specs.Meaning.{definition_at, definitions_at, task_at, TaskHeld};
 ghost use Rattle.tasks.specs.Vocabulary.{of_task};
 ghost use Rattle.tasks.specs.Valid.{IsDefinition, IsValid};
-ghost use Rattle.image_trees.specs.Imaged.{IsTypedSomewhere};
+ghost use Rattle.images.specs.image_trees.Imaged.{IsTypedSomewhere};
 ghost use Rattle.inlining.specs.FullBodies.{next_rule, full_rule};
 ghost use Rattle.inlining.specs.Inlining.{inlined_definitions};
 ghost use Rattle.full_bodies.specs.FullBodies.{rule_after, AreReady, IsFull};
@@ -15,12 +15,12 @@ use crate::fault::InlineFault;
 use crate::imaging::inline_whole;
 use crate::listing::definitions_inlined;
 use crate::uses::{FullBody, Inlining};
+use checks::recursive_groups::defining_body;
 use inlining::InlineMode;
-use recursive_groups::defining_body;
 use std::alloc::{AllocError, Global};
 use tasks::{Def, Task};
-use term_store::Store;
 use trees::TermId;
+use trees::store::Store;
 
 // The full body of a body after others, or none where it is large.
 fn full_body(

@@ -3,10 +3,10 @@ ghost use Rattle.std.specs.Prelude.{◌≡◌, ◌++◌, OnOk, IfOk};
 ghost use Rattle.trees.specs.Node.{tree_at, trees_at, Holds};
 ghost use Rattle.trees.specs.Sorts.{IsList};
 ghost use Rattle.tasks.specs.Typing.{members};
-ghost use Rattle.binders.specs.Visits.{AreHeldOfSort};
+ghost use Rattle.trees.specs.binders.Visits.{AreHeldOfSort};
 
 use std::alloc::{AllocError, Global};
-use term_store::Store;
+use trees::store::Store;
 use trees::{Node, Sort, TermId};
 
 // Appends the members of a list of things of this sort.

@@ -5,12 +5,12 @@ ghost use Rattle.trees.specs.Binding.{inst_types, inst_many};
 ghost use Rattle.trees.specs.Node.{tree_at, Holds};
 ghost use Rattle.trees.specs.Sorts.{IsList};
 ghost use Rattle.tasks.specs.Typing.{members};
-ghost use Rattle.binders.specs.Visits.{AreHeldOfSort};
+ghost use Rattle.trees.specs.binders.Visits.{AreHeldOfSort};
 
 use crate::members::list_members;
-use binders::{inst_many, inst_types};
 use std::alloc::{AllocError, Global};
-use term_store::{Grow, Store};
+use trees::binders::{inst_many, inst_types};
+use trees::store::{Grow, Store};
 use trees::{Sort, TermId};
 
 // Whether a tree is so small that its indices fit where it is put under as many binders as another such tree has nodes.

@@ -5,7 +5,7 @@ ghost use Rattle.full_bodies.specs.Least.{least_size, least_height, HasLargeInst
 ghost use Rattle.full_bodies.specs.Faults.{IsFaultOf};
 
 use crate::fault::InlineFault;
-use term_store::Store;
+use trees::store::Store;
 use trees::{Node, Parts, TermId};
 
 const NODES: u64 = 1 << 20;

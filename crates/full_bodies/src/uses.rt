@@ -1,11 +1,11 @@
 // Full bodies: the bodies of definitions, in which the definitions before are inlined.
 ghost use Rattle.std.specs.Prelude.{◌≡◌};
 ghost use Rattle.trees.specs.Node.{tree_at, Holds};
-ghost use Rattle.image_trees.specs.Imaged.{IsTypedSomewhere};
+ghost use Rattle.images.specs.image_trees.Imaged.{IsTypedSomewhere};
 ghost use Rattle.full_bodies.specs.FullBodies.{body_for, rule_over_bodies, AreReady, IsUseOr};
 
 use tasks::Task;
-use term_store::Store;
+use trees::store::Store;
 use trees::{Node, TermId};
 
 /// The body of a defined symbol as it is written, and its full body, in which the definitions before are inlined; none

@@ -1,3 +1,5 @@
+pub mod reading
+pub mod recognise
 pub mod Common
 pub mod Table
 pub mod Machine

@@ -1,13 +1,15 @@
 //! The grammar of sources as one table (a rule takes a terminal and leaves symbols), and a machine over it: a stack of
-//! copied symbols that takes one token after another, without trees.
+//! copied symbols that takes one token after another, without trees; the first token with which no source goes on.
 //!
-//! Contract: where tokens are no string of a rule, and whether another terminal could be there; the longest string; what
-//! completes a beginning.
+//! Contract: where tokens are no string of a rule, and whether another terminal could be there; the longest string;
+//! what completes a beginning.
 #![tactic(auto)]
 
 mod accept;
 mod ends;
 mod operators;
+pub mod reading;
+pub mod recognise;
 mod shortest;
 mod symbols;
 mod table;

@@ -9,16 +9,16 @@ use Rattle.trees.specs.Facts.{IndicesFit}
 use Rattle.trees.proofs.Instances.{inst_two}
 use Rattle.trees.proofs.RaisesNoIndex.{closed_many_fits}
 use Rattle.trees.proofs.Sizes.{sorted_fits}
-use Rattle.trees.proofs.Sorts.{sort_of-change}
+use Rattle.trees.specs.laws.Sorts.{sort_of-change}
 use Rattle.trees.proofs.Types.{only_types}
-use Rattle.binders.specs.Visits.{HoldTerms, sorts_many}
+use Rattle.trees.specs.binders.Visits.{HoldTerms, sorts_many}
 use Rattle.tasks.specs.Task.{TaskTree}
 use Rattle.tasks.specs.Vocabulary.{of_task}
 use Rattle.tasks.specs.Typing.{TypedUnder}
 use Rattle.tasks.specs.Valid.{VariablesBelow, LeafBelow, IsGround, IsTypeOver}
 use Rattle.tasks.proofs.Closing.{typed_sorted}
 use Rattle.tasks.proofs.TypeInstances.{typed_types, sound_task}
-use Rattle.instances.proofs.Typed.{kind_typed, many_type}
+use Rattle.tasks.proofs.typed_trees.instances.Typed.{kind_typed, many_type}
 use Rattle.images.specs.Instances.{IsInstanceAtTypes}
 use Rattle.images.proofs.Environments.{at_open}
 use Rattle.images.proofs.TypesAt.{types_above}

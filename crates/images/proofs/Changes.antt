@@ -6,11 +6,11 @@ use Rattle.trees.specs.Tree.{Tree, Leaf, One, Two, Three, Head, HTyVar, HTyApp, 
 use Rattle.trees.specs.Binding.{Change, change, leaf_by, one_by, Bound, Param, TyVar, shifting, shift, instantiating, inst, instantiating_many, inst_many}
 use Rattle.trees.specs.Sorts.{WellSorted, sort_of, yield_type, type_of, top_type, two_type, IsList}
 use Rattle.trees.specs.Facts.{PutsSorts}
-use Rattle.trees.proofs.Sorts.{sort_of-change}
+use Rattle.trees.specs.laws.Sorts.{sort_of-change}
 use Rattle.trees.proofs.Types.{only_types, AreKinds, one_no_cell, three_no_cell}
-use Rattle.trees.proofs.Indices.{inst_at, inst_below, inst_above, shift_below, shift_above}
+use Rattle.trees.specs.laws.Indices.{inst_at, inst_below, inst_above, shift_below, shift_above}
 use Rattle.std.proofs.lemmas.Bool.{cases_lt, cases_order}
-use Rattle.binders.specs.Visits.{sorts_shifting, sorts_inst}
+use Rattle.trees.specs.binders.Visits.{sorts_shifting, sorts_inst}
 use Rattle.trees.proofs.Above.{types_left, type_left}
 use Rattle.trees.proofs.Many.{many_below, many_at, many_above, cases_many}
 use Rattle.tasks.specs.Task.{SymbolTree}
@@ -19,7 +19,7 @@ use Rattle.tasks.specs.Typing.{members, entry, IsTypeSymbol, IsUse, HasResult, o
 use Rattle.tasks.proofs.Closing.{typed_sorted}
 use Rattle.tasks.proofs.Counts.{bound_count}
 use Rattle.tasks.specs.Valid.{VariablesBelow, LeafBelow, ParametersOf}
-use Rattle.instances.proofs.Typed.{present, kind_typed}
+use Rattle.tasks.proofs.typed_trees.instances.Typed.{present, kind_typed}
 use Rattle.tasks.proofs.TypeInstances.{some_kept}
 use Rattle.images.specs.OpenTerms.{AreOpenFor}
 use Rattle.images.proofs.Slices.{slice_front, slice_behind}

@@ -5,7 +5,7 @@ use Rattle.trees.specs.declared.Sort.TheVariants.{Kind, Term}
 use Rattle.trees.specs.Tree.{Tree, One, Two, Head, HNot, binders_over, loose, above_params}
 use Rattle.trees.specs.Binding.{change, inst, instantiating_many, inst_many, AreClosed, Param}
 use Rattle.trees.specs.Sorts.{sort_of}
-use Rattle.trees.proofs.Sorts.{term_no_vars}
+use Rattle.trees.specs.laws.Sorts.{term_no_vars}
 use Rattle.trees.proofs.Many.{left_at, right_at, length_joined, inst_under}
 use Rattle.trees.proofs.Above.{type_left}
 use Rattle.tasks.specs.Task.{TaskTree}
@@ -13,9 +13,9 @@ use Rattle.tasks.specs.Vocabulary.{Vocabulary, of_task}
 use Rattle.tasks.specs.Typing.{TypedUnder, bound_types}
 use Rattle.tasks.specs.Valid.{IsGround}
 use Rattle.tasks.proofs.Closing.{typed_closed, typed_sorted}
-use Rattle.instances.specs.Instances.{IsTermOf, AreFor}
-use Rattle.instances.proofs.Typed.{present, many_typed, kind_typed}
-use Rattle.instances.proofs.Kept.{variables_at, above_at}
+use Rattle.tasks.specs.typed_trees.instances.Instances.{IsTermOf, AreFor}
+use Rattle.tasks.proofs.typed_trees.instances.Typed.{present, many_typed, kind_typed}
+use Rattle.tasks.proofs.KeptInstances.{variables_at, above_at}
 use Rattle.images.specs.Open.{IsEnvironment, IsOpenUnder, IsAt}
 
 each_closed : (env : List Tree) → ((k : ℕ) (e : Tree) → k < length env → (loose (get_or env k e) ≡ 0) × (sort_of (get_or env k e) ≡ Term)) → AreClosed env

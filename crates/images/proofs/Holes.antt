@@ -2,8 +2,8 @@
 use Rattle.std.proofs.Common.{◌≡◌, ℕ, ◌+◌, ◌≤◌, List, [], ◌∷◌, ◌++◌, map, length, refl, sym, ap, ◌∙◌, arith}
 use Rattle.trees.specs.Tree.{Tree, Two, Three, HCell, HLet, HCase, HEq, HFun, HPred, loose, pat_vars}
 use Rattle.trees.specs.Binding.{change, instantiating, inst, instantiating_many, inst_many, AreClosed, AreNoPatterns, Bound}
-use Rattle.trees.proofs.Changes.{change_closed}
-use Rattle.trees.proofs.Indices.{inst_at}
+use Rattle.trees.specs.laws.Changes.{change_closed}
+use Rattle.trees.specs.laws.Indices.{inst_at}
 use Rattle.trees.proofs.Laws.{keeps_inst, shift_closed, inst_closed}
 use Rattle.trees.proofs.Many.{closed_terms, length_joined, keeps_many, inst_is_many, inst_many_under, inst_many_inst_many}
 use Rattle.images.specs.Templates.{listed, AreAllClosed}

@@ -5,7 +5,7 @@ use Rattle.trees.specs.declared.Sort.TheVariants.{Kind, Term, Formula, Pattern, 
 use Rattle.trees.specs.declared.Sort.TheVariants as sort
 use Rattle.trees.specs.Tree.{Tree, Leaf, One, Two, Three, Head, HTyVar, HTyRigid, HTyApp, HEnd, HCell, HBound, HParam, HNum, HFun, HPred, HEq, HTrue, HFalse, HNot, HJoin, HForall, HExists, HLet, HIf, HCase, HArm, HPatAny, HPatVar, HPatCon, HPatAlias, head_of, above_params}
 use Rattle.trees.specs.Sorts.{Fits, WellSorted, sort_of, yield, yield_type, type_of, top_sort, top_type, first_sort, IsList, IsListOf, IsExpression}
-use Rattle.trees.proofs.Sorts.{first_sort_none}
+use Rattle.trees.specs.laws.Sorts.{first_sort_none}
 use Rattle.trees.proofs.Types.{OnlyTypes, only_types, AreKinds, expression_yield, one_no_cell, three_no_cell}
 use Rattle.tasks.specs.Vocabulary.{Vocabulary}
 use Rattle.tasks.specs.Typing.{TypedUnder, members, entry, IsUse, option_list, pattern_types, BranchFits, BranchesFit, first_body}

@@ -1,5 +1,6 @@
 pub mod Slices
 pub mod Images
+pub mod TypedImages
 pub mod Changes
 pub mod Environments
 pub mod Holes

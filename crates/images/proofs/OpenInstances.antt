@@ -7,7 +7,7 @@ use Rattle.trees.specs.Tree.{Tree, Leaf, One, Two, Three, Head, HTyVar, HBound, 
 use Rattle.trees.specs.Binding.{change, leaf_by, one_by, Bound, inst, instantiating_many, inst_many, inst_types, TyVar, AreClosed, AreNoPatterns}
 use Rattle.trees.specs.Sorts.{WellSorted, sort_of}
 use Rattle.trees.specs.Facts.{is_open}
-use Rattle.trees.proofs.Changes.{change_closed}
+use Rattle.trees.specs.laws.Changes.{change_closed}
 use Rattle.trees.proofs.Instances.{inst_two}
 use Rattle.trees.proofs.Many.{many_below, many_above, keeps_many, inst_many_closed, inst_many_under, inst_many_inst_many, inst_many_inst, inst_under, inst_is_many, inst_not_open, length_map}
 use Rattle.tasks.specs.Equations.{for_all}

@@ -16,7 +16,7 @@ use Rattle.tasks.specs.Typing.{members, IsUse, HasResult, TypedUnder, pattern_ty
 use Rattle.tasks.specs.Conjunctions.{conjunction}
 use Rattle.tasks.specs.MatchTests.{fields, rebuilt, constructor_projections, tests, test, pattern_terms, bind}
 use Rattle.tasks.specs.Valid.{IsValid, own_type}
-use Rattle.instances.specs.Instances.{AreFor}
+use Rattle.tasks.specs.typed_trees.instances.Instances.{AreFor}
 use Rattle.images.specs.OpenTerms.{AreOpenFor}
 use Rattle.images.proofs.Images.{ArePatterns}
 use Rattle.images.proofs.Templates.{term_has_type}

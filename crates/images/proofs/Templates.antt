@@ -10,7 +10,7 @@ use Rattle.tasks.specs.Vocabulary.{Vocabulary}
 use Rattle.tasks.specs.Typing.{TypedUnder, members, entry, option_list, pattern_types, BranchesFit, first_body}
 use Rattle.images.specs.Templates.{listed, IsClosedType}
 use Rattle.images.proofs.Images.{expression_sort, expression_type, leaf_no_list}
-use Rattle.instances.proofs.Typed.{kind_typed}
+use Rattle.tasks.proofs.typed_trees.instances.Typed.{kind_typed}
 use Rattle.tasks.proofs.TypeInstances.{typed_further, some_kept}
 use Rattle.trees.proofs.Types.{one_no_cell, three_no_cell}
 

@@ -7,13 +7,13 @@ use Rattle.trees.specs.Tree.{Tree, Leaf, One, Two, Three, Head, HTyVar, HTyApp, 
 use Rattle.trees.specs.Binding.{typing, inst_types, TyVar}
 use Rattle.trees.specs.Sorts.{WellSorted, sort_of, IsListOf, IsList, first_sort}
 use Rattle.trees.specs.Facts.{PutsSorts}
-use Rattle.trees.proofs.Sorts.{sort_of-change, one_fits, two_fits}
+use Rattle.trees.specs.laws.Sorts.{sort_of-change, one_fits, two_fits}
 use Rattle.trees.proofs.Types.{OnlyTypes, only_types, kind_first}
 use Rattle.tasks.specs.Vocabulary.{Vocabulary}
 use Rattle.tasks.specs.Typing.{members, IsTypeSymbol, TypedUnder}
 use Rattle.tasks.specs.Valid.{VariablesBelow, ParametersOf}
 use Rattle.tasks.proofs.Closing.{typed_sorted}
-use Rattle.instances.proofs.Typed.{kind_typed}
+use Rattle.tasks.proofs.typed_trees.instances.Typed.{kind_typed}
 
 -- a closed type, which may have type variables
 abbrev pub IsTypeHere : Vocabulary → Tree → Type 0

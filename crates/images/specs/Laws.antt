@@ -9,7 +9,7 @@ use Rattle.tasks.specs.Vocabulary.{Vocabulary, of_task}
 use Rattle.tasks.specs.Typing.{TypedUnder, bound_types}
 use Rattle.tasks.specs.Valid.{IsGround}
 use Rattle.tasks.specs.MatchTests.{test, bind}
-use Rattle.instances.specs.Instances.{IsTermOf}
+use Rattle.tasks.specs.typed_trees.instances.Instances.{IsTermOf}
 use Rattle.images.specs.Images.{image, KeepsTree, AllSorted, IsOtherHead, IsNodeRule}
 use Rattle.images.specs.Open.{IsEnvironment, IsOpenUnder, IsAt}
 use Rattle.images.specs.OpenTerms.{AreOpenFor, StaysTyped, HasOf}

@@ -1,3 +1,6 @@
+pub mod image_trees
+pub mod match_terms
+pub mod typing_laws
 pub mod Images
 pub mod Open
 pub mod OpenTerms

@@ -6,7 +6,7 @@ use Rattle.tasks.specs.Task.{TaskTree}
 use Rattle.tasks.specs.Vocabulary.{of_task}
 use Rattle.tasks.specs.Typing.{TypedUnder}
 use Rattle.tasks.specs.Valid.{IsGround}
-use Rattle.instances.specs.Instances.{AreFor}
+use Rattle.tasks.specs.typed_trees.instances.Instances.{AreFor}
 
 -- closed terms for open variables of these types, free of type variables, with parameters below this number
 pub record IsEnvironment (t : TaskTree) (types env : List Tree) (fresh : ℕ) : Type 0 where

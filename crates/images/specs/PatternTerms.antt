@@ -11,7 +11,7 @@ use Rattle.tasks.specs.Vocabulary.{of_task}
 use Rattle.tasks.specs.Typing.{TypedUnder, IsTyped, pattern_types}
 use Rattle.tasks.specs.MatchTests.{constructor_projections, tests, test, bind}
 use Rattle.tasks.specs.Valid.{VariablesBelow, ParametersOf, IsValid}
-use Rattle.instances.specs.Instances.{AreFor}
+use Rattle.tasks.specs.typed_trees.instances.Instances.{AreFor}
 use Rattle.images.specs.OpenTerms.{AreOpenFor}
 
 -- a pattern that is typed in a task

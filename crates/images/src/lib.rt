@@ -1,13 +1,14 @@
-//! Images of trees under a rule for nodes, open trees at types and at environments of closed terms, open terms put into open
-//! trees, templates and patterns at environments.
+//! Images of trees under a rule for nodes, and their types; open trees at types and at environments of closed terms,
+//! open terms put into open trees, templates and patterns at environments; the terms that stand for a pattern's
+//! variables.
 //!
-//! Contract: definitions and laws; an open tree at types and closed terms, exactly.
+//! Contract: definitions and laws; exactly the image, and an open tree at types and closed terms.
 #![tactic(auto)]
 
 ghost use Rattle.std.specs.Prelude.{◌≡◌, IfOk};
 ghost use Rattle.trees.specs.Node.{tree_at, trees_at, Holds};
 ghost use Rattle.trees.specs.Binding.{inst_many, inst_types, AreClosed};
-ghost use Rattle.binders.specs.Visits.{HoldTerms, HoldTypes};
+ghost use Rattle.trees.specs.binders.Visits.{HoldTerms, HoldTypes};
 ghost use Rattle.images.specs.Laws.{
   ImagesKeepTyping,
   TypesAreImages,
@@ -38,10 +39,10 @@ ghost use Rattle.images.specs.PatternTerms.{
   TypesHaveResults,
 };
 
-use binders::{inst_many, inst_types};
 use std::alloc::{AllocError, Global};
-use term_store::Grow;
 use trees::TermId;
+use trees::binders::{inst_many, inst_types};
+use trees::store::Grow;
 
 /// An open tree at types, put in for its type variables, and then at closed terms, put in for its
 /// open variables, the last one for the variable 0. Where the tree is typed in a valid task, and the
@@ -143,3 +144,7 @@ pub fn law_of_instances()
     ensures lowered { LoweredAreAt }
     ensures images { ImagesAreAtTypes }
 {}
+
+pub mod image_trees;
+pub mod match_terms;
+pub mod typing_laws;

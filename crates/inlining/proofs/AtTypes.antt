@@ -5,16 +5,16 @@ use Rattle.trees.specs.Tree.{Tree, Leaf, One, Two, Three, HTyVar, HFun, HPred}
 use Rattle.trees.specs.Binding.{inst_types, inst_many, TyVar, AreTypes, AreNoPatterns}
 use Rattle.trees.specs.Sorts.{sort_of, IsList}
 use Rattle.trees.specs.Facts.{Each}
-use Rattle.trees.proofs.Sorts.{term_no_vars, kind_no_vars}
+use Rattle.trees.specs.laws.Sorts.{term_no_vars, kind_no_vars}
 use Rattle.trees.proofs.Types.{loose_types}
 use Rattle.trees.proofs.Many.{inst_types_inst_many, inst_types_inst_types}
 use Rattle.tasks.specs.Vocabulary.{Vocabulary}
 use Rattle.tasks.specs.Typing.{members}
 use Rattle.tasks.specs.Valid.{VariablesBelow}
 use Rattle.tasks.proofs.TypeInstances.{below}
-use Rattle.typing_laws.specs.HasTyping.{HasTyping, IsTypeAt}
-use Rattle.typing_laws.proofs.Sorted.{has_sorts, kinds_only}
-use Rattle.typing_laws.proofs.TypeInstances.{at_one, members_at}
+use Rattle.images.specs.typing_laws.HasTyping.{HasTyping, IsTypeAt}
+use Rattle.images.proofs.typing_laws.Sorted.{has_sorts, kinds_only}
+use Rattle.images.proofs.typing_laws.TypeInstances.{at_one, members_at}
 use Rattle.inlining.specs.Inlining.{use_body, unfold_rule}
 use Rattle.inlining.proofs.Bodies.{IsBody}
 use Rattle.inlining.proofs.Uses.{IsTermHere, member_terms, function_count, predicate_count}

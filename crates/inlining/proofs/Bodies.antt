@@ -12,9 +12,9 @@ use Rattle.tasks.specs.Equations.{for_all, equated}
 use Rattle.tasks.specs.Vocabulary.{Vocabulary}
 use Rattle.tasks.specs.Typing.{entry}
 use Rattle.tasks.specs.Valid.{VariablesBelow, ParametersOf, IsDefinition}
-use Rattle.typing_laws.specs.HasTyping.{HasTyping}
-use Rattle.typing_laws.proofs.Sorted.{typed_has, formula_no_type}
-use Rattle.recursive_groups.specs.decl_checks.Structure.{defining_body}
+use Rattle.images.specs.typing_laws.HasTyping.{HasTyping}
+use Rattle.images.proofs.typing_laws.Sorted.{typed_has, formula_no_type}
+use Rattle.checks.specs.decl_checks.Structure.{defining_body}
 
 -- a list, last first, before another
 abbrev pub onto : List Tree → List Tree → List Tree

@@ -7,7 +7,7 @@ use Rattle.trees.specs.Binding.{change, inst_types, inst, inst_many, instantiati
 use Rattle.trees.proofs.Laws.{shift_closed}
 use Rattle.trees.proofs.Many.{many_at, right_at, length_joined, inst_under, inst_many_closed}
 use Rattle.trees.proofs.Instances.{typing_any}
-use Rattle.fact_rows.proofs.Putting.{types_are}
+use Rattle.rules.proofs.fact_rules.Putting.{types_are}
 use Rattle.tasks.specs.Equations.{cells, type_variables, bound_variables, for_all}
 
 -- the parameters in order, at closed arguments, are these arguments

@@ -10,9 +10,9 @@ use Rattle.tasks.specs.declared.signature.SymbolKind.TheVariants.{Function, Pred
 use Rattle.tasks.specs.Vocabulary.{Vocabulary}
 use Rattle.tasks.proofs.TypeInstances.{IsSoundVocabulary}
 use Rattle.images.specs.Images.{image, IsOtherHead}
-use Rattle.typing_laws.specs.HasTyping.{HasTyping, IsTypeAt, KeepsTyping, IsTypedRule}
-use Rattle.typing_laws.proofs.TypeInstances.{at_one}
-use Rattle.typing_laws.proofs.Images.{image_keeps_typing}
+use Rattle.images.specs.typing_laws.HasTyping.{HasTyping, IsTypeAt, KeepsTyping, IsTypedRule}
+use Rattle.images.proofs.typing_laws.TypeInstances.{at_one}
+use Rattle.images.proofs.TypedImages.{image_keeps_typing}
 use Rattle.inlining.specs.Inlining.{use_body}
 use Rattle.inlining.specs.FullBodies.{use_rule}
 use Rattle.inlining.proofs.Bodies.{IsBodyOf, IsBody}

@@ -6,13 +6,13 @@ use Rattle.trees.specs.Binding.{Change, change, leaf_by, Bound, shifting, shift,
 use Rattle.trees.specs.Sorts.{sort_of}
 use Rattle.trees.proofs.Above.{types_left}
 use Rattle.trees.proofs.Many.{many_below, many_at, many_above, cases_many, mapped_at, length_map}
-use Rattle.trees.proofs.Indices.{shifted}
+use Rattle.trees.specs.laws.Indices.{shifted}
 use Rattle.tasks.specs.Vocabulary.{Vocabulary}
 use Rattle.tasks.specs.Typing.{bound_types}
 use Rattle.images.specs.Images.{image}
-use Rattle.typing_laws.specs.HasTyping.{HasTyping, IsTypedRule}
-use Rattle.typing_laws.proofs.Sorted.{has_sorts, kinds_only}
-use Rattle.typing_laws.proofs.Images.{image_type, image_patterns, over_typed}
+use Rattle.images.specs.typing_laws.HasTyping.{HasTyping, IsTypedRule}
+use Rattle.images.proofs.typing_laws.Sorted.{has_sorts, kinds_only}
+use Rattle.images.proofs.TypedImages.{image_type, image_patterns, over_typed}
 use Rattle.inlining.proofs.OpenInstances.{IsNatural, shifting_natural, many_natural}
 
 abbrev pub IsNoVariable : Tree → Type 0

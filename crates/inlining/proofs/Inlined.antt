@@ -6,16 +6,16 @@ use Rattle.tasks.specs.Task.{DefinitionTree, BodyTree, MakesType, Makes, Defines
 use Rattle.tasks.specs.Vocabulary.{Vocabulary, of_task}
 use Rattle.tasks.specs.Valid.{IsDefinition, IsValidBody, IsValidDecl, IsValid}
 use Rattle.tasks.proofs.TypeInstances.{IsSoundVocabulary, sound_task}
-use Rattle.typing_laws.specs.HasTyping.{HasTyping, KeepsTyping}
-use Rattle.typing_laws.proofs.Images.{image_keeps_typing}
+use Rattle.images.specs.typing_laws.HasTyping.{HasTyping, KeepsTyping}
+use Rattle.images.proofs.TypedImages.{image_keeps_typing}
 use Rattle.inlining.specs.declared.modes.InlineMode.{InlineMode}
 use Rattle.inlining.specs.declared.modes.InlineMode.TheVariants as mode
-use Rattle.recursive_groups.specs.decl_checks.Structure.{defining_body}
-use Rattle.recursive_groups.specs.Groups.{is_recursive}
+use Rattle.checks.specs.decl_checks.Structure.{defining_body}
+use Rattle.checks.specs.recursive_groups.Groups.{is_recursive}
 use Rattle.inlining.specs.Inlining.{unfold_rule, with_uses_unfolded, inlined, is_trivial, plain_definitions, all_definitions, trivial_definitions, inlined_definitions, inlined_task}
 use Rattle.inlining.proofs.Bodies.{defined_body}
 use Rattle.inlining.proofs.Uses.{keeps_same, unfold_typed_rule}
-use Rattle.changed_tasks.proofs.Changed.{changed_valid, goal_changed_valid}
+use Rattle.evidence.proofs.ChangedTasks.{changed_valid, goal_changed_valid}
 
 -- ---- the definitions that are inlined are those of the task
 module _ (v : Vocabulary) where

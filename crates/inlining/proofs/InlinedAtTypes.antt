@@ -6,9 +6,9 @@ use Rattle.tasks.specs.Task.{DefinitionTree}
 use Rattle.tasks.specs.Vocabulary.{Vocabulary}
 use Rattle.tasks.specs.Valid.{IsDefinition}
 use Rattle.tasks.proofs.TypeInstances.{IsSoundVocabulary}
-use Rattle.typing_laws.specs.HasTyping.{HasTyping, IsTypeAt}
-use Rattle.typing_laws.proofs.Images.{image_at_types}
-use Rattle.recursive_groups.specs.decl_checks.Structure.{defining_body}
+use Rattle.images.specs.typing_laws.HasTyping.{HasTyping, IsTypeAt}
+use Rattle.images.proofs.TypedImages.{image_at_types}
+use Rattle.checks.specs.decl_checks.Structure.{defining_body}
 use Rattle.inlining.specs.Inlining.{unfold_rule, with_uses_unfolded, inlined}
 use Rattle.inlining.proofs.Bodies.{defined_body}
 use Rattle.inlining.proofs.Uses.{unfold_typed_rule}

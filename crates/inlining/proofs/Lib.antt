@@ -11,4 +11,3 @@ pub mod UsesChanged
 pub mod FullBodies
 pub mod SinglePass
 pub use Rattle.images.proofs as images
-pub use Rattle.typing_laws.proofs as typing_laws

@@ -4,8 +4,8 @@ use Rattle.std.proofs.lemmas.Bool.{cases_lt}
 use Rattle.std.proofs.lemmas.Bool.Decides.{nat_tests}
 use Rattle.trees.specs.Tree.{Tree, Leaf, One, Two, Three, Head, HTyVar, HBound, HParam, loose, binders_over}
 use Rattle.trees.specs.Binding.{Change, change, leaf_by, one_by, Bound, Param, shifting, shift, instantiating_many, inst_many, AreNoPatterns}
-use Rattle.trees.proofs.Changes.{Keeps, binders_over-change, PutsTerms, Square, square, one_loose_le}
-use Rattle.trees.proofs.Indices.{shifted, shift_below, shift_above}
+use Rattle.trees.specs.laws.Changes.{Keeps, binders_over-change, PutsTerms, Square, square, one_loose_le}
+use Rattle.trees.specs.laws.Indices.{shifted, shift_below, shift_above}
 use Rattle.trees.proofs.Laws.{puts_shifting, keeps_shifting}
 use Rattle.trees.proofs.Many.{Then, change_change, many_below, many_at, many_above, cases_many, puts_many, keeps_many, default_at, mapped_at, length_map}
 

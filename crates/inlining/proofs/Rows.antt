@@ -7,7 +7,7 @@ use Rattle.trees.specs.declared.Op.TheVariants.{Iff, Or}
 use Rattle.tasks.specs.Task.{DefinitionTree, BodyTree, Defines, Says, DeclarationTree, TaskTree}
 use Rattle.tasks.specs.Equations.{cells}
 use Rattle.inlining.specs.declared.modes.InlineMode.TheVariants as mode
-use Rattle.recursive_groups.specs.Groups.{is_recursive}
+use Rattle.checks.specs.recursive_groups.Groups.{is_recursive}
 use Rattle.inlining.specs.Inlining.{with_uses_unfolded, inlined, is_trivial, inlined_task, inline_equation}
 
 abbrev bound : ℕ → Tree

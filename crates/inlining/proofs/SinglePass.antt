@@ -12,13 +12,13 @@ use Rattle.tasks.specs.Vocabulary.{Vocabulary}
 use Rattle.tasks.specs.Typing.{members, bound_types}
 use Rattle.tasks.specs.Valid.{IsDefinition}
 use Rattle.tasks.proofs.TypeInstances.{IsSoundVocabulary}
-use Rattle.recursive_groups.specs.decl_checks.Structure.{defining_body}
+use Rattle.checks.specs.decl_checks.Structure.{defining_body}
 use Rattle.images.specs.Images.{image, IsOtherHead}
 use Rattle.images.proofs.Images.{first_of}
-use Rattle.typing_laws.specs.HasTyping.{HasTyping, IsTypeAt}
-use Rattle.typing_laws.proofs.Sorted.{has_sorts}
-use Rattle.typing_laws.proofs.TypeInstances.{has_types}
-use Rattle.typing_laws.proofs.Images.{image_type, image_keeps_typing, image_at_types, like}
+use Rattle.images.specs.typing_laws.HasTyping.{HasTyping, IsTypeAt}
+use Rattle.images.proofs.typing_laws.Sorted.{has_sorts}
+use Rattle.images.proofs.typing_laws.TypeInstances.{has_types}
+use Rattle.images.proofs.TypedImages.{image_type, image_keeps_typing, image_at_types, like}
 use Rattle.inlining.specs.Inlining.{use_body, unfold_rule, inlined}
 use Rattle.inlining.specs.FullBodies.{use_rule, next_rule, full_rule_from, full_rule}
 use Rattle.inlining.proofs.Bodies.{onto, IsBody, defined_body}

@@ -17,12 +17,12 @@ use Rattle.tasks.specs.Vocabulary.{Vocabulary}
 use Rattle.tasks.specs.Typing.{members, entry, IsUse, HasResult, MakesTerms, TypedUnder}
 use Rattle.tasks.specs.Valid.{VariablesBelow, ParametersOf}
 use Rattle.tasks.proofs.TypeInstances.{IsSoundVocabulary}
-use Rattle.instances.proofs.Kept.{parameters_longer, parameters_within}
+use Rattle.tasks.proofs.KeptInstances.{parameters_longer, parameters_within}
 use Rattle.images.specs.Images.{IsOtherHead, KeepsTree, IsNodeRule}
-use Rattle.typing_laws.specs.HasTyping.{HasSorts, HasTyping, IsTypeAt, AreTermsFor, KeepsTyping, IsTypedRule}
-use Rattle.typing_laws.proofs.Sorted.{has_sorts, has_typed, typed_has, has_closed, has_further, kind_has}
-use Rattle.typing_laws.proofs.TypeInstances.{sort_at, type_at, has_types, variables_below_at, no_parameters_at}
-use Rattle.typing_laws.proofs.Changes.{many_has, many_sort, many_type, many_variables, many_above_params, many_parameters}
+use Rattle.images.specs.typing_laws.HasTyping.{HasSorts, HasTyping, IsTypeAt, AreTermsFor, KeepsTyping, IsTypedRule}
+use Rattle.images.proofs.typing_laws.Sorted.{has_sorts, has_typed, typed_has, has_closed, has_further, kind_has}
+use Rattle.images.proofs.typing_laws.TypeInstances.{sort_at, type_at, has_types, variables_below_at, no_parameters_at}
+use Rattle.images.proofs.typing_laws.Changes.{many_has, many_sort, many_type, many_variables, many_above_params, many_parameters}
 use Rattle.inlining.specs.Inlining.{use_body, unfold_rule}
 use Rattle.inlining.proofs.Bodies.{onto, map_onto, IsBodyOf, IsBody}
 

@@ -12,8 +12,8 @@ use Rattle.tasks.specs.declared.signature.SymbolKind.TheVariants.{Predicate}
 use Rattle.tasks.specs.Vocabulary.{Vocabulary}
 use Rattle.tasks.specs.Typing.{members, entry, IsUse, HasResult, MakesTerms}
 use Rattle.tasks.proofs.TypeInstances.{IsSoundVocabulary}
-use Rattle.typing_laws.specs.HasTyping.{HasTyping}
-use Rattle.typing_laws.proofs.Sorted.{has_sorts, kinds_only}
+use Rattle.images.specs.typing_laws.HasTyping.{HasTyping}
+use Rattle.images.proofs.typing_laws.Sorted.{has_sorts, kinds_only}
 use Rattle.inlining.specs.Inlining.{use_body, unfold_rule}
 use Rattle.inlining.proofs.Bodies.{IsBody}
 use Rattle.inlining.proofs.Uses.{member_terms, entry_is, use_closed}

@@ -2,7 +2,7 @@
 use Rattle.std.specs.Prelude.{ℕ, ◌==◌, if◌then◌else◌, List, [], ◌∷◌}
 use Rattle.trees.specs.Tree.{Tree, Two, Three, HFun, HPred}
 use Rattle.tasks.specs.Task.{DefinitionTree}
-use Rattle.recursive_groups.specs.decl_checks.Structure.{defining_body}
+use Rattle.checks.specs.decl_checks.Structure.{defining_body}
 use Rattle.images.specs.Images.{image}
 use Rattle.inlining.specs.Inlining.{use_body}
 

@@ -10,9 +10,9 @@ use Rattle.tasks.specs.Typing.{members}
 use Rattle.images.specs.Images.{image}
 use Rattle.inlining.specs.declared.modes.InlineMode.{InlineMode}
 use Rattle.inlining.specs.declared.modes.InlineMode.TheVariants as mode
-use Rattle.recursive_groups.specs.decl_checks.Structure.{defining_body}
-use Rattle.recursive_groups.specs.Groups.{is_recursive}
-use Rattle.changed_tasks.specs.Changed.{changed_task}
+use Rattle.checks.specs.decl_checks.Structure.{defining_body}
+use Rattle.checks.specs.recursive_groups.Groups.{is_recursive}
+use Rattle.evidence.specs.changed_tasks.Changed.{changed_task}
 
 -- ---- one definition
 -- a body at a list of types, for its type variables, and a list of arguments, for its parameters

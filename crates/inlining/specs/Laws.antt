@@ -8,9 +8,9 @@ use Rattle.tasks.specs.Equations.{cells, type_variables, bound_variables}
 use Rattle.tasks.specs.Vocabulary.{Vocabulary}
 use Rattle.tasks.specs.Valid.{IsDefinition, IsValid}
 use Rattle.tasks.proofs.TypeInstances.{IsSoundVocabulary}
-use Rattle.recursive_groups.specs.decl_checks.Structure.{defining_body}
+use Rattle.checks.specs.decl_checks.Structure.{defining_body}
 use Rattle.images.specs.Images.{IsNodeRule, image}
-use Rattle.typing_laws.specs.HasTyping.{HasTyping, IsTypeAt, IsTypedRule}
+use Rattle.images.specs.typing_laws.HasTyping.{HasTyping, IsTypeAt, IsTypedRule}
 use Rattle.inlining.specs.declared.modes.InlineMode.{InlineMode}
 use Rattle.inlining.specs.Inlining.{unfold_rule, inlined, inlined_task}
 use Rattle.inlining.specs.FullBodies.{full_rule}

@@ -2,4 +2,3 @@ pub mod Inlining
 pub mod FullBodies
 pub mod Laws
 pub use Rattle.images.specs as images
-pub use Rattle.typing_laws.specs as typing_laws

@@ -1,25 +1,25 @@
 -- What may be in a step: its sort, and that it is well typed and free of schematic types.
 use Rattle.std.proofs.lemmas.List.Elements.{All-nil}
 use Rattle.trees.specs.Node.{Holds}
-use Rattle.rule_rows.specs.declared.rule.Step.{Step}
-use Rattle.rule_rows.specs.declared.rule.Rule.{Rule}
-use Rattle.rule_rows.specs.declared.rule.Rule.TheVariants.{Fact, Def, Clause, Inv}
-use Rattle.rule_rows.specs.Trees.{RuleTree, RReplace, StepTree, rule_trees, rule_types, sequents}
-use Rattle.rule_rows.specs.Rows.{IsRuleRow}
+use Rattle.rules.specs.declared.rule.Step.{Step}
+use Rattle.rules.specs.declared.rule.Rule.{Rule}
+use Rattle.rules.specs.declared.rule.Rule.TheVariants.{Fact, Def, Clause, Inv}
+use Rattle.rules.specs.Trees.{RuleTree, RReplace, StepTree, rule_trees, rule_types, sequents}
+use Rattle.rules.specs.Rows.{IsRuleRow}
 use Rattle.kernel.specs.Right.{IsRight}
-use Rattle.rule_rows.specs.Meaning.{rule_at, types_in, RuleHeld, step_at}
+use Rattle.rules.specs.Meaning.{rule_at, types_in, RuleHeld, step_at}
 use Rattle.std.proofs.Common.{◌≡◌, ◌↔◌, ◌⊎◌, ◌==◌, ℕ, ◌<◌, Bool, true, IsTrue, refl, sym, ◌∙◌, List, [], ◌∷◌, length, get_or, slice_get, All, Option, Some, None, arith}
 use Rattle.std.proofs.lemmas.Bool.Decides.{nat_tests}
 use Rattle.std.specs.Prelude.{IsSomeAnd}
 use Rattle.trees.specs.Binding.{inst}
 use Rattle.trees.specs.Sorts.{type_of}
-use Rattle.rule_rows.specs.Forms.{equation_sides}
-use Rattle.rule_rows.specs.Rows.{IsTemplate, Adds}
+use Rattle.rules.specs.Forms.{equation_sides}
+use Rattle.rules.specs.Rows.{IsTemplate, Adds}
 use Rattle.trees.specs.declared.TermId.{TermId}
 use Rattle.trees.specs.Node.{tree_at}
 use Rattle.tasks.specs.Meaning.{trees_at}
 use Rattle.tasks.proofs.Closing.{closed_iff, typed_closed, typed_open}
-use Rattle.rule_rows.proofs.Sequents.{All-unmap}
+use Rattle.rules.proofs.Sequents.{All-unmap}
 use Rattle.trees.specs.declared.Sort.TheVariants.{Kind, Term, Formula}
 use Rattle.trees.specs.Tree.{Tree, loose}
 use Rattle.trees.specs.Sorts.{sort_of}
@@ -30,7 +30,7 @@ use Rattle.tasks.specs.Typing.{IsTyped}
 use Rattle.tasks.specs.Valid.{IsGround, IsGroundFormula, IsTypeOver}
 use Rattle.kernel.specs.Right.{IsGroundExpression}
 use Rattle.kernel.specs.Open.{OpenIn, TemplateIsOpen, StepIsOpen, IsComplete, EachClosed}
-use Rattle.term_rows.proofs.Bound.{zero_of as is_zero}
+use Rattle.rules.proofs.term_rules.Bound.{zero_of as is_zero}
 
 module _ (t : TaskTree) (e : Tree) where
   -- where no variable is open

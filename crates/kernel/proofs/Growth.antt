@@ -8,12 +8,12 @@ use Rattle.trees.specs.Node.{Grows}
 use Rattle.tasks.specs.Task.{TaskTree}
 use Rattle.tasks.specs.Meaning.{trees_at}
 use Rattle.tasks.proofs.Growth.{map_agree, held_later, all_held_later, trees_later}
-use Rattle.rule_rows.specs.declared.rule.Step.{Step}
-use Rattle.rule_rows.specs.declared.rule.Rule.{Rule}
-use Rattle.rule_rows.specs.declared.rule.Rule.TheVariants.{Forall, NotExists, Cut, Refl, Replace, LetDef, IfDef, MatchDef, Fact, Def, Clause, Inv, Case, Project, Trichotomy, Bound}
-use Rattle.rule_rows.specs.Trees.{RuleTree, RForall, RNotExists, RCut, RRefl, RReplace, RLetDef, RIfDef, RMatchDef, RFact, RDef, RClause, RInv, RCase, RProject, RBound, StepTree, no_step, step_or}
+use Rattle.rules.specs.declared.rule.Step.{Step}
+use Rattle.rules.specs.declared.rule.Rule.{Rule}
+use Rattle.rules.specs.declared.rule.Rule.TheVariants.{Forall, NotExists, Cut, Refl, Replace, LetDef, IfDef, MatchDef, Fact, Def, Clause, Inv, Case, Project, Trichotomy, Bound}
+use Rattle.rules.specs.Trees.{RuleTree, RForall, RNotExists, RCut, RRefl, RReplace, RLetDef, RIfDef, RMatchDef, RFact, RDef, RClause, RInv, RCase, RProject, RBound, StepTree, no_step, step_or}
 use Rattle.kernel.specs.Right.{IsRight, AreRight}
-use Rattle.rule_rows.specs.Meaning.{rule_at, step_at, steps_at, RuleHeld, StepHeld, StepsHeld}
+use Rattle.rules.specs.Meaning.{rule_at, step_at, steps_at, RuleHeld, StepHeld, StepsHeld}
 
 module _ (s s' : List Tree) (g : Grows s s') where
   pub rule_held_later : (r : Rule) → RuleHeld s r → RuleHeld s' r

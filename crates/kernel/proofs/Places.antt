@@ -6,10 +6,10 @@ use Rattle.std.proofs.lemmas.Option.{slice_get-get_or}
 use Rattle.trees.specs.Tree.{Tree}
 use Rattle.tasks.specs.Task.{TaskTree, start}
 use Rattle.tasks.specs.Meaning.{trees_at}
-use Rattle.rule_rows.specs.declared.rule.Step.{Step}
-use Rattle.rule_rows.specs.Trees.{StepTree, no_step, step_or}
+use Rattle.rules.specs.declared.rule.Step.{Step}
+use Rattle.rules.specs.Trees.{StepTree, no_step, step_or}
 use Rattle.kernel.specs.Right.{IsRight, last_starts}
-use Rattle.rule_rows.specs.Meaning.{step_at, steps_at}
+use Rattle.rules.specs.Meaning.{step_at, steps_at}
 
 pub step_or-at : (s : List Tree) (steps : List Step) (i : ℕ) (x : Step) → x ≡ get_or steps i x → i < length steps → step_or (steps_at s steps) i ≡ step_at s x
 step_or-at s steps i x e h = get_or-map (step_at s) steps i x no_step h ∙ ap (step_at s) (sym e)

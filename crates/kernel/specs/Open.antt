@@ -10,9 +10,9 @@ use Rattle.tasks.specs.Vocabulary.{of_task}
 use Rattle.tasks.specs.Valid.{IsGround}
 use Rattle.tasks.specs.Typing.{IsTyped}
 use Rattle.tasks.specs.Open.{OpenTyped}
-use Rattle.rule_rows.specs.declared.rule.Step.{Step}
-use Rattle.rule_rows.specs.Trees.{RuleTree, RReplace, rule_trees}
-use Rattle.rule_rows.specs.Meaning.{rule_at, types_in}
+use Rattle.rules.specs.declared.rule.Step.{Step}
+use Rattle.rules.specs.Trees.{RuleTree, RReplace, rule_trees}
+use Rattle.rules.specs.Meaning.{rule_at, types_in}
 
 -- a tree is typed as far as it goes; the tree of a number is
 abbrev pub OpenIn : TaskTree → Tree → Type 0

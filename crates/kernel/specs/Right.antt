@@ -7,8 +7,8 @@ use Rattle.trees.specs.Facts.{Each}
 use Rattle.tasks.specs.Task.{TaskTree, start}
 use Rattle.tasks.specs.Typing.{IsTyped}
 use Rattle.tasks.specs.Valid.{IsGround, IsGroundFormula, IsTypeOver}
-use Rattle.rule_rows.specs.Trees.{StepTree, rule_trees, rule_types, step_or, sequents}
-use Rattle.rule_rows.specs.Rows.{IsRuleRow}
+use Rattle.rules.specs.Trees.{StepTree, rule_trees, rule_types, step_or, sequents}
+use Rattle.rules.specs.Rows.{IsRuleRow}
 
 -- a term or formula of the task: closed, typed in it and free of schematic types; parameters of any type may be in it
 pub record IsGroundExpression (t : TaskTree) (e : Tree) : Type 0 where

@@ -7,8 +7,8 @@ mod rows;
 mod steps;
 mod typed;
 
-pub use rule_rows::{Rule, Step};
+pub use rules::{Rule, Step};
 pub use steps::{closes, ends_in_start, first_wrong, right_step, right_typed_step};
 pub use tasks::{Body, Decl, Seq, Signature, SymbolInfo, Task, Text};
-pub use term_store::Store;
+pub use trees::store::Store;
 pub use trees::{Ints, TermId};

@@ -1,17 +1,17 @@
 // The table of rules: whether a rule's row holds.
 // It depends on the rows; the checker of a step depends on it.
 ghost use Rattle.std.specs.Prelude.{◌↔◌, IsTrue};
-ghost use Rattle.rule_rows.specs.Trees.{rule_trees};
-ghost use Rattle.rule_rows.specs.Meaning.{task_of, rule_at, RuleHeld, TriedHeld, RowOf};
+ghost use Rattle.rules.specs.Trees.{rule_trees};
+ghost use Rattle.rules.specs.Meaning.{task_of, rule_at, RuleHeld, TriedHeld, RowOf};
 ghost use Rattle.kernel.specs.Open.{EachClosed, TemplateIsOpen};
 
-use fact_rows::{bound, clause, def, fact, inv, linear, trichotomy};
-use rule_rows::{
+use rules::fact_rules::{bound, clause, def, fact, inv, linear, trichotomy};
+use rules::term_rules::{case, distinct, inject, match_def, project};
+use rules::{
     Rule, Tried, at_new, at_term, clash, connective_fails, connective_holds, cut,
     existential_parts, formula_at, if_def, irrefl, is_false, keep, let_def, negated_formula,
     not_not, not_true, refl, replace, universal_parts,
 };
-use term_rows::{case, distinct, inject, match_def, project};
 use trees::Op;
 
 // Whether the row of a rule holds.

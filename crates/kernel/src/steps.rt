@@ -5,17 +5,17 @@ ghost use Rattle.trees.specs.Node.{Holds};
 ghost use Rattle.tasks.specs.Task.{start};
 ghost use Rattle.tasks.specs.Meaning.{trees_at, task_at, TaskHeld};
 ghost use Rattle.tasks.specs.Looking.{LookupHeld};
-ghost use Rattle.rule_rows.specs.Trees.{step_or};
-ghost use Rattle.rule_rows.specs.Meaning.{step_at, steps_at, StepHeld, StepsHeld};
+ghost use Rattle.rules.specs.Trees.{step_or};
+ghost use Rattle.rules.specs.Meaning.{step_at, steps_at, StepHeld, StepsHeld};
 ghost use Rattle.kernel.specs.Right.{IsRight, Closes, IsWrongAt, last_starts};
 ghost use Rattle.kernel.specs.Open.{StepIsOpen};
 
 use crate::rows::row_holds;
 use crate::typed::{are_sentences, are_types, names_right, step_is_open};
-use rule_rows::{Not, Step, Tried, is_wider};
+use rules::{Not, Step, Tried, is_wider};
 use tasks::{Lookup, Task};
-use term_store::Store;
 use trees::TermId;
+use trees::store::Store;
 
 // Whether the premises are earlier steps.
 fn all_earlier(premises: &[usize], count: usize) -> bool

@@ -6,17 +6,17 @@ ghost use Rattle.trees.specs.Facts.{Each};
 ghost use Rattle.tasks.specs.Meaning.{task_at, trees_at, TaskHeld};
 ghost use Rattle.tasks.specs.Open.{OpenTyped};
 ghost use Rattle.tasks.specs.Valid.{IsGroundFormula, IsTypeOver};
-ghost use Rattle.typing.specs.Named.{vocabulary_at, VocabularyHeld};
-ghost use Rattle.rule_rows.specs.Trees.{rule_trees};
-ghost use Rattle.rule_rows.specs.Meaning.{rule_at, RuleHeld, StepHeld};
+ghost use Rattle.tasks.specs.typed_trees.Named.{vocabulary_at, VocabularyHeld};
+ghost use Rattle.rules.specs.Trees.{rule_trees};
+ghost use Rattle.rules.specs.Meaning.{rule_at, RuleHeld, StepHeld};
 ghost use Rattle.kernel.specs.Right.{IsGroundExpression};
 ghost use Rattle.kernel.specs.Open.{OpenIn, IsOpen, IsComplete, StepIsOpen, TemplateIsOpen};
 
-use rule_rows::{Rule, Step};
+use rules::{Rule, Step};
+use tasks::typed_trees::{Vocabulary, is_ground, is_open_typed};
 use tasks::{Lookup, Task};
-use term_store::Store;
+use trees::store::Store;
 use trees::{Parts, Sort, TermId};
-use typing::{Vocabulary, is_ground, is_open_typed};
 
 // Whether a tree is typed as far as it goes.
 fn is_open(store: &Store, v: &Vocabulary<'_>, e: TermId) -> bool

@@ -2,6 +2,8 @@
 #![tactic(auto)]
 
 #[cfg(test)]
+mod introduce;
+#[cfg(test)]
 mod nodes;
 #[cfg(test)]
 mod random;
@@ -9,3 +11,5 @@ mod random;
 mod small;
 #[cfg(test)]
 mod steps;
+#[cfg(test)]
+mod tree_writing;

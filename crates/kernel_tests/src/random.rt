@@ -1,16 +1,15 @@
 // Random small sequents and steps, right ones and changed ones, against a plain check that makes what each premise adds.
 // It depends on the small task and on the checker; nothing depends on it.
 ghost use Rattle.std.specs.Prelude.{◌<◌};
-ghost use Rattle.rule_rows.specs.Meaning.{RuleHeld};
+ghost use Rattle.kernel.specs.rules.Meaning.{RuleHeld};
 
 use crate::nodes::NODES;
 use crate::small::{filled_store, held_or_int, small_task};
 use crate::steps::{premise_steps, step};
-use kernel::right_step;
-use rule_rows::Rule;
+use kernel::{Rule, right_step};
 use std::alloc::Global;
 use std::process::Abort;
-use term_store::{Grow, Store};
+use trees::store::{Grow, Store};
 use trees::{Node, Op, Parts, TermId};
 
 const MEMORY: &str = "out of memory";

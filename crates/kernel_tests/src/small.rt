@@ -4,12 +4,11 @@ ghost use Rattle.std.specs.Prelude.{◌≡◌, All, IfSome};
 ghost use Rattle.trees.specs.Node.{Holds};
 ghost use Rattle.tasks.specs.Meaning.{SymbolHeld, ConHeld, BodyHeld, DeclHeld, TaskHeld};
 
-use outside::{Seq, Text};
 use std::alloc::Global;
 use std::process::Abort;
 use std::rc::Rc;
-use tasks::{Alg, Body, Con, Decl, Def, Ind, Signature, SymbolInfo, SymbolKind, Task};
-use term_store::{Grow, Store};
+use tasks::{Alg, Body, Con, Decl, Def, Ind, Seq, Signature, SymbolInfo, SymbolKind, Task, Text};
+use trees::store::{Grow, Store};
 use trees::{Ints, Node, TermId};
 
 const MEMORY: &str = "out of memory";

@@ -1,16 +1,15 @@
 // Steps for the random ones, and what no step file can write: integers whose symbols the task doesn't declare, and a formula with
 // a schematic type. They depend on the small task and on the checker.
-ghost use Rattle.rule_rows.specs.Meaning.{RuleHeld, StepHeld, StepsHeld};
+ghost use Rattle.kernel.specs.rules.Meaning.{RuleHeld, StepHeld, StepsHeld};
 
 use crate::nodes::NODES;
 use crate::small::{filled_store, ids_of, small_task};
-use kernel::right_step;
-use outside::Seq;
-use rule_rows::{Rule, Step};
+use kernel::{Rule, Step, right_step};
 use std::alloc::Global;
 use std::process::Abort;
-use term_store::Store;
+use tasks::Seq;
 use trees::TermId;
+use trees::store::Store;
 
 const MEMORY: &str = "out of memory";
 

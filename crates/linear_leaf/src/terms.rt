@@ -8,7 +8,7 @@ ghost use Rattle.linear_leaf.specs.Views.{top_of, top_at, PartsBelow, two_top, r
 ghost use Rattle.linear_leaf.specs.Linear.{sum_operation, reading, zeros, has_any};
 ghost use Rattle.linear_leaf.specs.Valuations.{one_at};
 
-use term_store::Store;
+use trees::store::Store;
 use trees::{Ints, Node, TermId};
 
 // What a term is at its top.

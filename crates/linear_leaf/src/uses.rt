@@ -10,7 +10,7 @@ ghost use Rattle.linear_leaf.specs.Valuations.{one_at, Cancels, part_atoms, use_
 ghost use Rattle.linear_leaf.specs.Uses.{bound_at, BoundHeld, leaf_sequent, LeafHeld, IsLight, constant_of, CancelsIn, pair_at};
 
 use crate::terms::{Summand, has_atom, minus, plus, times, top_of, value, weigh};
-use term_store::Store;
+use trees::store::Store;
 use trees::{Ints, Node, TermId};
 
 // `left - right`, and 1 where it is strict, is at most 0, or is 0.

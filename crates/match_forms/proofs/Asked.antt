@@ -6,7 +6,7 @@ use Rattle.trees.specs.Tree.{Tree, Leaf, One, Two, Three, Head, HTyVar, HBound, 
 use Rattle.trees.specs.Binding.{change, leaf_by, one_by, Bound, shifting, inst_many, AreNoPatterns}
 use Rattle.trees.specs.Sorts.{WellSorted, sort_of, type_of, int_type, IsExpression}
 use Rattle.trees.proofs.Many.{many_at, mapped_at, length_map}
-use Rattle.trees.proofs.Sorts.{term_no_vars}
+use Rattle.trees.specs.laws.Sorts.{term_no_vars}
 use Rattle.tasks.specs.declared.signature.SymbolKind.TheVariants as kinds
 use Rattle.tasks.specs.Task.{TaskTree, SymbolTree}
 use Rattle.tasks.specs.Vocabulary.{Vocabulary, of_task}
@@ -14,17 +14,17 @@ use Rattle.tasks.specs.Typing.{TypedUnder, option_list, bound_types, pattern_typ
 use Rattle.tasks.specs.MatchTests.{test, bind}
 use Rattle.tasks.specs.Valid.{IsValid}
 use Rattle.tasks.proofs.Closing.{typed_sorted}
-use Rattle.instances.proofs.Typed.{present, kind_typed}
+use Rattle.tasks.proofs.typed_trees.instances.Typed.{present, kind_typed}
 use Rattle.images.specs.Images.{image, IsOtherHead}
 use Rattle.images.specs.Templates.{IsClosedType}
 use Rattle.images.specs.PatternTerms.{IsTypedPattern, IsTypedMatch, HasPartsOf}
 use Rattle.images.proofs.Templates.{type_is_kind}
 use Rattle.images.proofs.Patterns.{test_at, bind_at}
 use Rattle.images.proofs.PatternLaws.{matches_typed, matches_parts}
-use Rattle.typing_laws.specs.HasTyping.{HasTyping, AreTermsFor, KeepsTyping, IsTypedRule}
-use Rattle.typing_laws.proofs.Sorted.{typed_has, has_sorts, bound_count}
-use Rattle.typing_laws.proofs.Changes.{many_has, many_sort, many_type}
-use Rattle.typing_laws.proofs.Images.{image_patterns}
+use Rattle.images.specs.typing_laws.HasTyping.{HasTyping, AreTermsFor, KeepsTyping, IsTypedRule}
+use Rattle.images.proofs.typing_laws.Sorted.{typed_has, has_sorts, bound_count}
+use Rattle.images.proofs.typing_laws.Changes.{many_has, many_sort, many_type}
+use Rattle.images.proofs.TypedImages.{image_patterns}
 
 -- ---- a pattern has no bound variables: it is its image under a rule that changes each of them
 abbrev doubled : Tree → Tree

@@ -14,8 +14,8 @@ use Rattle.tasks.proofs.Closing.{typed_closed, typed_sorted}
 use Rattle.images.specs.Open.{IsAt}
 use Rattle.images.proofs.Environments.{closed_for}
 use Rattle.images.proofs.Patterns.{test_at, bind_at}
-use Rattle.typing_laws.specs.HasTyping.{HasTyping}
-use Rattle.typing_laws.proofs.Sorted.{typed_has, has_sorts, bound_count}
+use Rattle.images.specs.typing_laws.HasTyping.{HasTyping}
+use Rattle.images.proofs.typing_laws.Sorted.{typed_has, has_sorts, bound_count}
 use Rattle.match_forms.specs.Forms.{if_form, match_rule}
 use Rattle.match_forms.specs.Branches.{ArmTree, arms_tree, IsTypedBranch, AreTypedBranches, IsMatchOf}
 use Rattle.match_forms.proofs.Asked.{pattern_anywhere, terms_no_patterns}

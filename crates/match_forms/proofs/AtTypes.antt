@@ -6,7 +6,7 @@ use Rattle.trees.specs.Binding.{inst_types, inst_many, TyVar, AreTypes}
 use Rattle.trees.specs.Sorts.{sort_of, type_of, IsExpression}
 use Rattle.trees.proofs.Instances.{inst_two}
 use Rattle.trees.proofs.Many.{inst_types_inst_many}
-use Rattle.trees.proofs.Sorts.{kind_no_vars}
+use Rattle.trees.specs.laws.Sorts.{kind_no_vars}
 use Rattle.trees.proofs.Types.{loose_types}
 use Rattle.tasks.specs.Task.{TaskTree}
 use Rattle.tasks.specs.Vocabulary.{of_task}
@@ -15,10 +15,10 @@ use Rattle.tasks.specs.MatchTests.{test, bind}
 use Rattle.tasks.specs.Valid.{IsValid}
 use Rattle.images.proofs.Images.{expression_sort}
 use Rattle.images.proofs.InstanceLaws.{tests_at_types, terms_at_types}
-use Rattle.typing_laws.specs.HasTyping.{HasTyping, IsTypeAt}
-use Rattle.typing_laws.proofs.Sorted.{has_sorts, kinds_only}
-use Rattle.typing_laws.proofs.Images.{image_at_types}
-use Rattle.typing_laws.proofs.TypeInstances.{at_one}
+use Rattle.images.specs.typing_laws.HasTyping.{HasTyping, IsTypeAt}
+use Rattle.images.proofs.typing_laws.Sorted.{has_sorts, kinds_only}
+use Rattle.images.proofs.TypedImages.{image_at_types}
+use Rattle.images.proofs.typing_laws.TypeInstances.{at_one}
 use Rattle.match_forms.specs.Forms.{if_form, match_rule, without_matches}
 use Rattle.match_forms.specs.Branches.{ArmTree, arms_tree, IsTypedBranch, AreTypedBranches, IsMatchOf}
 use Rattle.match_forms.proofs.Asked.{terms_no_patterns}

@@ -5,7 +5,7 @@ use Rattle.trees.specs.Tree.{Tree, Leaf, One, Two, Three, HEnd, HCell, HArm, HBo
 use Rattle.trees.specs.Sorts.{sort_of, yield}
 use Rattle.tasks.specs.Vocabulary.{Vocabulary}
 use Rattle.tasks.specs.Typing.{BranchesFit}
-use Rattle.typing_laws.specs.HasTyping.{HasTyping}
+use Rattle.images.specs.typing_laws.HasTyping.{HasTyping}
 use Rattle.match_forms.specs.Branches.{ArmTree, arms_tree, AreTypedBranches}
 
 pub record HasBranches (v : Vocabulary) (types : List Tree) (ty : Option Tree) (first e : Tree) : Type 0 where

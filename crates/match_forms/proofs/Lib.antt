@@ -1,4 +1,4 @@
-pub use Rattle.typing_laws.proofs as typing_laws
+pub use Rattle.images.proofs as images
 pub mod Branches
 pub mod Asked
 pub mod Rule

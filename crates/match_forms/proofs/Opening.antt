@@ -15,7 +15,7 @@ use Rattle.tasks.specs.Looking.{LookupHeld}
 use Rattle.tasks.specs.Valid.{IsValid}
 use Rattle.tasks.proofs.Growth.{task_later, task_held_later}
 use Rattle.images.specs.PatternTerms.{IsTypedPattern}
-use Rattle.typing_laws.specs.HasTyping.{HasTyping}
+use Rattle.images.specs.typing_laws.HasTyping.{HasTyping}
 use Rattle.match_forms.specs.Forms.{if_form, match_rule}
 use Rattle.match_forms.specs.Branches.{ArmTree, arms_tree, AreTypedBranches, IsMatchOf}
 use Rattle.match_forms.specs.Held.{look_task, CanForm, CanOpenBranch}

@@ -13,11 +13,11 @@ use Rattle.tasks.specs.Valid.{VariablesBelow, ParametersOf, IsValid}
 use Rattle.images.specs.Images.{IsOtherHead}
 use Rattle.images.specs.PatternTerms.{HasOfBoth}
 use Rattle.images.proofs.Images.{expression_sort, expression_type}
-use Rattle.instances.proofs.Typed.{present}
-use Rattle.typing_laws.specs.HasTyping.{HasSorts, HasTyping, AreTermsFor, KeepsTyping, IsTypedRule}
-use Rattle.typing_laws.proofs.Sorted.{has_sorts}
-use Rattle.typing_laws.proofs.Images.{image_keeps_typing}
-use Rattle.typing_laws.proofs.Changes.{many_has, many_sort, many_type, many_variables, many_above_params, many_parameters}
+use Rattle.tasks.proofs.typed_trees.instances.Typed.{present}
+use Rattle.images.specs.typing_laws.HasTyping.{HasSorts, HasTyping, AreTermsFor, KeepsTyping, IsTypedRule}
+use Rattle.images.proofs.typing_laws.Sorted.{has_sorts}
+use Rattle.images.proofs.TypedImages.{image_keeps_typing}
+use Rattle.images.proofs.typing_laws.Changes.{many_has, many_sort, many_type, many_variables, many_above_params, many_parameters}
 use Rattle.match_forms.specs.Forms.{if_form, match_rule, without_matches}
 use Rattle.match_forms.specs.Branches.{ArmTree, arms_tree, IsTypedBranch, AreTypedBranches, IsMatchOf}
 use Rattle.match_forms.proofs.Branches.{HasBranches, branches_of}

@@ -5,7 +5,7 @@ use Rattle.trees.specs.Tree.{Tree, Leaf, Two, HEnd, HCell, HArm}
 use Rattle.trees.specs.Sorts.{sort_of, type_of, IsExpression}
 use Rattle.tasks.specs.Vocabulary.{Vocabulary}
 use Rattle.tasks.specs.Typing.{pattern_types}
-use Rattle.typing_laws.specs.HasTyping.{HasTyping}
+use Rattle.images.specs.typing_laws.HasTyping.{HasTyping}
 
 -- a pattern and a body
 pub record ArmTree : Type 0 where

@@ -12,7 +12,7 @@ use Rattle.tasks.specs.Meaning.{task_at}
 use Rattle.tasks.specs.Looking.{LookupHeld}
 use Rattle.tasks.specs.Valid.{IsValid}
 use Rattle.images.specs.PatternTerms.{IsTypedPattern}
-use Rattle.typing_laws.specs.HasTyping.{HasTyping}
+use Rattle.images.specs.typing_laws.HasTyping.{HasTyping}
 use Rattle.match_forms.specs.Branches.{ArmTree, arms_tree, AreTypedBranches}
 use Rattle.match_forms.specs.declared.forms.FirstBranch.{FirstBranch}
 

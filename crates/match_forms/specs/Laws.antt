@@ -6,7 +6,7 @@ use Rattle.tasks.specs.Task.{TaskTree}
 use Rattle.tasks.specs.Vocabulary.{of_task}
 use Rattle.tasks.specs.Valid.{IsValid}
 use Rattle.images.specs.Open.{IsAt}
-use Rattle.typing_laws.specs.HasTyping.{HasTyping, IsTypeAt, IsTypedRule}
+use Rattle.images.specs.typing_laws.HasTyping.{HasTyping, IsTypeAt, IsTypedRule}
 use Rattle.match_forms.specs.Forms.{match_rule}
 
 -- what a `match` becomes is typed as it is

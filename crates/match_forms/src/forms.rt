@@ -7,14 +7,14 @@ ghost use Rattle.tasks.specs.Vocabulary.{of_task};
 ghost use Rattle.tasks.specs.Looking.{LookupHeld};
 ghost use Rattle.tasks.specs.MatchTests.{test, bind};
 ghost use Rattle.tasks.specs.Valid.{IsValid};
-ghost use Rattle.typing_laws.specs.HasTyping.{HasTyping};
+ghost use Rattle.images.specs.typing_laws.HasTyping.{HasTyping};
 ghost use Rattle.match_forms.specs.Forms.{if_form, match_rule};
 ghost use Rattle.match_forms.specs.Held.{look_task, CanForm, CanOpenBranch};
 
-use index_bounds::put_terms;
-use match_terms::ask;
+use images::match_terms::ask;
 use std::alloc::{AllocError, Global};
 use tasks::{Grow, Lookup, Store};
+use trees::binders::index_bounds::put_terms;
 use trees::{Node, TermId};
 
 /// The first branch of a list, and the list of the others.

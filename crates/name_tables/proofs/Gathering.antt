@@ -10,7 +10,7 @@ use Rattle.name_tables.specs.Occurrences.{Occurrence, occurrence, in_type}
 use Rattle.name_tables.specs.Tables.{is_same}
 use Rattle.name_tables.specs.Seen.{has, with_one, with_all, AreIn, TypesAreIn, HasTypeArguments}
 use Rattle.std.proofs.lemmas.Bool.{or_left, or_right}
-use Rattle.plain_laws.proofs.Bools.{and_first as and_left, and_second as and_right}
+use Rattle.tasks.proofs.plain_laws.Bools.{and_first as and_left, and_second as and_right}
 
 -- the test tells whether two are equal
 pub same_occurrence : (o p : Occurrence) → is_same o p ≡ true → o ≡ p

@@ -3,8 +3,8 @@ use Rattle.std.specs.Prelude.{◌≡◌, List, [], ◌∷◌, codes, refl, Optio
 use Rattle.trees.specs.Tree.{Tree, Leaf, One, Two, Three, HTyVar, HTyApp, HTyRigid, HEnd, HCell, HFun, HEq}
 use Rattle.tasks.specs.declared.signature.SymbolKind.TheVariants.{Kind, Constructor}
 use Rattle.tasks.specs.Task.{SymbolTree, int_symbol, DeclarationTree, MakesType, Makes, TaskTree}
-use Rattle.name_entries.specs.declared.names.NameOf.TheVariants.{Int, Rigid, Symbol}
-use Rattle.name_entries.specs.declared.names.NameEntry.{NameEntry}
+use Rattle.name_tables.specs.declared.name_entries.names.NameOf.TheVariants.{Int, Rigid, Symbol}
+use Rattle.name_tables.specs.declared.name_entries.names.NameEntry.{NameEntry}
 use Rattle.name_tables.specs.Spelling.{own_name, clean, name_at_place}
 use Rattle.name_tables.specs.Occurrences.{Occurrence, occurrence, whole_occurrence}
 use Rattle.name_tables.specs.Tables.{problem_things, task_things, problem_names}

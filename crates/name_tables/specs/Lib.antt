@@ -1,4 +1,3 @@
-pub use Rattle.name_entries.specs as name_entries
 pub mod Spelling
 pub mod Occurrences
 pub mod Tables

@@ -8,9 +8,9 @@ use Rattle.trees.specs.declared.ints.Ints.{Ints}
 use Rattle.linear_leaf.specs.Valuations.{same_tree}
 use Rattle.tasks.specs.Task.{TaskTree, symbol_or, declared}
 use Rattle.tasks.specs.Typing.{members}
-use Rattle.name_entries.specs.declared.names.NameOf.{NameOf}
-use Rattle.name_entries.specs.declared.names.NameOf.TheVariants.{Int, Rigid, Symbol}
-use Rattle.name_entries.specs.declared.names.NameEntry.{NameEntry}
+use Rattle.name_tables.specs.declared.name_entries.names.NameOf.{NameOf}
+use Rattle.name_tables.specs.declared.name_entries.names.NameOf.TheVariants.{Int, Rigid, Symbol}
+use Rattle.name_tables.specs.declared.name_entries.names.NameEntry.{NameEntry}
 use Rattle.name_tables.specs.Occurrences.{Occurrence, occurrence, whole_occurrence, task_occurrences}
 use Rattle.name_tables.specs.Spelling.{name_at_place}
 

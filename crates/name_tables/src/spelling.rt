@@ -4,8 +4,8 @@ ghost use Rattle.std.specs.Prelude.{◌≡◌, ◌++◌, map, IfOk, OnOk};
 ghost use Rattle.std.specs.List.{flat_map};
 ghost use Rattle.name_tables.specs.Spelling.{own_name, spelt, is_spelt_byte, is_prefix_operator_name, fixity, operator_name, clean_byte, lower_case, clean_first, clean, name_at_place};
 
-use outside::Text;
 use std::alloc::{AllocError, Global};
+use tasks::Text;
 
 // A name without those of its scopes.
 fn own_name(name: &[u8]) -> &[u8]

@@ -8,14 +8,13 @@ ghost use Rattle.name_tables.specs.Named.{IsNameOf};
 ghost use Rattle.name_tables.specs.Tables.{is_in, thing_of, occurrence_place, named_thing, entry_at_place, names_of, problem_names, task_names, NamesDiffer};
 ghost use Rattle.name_tables.specs.Seen.{occurrence_at, seen_occurrences, KeyHeld, KeysHeld};
 
+use crate::name_entries::{NameEntry, NameOf};
 use crate::spelling::name_at_place;
 use crate::things::Things;
 use crate::walk::Key;
-use name_entries::{NameEntry, NameOf};
-use outside::Seq;
 use std::alloc::{AllocError, Global};
-use tasks::Task;
-use term_store::Store;
+use tasks::{Seq, Task};
+use trees::store::Store;
 use trees::{Node, TermId};
 
 // A symbol's name with those of its scopes.

@@ -11,11 +11,10 @@ ghost use Rattle.name_tables.specs.Groups.{AreGroups, AreGroupsOf, IsFilled, IsK
 
 use crate::walk::{Key, add_key, empty_list, has_key, seen_in, seen_in_term, seen_in_type};
 use indexmap::IndexSet;
-use outside::Seq;
 use std::alloc::{AllocError, Global};
 use std::marker::Model;
-use tasks::{Task, made_by};
-use term_store::Store;
+use tasks::{Seq, Task, made_by};
+use trees::store::Store;
 use trees::{Ints, Node, TermId};
 
 /// What the names of a table stand for, each thing once, by place. A thing is a symbol's entry with the number of the list of its

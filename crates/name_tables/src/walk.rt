@@ -14,7 +14,7 @@ ghost use Rattle.name_tables.specs.Own.{own, inner, said_occurrences};
 use indexmap::IndexSet;
 use std::alloc::{AllocError, Global};
 use tasks::{Body, Decl, Task};
-use term_store::Store;
+use trees::store::Store;
 use trees::{Node, Parts, TermId};
 
 /// A symbol's entry, and the number of the list of its types.

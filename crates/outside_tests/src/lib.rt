@@ -2,4 +2,8 @@
 #![tactic(auto)]
 
 #[cfg(test)]
+mod explain;
+#[cfg(test)]
+mod names;
+#[cfg(test)]
 mod tables;

@@ -8,7 +8,7 @@ use Rattle.tasks.specs.declared.signature.SymbolInfo.{SymbolInfo}
 use Rattle.tasks.specs.Task.{SymbolTree, int_symbol, TaskTree, symbol_or}
 use Rattle.tasks.specs.Meaning.{symbol_at, symbols_at, task_at, tasks_at}
 use Rattle.drivers.specs.declared.driver_parts.driver.Driver.{Driver}
-use Rattle.name_tables.specs.name_entries.declared.names.NameEntry.{NameEntry}
+use Rattle.name_tables.specs.declared.name_entries.names.NameEntry.{NameEntry}
 use Rattle.printed_problems.specs.declared.fault.PrintFault.{PrintFault}
 use Rattle.printed_problems.specs.declared.printed.Problem.{Problem}
 use Rattle.printed_problems.specs.Faults.{print_fault}

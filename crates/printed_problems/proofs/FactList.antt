@@ -4,7 +4,7 @@ use Rattle.std.specs.List.{list_any}
 use Rattle.std.specs.Option.{is_some}
 use Rattle.std.specs.Str.{bytes_eq}
 use Rattle.std.proofs.lemmas.List.{append-nil, map_more, drop_more, drop_all}
-use Rattle.term_store.specs.trees.Tree.{Tree}
+use Rattle.trees.specs.Tree.{Tree}
 use Rattle.tasks.specs.declared.declaration.Decl.{Decl}
 use Rattle.tasks.specs.Task.{BodyTree, MakesType, Makes, Defines, Induces, Constructs, Says, DeclarationTree, PropositionTree, props_of, said_by}
 use Rattle.tasks.specs.Meaning.{declaration_at, declarations_at}

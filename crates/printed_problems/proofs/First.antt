@@ -1,9 +1,9 @@
 -- The first fault of a list, one after the other.
 use Rattle.std.proofs.Common.{◌≡◌, ℕ, ◌+◌, ◌<◌, ◌≤◌, ◌==◌, true, not, if◌then◌else◌, List, [], ◌∷◌, ◌++◌, map, length, get_or, drop, Option, Some, None, refl, sym, ap, subst, ◌∙◌, Result, Ok, Err, OnOk, IfOk, IsErrAnd}
 use Rattle.std.proofs.lemmas.List.{drop_more, drop_all, map-append}
-use Rattle.term_store.specs.trees.declared.TermId.{TermId}
-use Rattle.term_store.specs.trees.Tree.{Tree, above_ty_vars}
-use Rattle.term_store.specs.trees.Node.{tree_at}
+use Rattle.trees.specs.declared.TermId.{TermId}
+use Rattle.trees.specs.Tree.{Tree, above_ty_vars}
+use Rattle.trees.specs.Node.{tree_at}
 use Rattle.tasks.specs.declared.declaration.Decl.{Decl}
 use Rattle.tasks.specs.Task.{TaskTree}
 use Rattle.tasks.specs.Meaning.{trees_at, declaration_at, declarations_at}

@@ -2,10 +2,10 @@
 use Rattle.std.proofs.Common.{◌≡◌, ℕ, Bool, true, false, ◌&&◌, ◌||◌, nat_eq, if◌then◌else◌, List, [], ◌∷◌, ◌++◌, get_or, refl, sym, ap, subst, ◌∙◌, arith}
 use Rattle.std.specs.List.{list_any}
 use Rattle.std.proofs.lemmas.Bool.Decides.{nat_tests}
-use Rattle.term_store.specs.trees.declared.Parts.{Parts}
-use Rattle.term_store.specs.trees.declared.Parts.TheVariants as parts
-use Rattle.term_store.specs.trees.Tree.{Tree, Leaf, One, Two, Three, Head, HEnd, head_of}
-use Rattle.term_store.specs.trees.Node.{tree_at, assemble}
+use Rattle.trees.specs.declared.Parts.{Parts}
+use Rattle.trees.specs.declared.Parts.TheVariants as parts
+use Rattle.trees.specs.Tree.{Tree, Leaf, One, Two, Three, Head, HEnd, head_of}
+use Rattle.trees.specs.Node.{tree_at, assemble}
 use Rattle.drivers.specs.declared.driver_items.kinds.Syntax.{Syntax}
 use Rattle.printed_problems.specs.Faults.{has_head, has_forms}
 use Rattle.printed_problems.specs.Checks.{HaveForms, parts_have_forms}

@@ -1,4 +1,4 @@
-pub use Rattle.term_store.proofs.trees.plain_laws as plain_laws
+pub use Rattle.tasks.proofs.plain_laws as plain_laws
 pub mod Finding
 pub mod First
 pub mod Forming

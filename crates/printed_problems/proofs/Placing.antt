@@ -1,7 +1,7 @@
 -- Places as they are gathered.
 use Rattle.std.proofs.Common.{◌≡◌, ℕ, ◌+◌, ◌<◌, ◌≤◌, Bool, true, false, if◌then◌else◌, List, ◌∷◌, ◌++◌, length, get_or, drop, refl, sym, ap, ◌∙◌, append_assoc}
 use Rattle.std.proofs.lemmas.List.{append-nil, drop_more, drop_all}
-use Rattle.term_store.specs.trees.Tree.{Tree}
+use Rattle.trees.specs.Tree.{Tree}
 use Rattle.name_tables.specs.Occurrences.{Occurrence}
 use Rattle.name_tables.specs.Seen.{occurrence_at, seen_occurrences}
 use Rattle.printed_problems.specs.Problems.{places_from}

@@ -1,6 +1,6 @@
 -- What the calls promise that look for a fault.
 use Rattle.std.specs.Prelude.{◌≡◌, ℕ, Bool, true, ◌&&◌, if◌then◌else◌, List, [], ◌∷◌, get_or, IsTrue, Option, Some, None, Result, Ok, Err}
-use Rattle.term_store.specs.trees.Tree.{Tree, Leaf, One, Two, Three, HEnd}
+use Rattle.trees.specs.Tree.{Tree, Leaf, One, Two, Three, HEnd}
 use Rattle.drivers.specs.declared.driver_items.kinds.Syntax.{Syntax}
 use Rattle.drivers.specs.driver_items.Syntaxes.{syntax_of}
 use Rattle.tasks.specs.Task.{TaskTree}

@@ -1,6 +1,6 @@
 -- Why a task can't be printed: its first fault, declaration by declaration, then the types of the parameters, the locals, the goal.
 use Rattle.std.specs.Prelude.{ℕ, ◌+◌, ◌&&◌, ◌==◌, Bool, true, false, not, if◌then◌else◌, List, [], ◌∷◌, ◌++◌, map, length, Option, Some, None}
-use Rattle.term_store.specs.trees.Tree.{Tree, Leaf, One, Two, Three, Head, HLet, HIf, HCase, above_ty_vars}
+use Rattle.trees.specs.Tree.{Tree, Leaf, One, Two, Three, Head, HLet, HIf, HCase, above_ty_vars}
 use Rattle.drivers.specs.declared.driver_items.kinds.Syntax.{Syntax}
 use Rattle.drivers.specs.driver_items.Syntaxes.{syntax_of}
 use Rattle.drivers.specs.declared.driver_items.kinds.Syntax.TheVariants.{Smt, Tff}

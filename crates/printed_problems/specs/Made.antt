@@ -1,9 +1,9 @@
 -- What the calls promise that put a problem together.
 use Rattle.std.specs.Prelude.{◌≡◌, ℕ, Bool, true, false, if◌then◌else◌, List, [], ◌∷◌, ◌++◌, map, All, Option}
 use Rattle.std.specs.List.{list_any}
-use Rattle.term_store.specs.trees.declared.TermId.{TermId}
-use Rattle.term_store.specs.trees.Tree.{Tree}
-use Rattle.term_store.specs.trees.Node.{tree_at, Holds}
+use Rattle.trees.specs.declared.TermId.{TermId}
+use Rattle.trees.specs.Tree.{Tree}
+use Rattle.trees.specs.Node.{tree_at, Holds}
 use Rattle.tasks.specs.Task.{BodyTree, DeclarationTree, Says, props_of}
 use Rattle.tasks.specs.Meaning.{trees_at, declarations_at, task_at}
 use Rattle.tasks.specs.declared.declaration.Decl.{Decl}

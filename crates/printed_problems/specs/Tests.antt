@@ -1,6 +1,6 @@
 -- What is asked of the things of a table.
 use Rattle.std.specs.Prelude.{◌≡◌, ℕ, Bool, if◌then◌else◌, List, [], ◌∷◌}
-use Rattle.term_store.specs.trees.Tree.{Tree}
+use Rattle.trees.specs.Tree.{Tree}
 use Rattle.tasks.specs.Task.{TaskTree, symbol_or}
 use Rattle.tasks.specs.Meaning.{symbols_at, task_at}
 use Rattle.tasks.specs.declared.task.Task.{Task}

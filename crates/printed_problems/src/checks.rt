@@ -1,6 +1,6 @@
 // The first fault of a task, declaration by declaration.
 ghost use Rattle.std.specs.Prelude.{map, All, IfOk, OnOk};
-ghost use Rattle.term_store.specs.trees.Node.{tree_at, Holds};
+ghost use Rattle.trees.specs.Node.{tree_at, Holds};
 ghost use Rattle.tasks.specs.Meaning.{trees_at, body_at, declarations_at, BodyHeld, DeclHeld};
 ghost use Rattle.name_tables.specs.Seen.{KeysHeld};
 ghost use Rattle.printed_problems.specs.Faults.{formula_fault, printed_body_fault, printed_type_fault, declaration_faults, first_print_fault, print_fault};
@@ -13,7 +13,7 @@ use indexmap::IndexSet;
 use name_tables::Things;
 use std::alloc::{AllocError, Global};
 use tasks::{Body, Decl, Task};
-use term_store::{Store, TermId};
+use trees::store::{Store, TermId};
 
 /// What a look for faults is given: a task in a store, its driver, what is in its problem's table, and the places of the
 /// interpreted symbols without a template.

@@ -1,6 +1,6 @@
 // Whether a printer has all forms of a term. A term that is shared is looked at once.
 ghost use Rattle.std.specs.Prelude.{◌≡◌, IfOk};
-ghost use Rattle.term_store.specs.trees.Node.{tree_at, head_of_node, Holds};
+ghost use Rattle.trees.specs.Node.{tree_at, head_of_node, Holds};
 ghost use Rattle.drivers.specs.driver_items.Syntaxes.{syntax_of};
 ghost use Rattle.printed_problems.specs.Faults.{is_smt, has_head, has_forms};
 ghost use Rattle.printed_problems.specs.Checks.{HaveForms, LooksAt, parts_have_forms};
@@ -8,7 +8,7 @@ ghost use Rattle.printed_problems.specs.Checks.{HaveForms, LooksAt, parts_have_f
 use drivers::driver_items::{Printer, Syntax, syntax_of};
 use indexmap::IndexSet;
 use std::alloc::AllocError;
-use term_store::{Node, Parts, Store, TermId};
+use trees::store::{Node, Parts, Store, TermId};
 
 fn is_smt(printer: Printer) -> bool
     ensures { result ≡ is_smt (syntax_of printer) }

@@ -1,6 +1,6 @@
 // The problem of a task under a driver.
 ghost use Rattle.std.specs.Prelude.{◌≡◌, ◌++◌, All, IfOk, OnOk, None};
-ghost use Rattle.term_store.specs.trees.Node.{Holds};
+ghost use Rattle.trees.specs.Node.{Holds};
 ghost use Rattle.tasks.specs.Meaning.{trees_at, body_at, task_at, BodyHeld, DeclHeld, TaskHeld};
 ghost use Rattle.name_tables.specs.Tables.{problem_things};
 ghost use Rattle.name_tables.specs.Seen.{seen_occurrences, KeysHeld};
@@ -17,7 +17,7 @@ use drivers::driver_parts::Driver;
 use name_tables::{Things, names_of};
 use std::alloc::{AllocError, Global};
 use tasks::{Body, Decl, Seq, Task, Text};
-use term_store::{Store, TermId};
+use trees::store::{Store, TermId};
 
 // Whether a theory has a declaration among these.
 fn has_theory(decls: &[Decl], path: &[u8]) -> bool

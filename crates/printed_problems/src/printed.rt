@@ -1,7 +1,7 @@
 // What is printed of a task.
 use name_tables::NameEntry;
 use tasks::{Seq, Text};
-use term_store::TermId;
+use trees::store::TermId;
 
 /// What is printed of a task: its name table, the driver's preludes, the places of the types and of
 /// the symbols that are declared, and its formulas.

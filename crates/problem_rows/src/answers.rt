@@ -14,7 +14,7 @@ use part_texts::tff_texts::tff_text;
 use printed_problems::{Problem, problem};
 use std::alloc::{AllocError, Global};
 use tasks::Task;
-use term_store::Store;
+use trees::store::Store;
 
 /// A part, counted from 1, and the number of parts.
 type Counts = (usize, usize);

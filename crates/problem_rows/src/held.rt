@@ -1,6 +1,6 @@
 // Tasks of trees that a store holds.
 ghost use Rattle.std.specs.Prelude.{All, IfOk, IfSome};
-ghost use Rattle.term_store.specs.trees.Node.{Holds};
+ghost use Rattle.trees.specs.Node.{Holds};
 ghost use Rattle.tasks.specs.Meaning.{SymbolHeld, BodyHeld, DeclHeld, TaskHeld};
 
 use crate::given::{Given, field, number_of};
@@ -8,7 +8,7 @@ use crate::stack::{Said, read_trees};
 use std::alloc::{AllocError, Global};
 use std::rc::Rc;
 use tasks::{Body, Decl, Seq, Signature, SymbolInfo, SymbolKind, Task, Text};
-use term_store::{Ints, Store, TermId};
+use trees::store::{Ints, Store, TermId};
 
 /// Those of some numbers that are held.
 fn ids(alloc: Global, store: &Store, numbers: &[TermId]) -> Result<Seq<TermId>, AllocError>

@@ -1,5 +1,5 @@
 // Names and faults as text.
-use name_entries::NameEntry;
+use name_tables::name_entries::NameEntry;
 use printed_problems::PrintFault;
 use std::alloc::{AllocError, Global};
 

@@ -1,6 +1,6 @@
 // Trees in postfix form: a number, then a letter for a node, which takes its children from the stack.
 use std::alloc::{AllocError, Global};
-use term_store::{Grow, Node, Op, Store, TermId};
+use trees::store::{Grow, Node, Op, Store, TermId};
 
 /// The trees that wait for their parents, and what was said with them.
 #[derive(Drop)]

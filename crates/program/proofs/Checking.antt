@@ -1,8 +1,8 @@
 -- A step file is a derivation or has a first wrong line, never both, and one such line.
 use Rattle.std.proofs.Common.{◌≡◌, ◌+◌, ◌∙◌, ℕ, zero, suc, List, [], ◌∷◌, Option, Some, None, IsSomeAnd, sym, ap, refl}
 use Rattle.tasks.specs.Task.{TaskTree}
-use Rattle.rule_rows.specs.Trees.{StepTree}
-use Rattle.step_writing.specs.name_entries.declared.names.NameEntry.{NameEntry}
+use Rattle.rules.specs.Trees.{StepTree}
+use Rattle.step_writing.specs.name_tables.declared.name_entries.names.NameEntry.{NameEntry}
 use Rattle.step_writing.specs.step_reading.Words.{lines_of}
 use Rattle.step_writing.specs.step_reading.Lines.{Reading, nothing_read, line_thing, IsGood, reading_with, AreRead, IsWrongLine, StepsOf, FirstWrong}
 

@@ -11,9 +11,9 @@ use Rattle.tasks.specs.declared.task.Task.{Task}
 use Rattle.tasks.specs.Task.{TaskTree}
 use Rattle.tasks.specs.Meaning.{task_at, tasks_at, TaskHeld, TasksHeld}
 use Rattle.tasks.proofs.Growth.{map_agree, task_later, task_held_later}
-use Rattle.rule_rows.specs.declared.rule.Step.{Step}
-use Rattle.rule_rows.specs.Trees.{StepTree}
-use Rattle.rule_rows.specs.Meaning.{steps_at, StepsHeld}
+use Rattle.rules.specs.declared.rule.Step.{Step}
+use Rattle.rules.specs.Trees.{StepTree}
+use Rattle.rules.specs.Meaning.{steps_at, StepsHeld}
 use Rattle.step_writing.proofs.kernel.Growth.{steps_later, steps_held_later}
 use Rattle.stages.specs.evidence.Stages.{task_or, no_task, parts_at, part_or, PartsHeld, PartsClose}
 use Rattle.step_writing.specs.kernel.Right.{Closes}

@@ -3,7 +3,7 @@ use Rattle.std.proofs.Common.{◌≡◌, ◌≢◌, ◌+◌, ◌∙◌, ◌==◌
 use Rattle.std.proofs.lemmas.Bool.Decides.{nat_tests}
 use Rattle.statuses.specs.outside.State.{LibraryState}
 use Rattle.tasks.specs.Task.{TaskTree}
-use Rattle.rule_rows.specs.Trees.{StepTree}
+use Rattle.rules.specs.Trees.{StepTree}
 use Rattle.step_writing.specs.name_tables.Tables.{task_names}
 use Rattle.step_writing.specs.step_reading.Lines.{StepsOf}
 use Rattle.stages.specs.Lifted.{HandedHasSequents}
@@ -11,7 +11,7 @@ use Rattle.program.specs.Lifted.{IsLifted}
 use Rattle.part_texts.specs.drivers.declared.driver_parts.driver.Driver.{Driver}
 use Rattle.statuses.specs.fault_order.Answers.{Answers, IsStageAnswer}
 use Rattle.statuses.specs.fault_order.Order.{RunStop, refused, StageMeaning, Answer}
-use Rattle.source_goals.specs.Order.{GoalSettingTree}
+use Rattle.program.specs.source_goals.Order.{GoalSettingTree}
 use Rattle.program.specs.Order.{if_counted, FirstFiles, Lifts, Handed, PrintableParts, RefutationsRead, Lifting}
 use Rattle.statuses.specs.declared.fault_order.faults.Fault.TheVariants.{PartCount}
 use Rattle.statuses.specs.declared.fault_order.faults.RunFault.{RunFault}

@@ -2,9 +2,9 @@
 use Rattle.std.proofs.Common.{◌≡◌, ◌⊎◌, ◌+◌, ◌++◌, ◌∷◌, [], ◌∙◌, ℕ, zero, suc, length, map, drop, List, Option, Some, None, IfSome, Result, Ok, Err, inl, inr, refl, sym, ap, subst}
 use Rattle.statuses.specs.outside.State.{Files, LibraryState}
 use Rattle.tasks.specs.Task.{TaskTree}
-use Rattle.rule_rows.specs.Trees.{StepTree}
+use Rattle.rules.specs.Trees.{StepTree}
 use Rattle.stages.specs.evidence.Stages.{task_or}
-use Rattle.step_writing.specs.name_entries.declared.names.NameEntry.{NameEntry}
+use Rattle.step_writing.specs.name_tables.declared.name_entries.names.NameEntry.{NameEntry}
 use Rattle.step_writing.specs.name_tables.Tables.{task_names}
 use Rattle.part_texts.specs.drivers.declared.driver_parts.driver.Driver.{Driver}
 use Rattle.part_texts.specs.printed_problems.Problems.{problem_of}
@@ -20,12 +20,12 @@ use Rattle.statuses.specs.fault_order.Answers.{IsWholeAnswer, EndsAs}
 use Rattle.statuses.specs.declared.fault_order.faults.RunFault.{RunFault}
 use Rattle.statuses.specs.declared.fault_order.faults.RunFault.TheVariants as run_fault
 use Rattle.statuses.specs.fault_order.Order.{RunStop, refused, absent, misused, Stage, StageMeaning, Answer, After, fetched, if_short, ShortFile, WholeFile, HasOneAnswer}
-use Rattle.source_goals.specs.Order.{Goal, GoalSettingTree, GoalUnder, AreDetermined}
+use Rattle.program.specs.source_goals.Order.{Goal, GoalSettingTree, GoalUnder, AreDetermined}
 use Rattle.program.specs.Order.{or_stage_refused, Carried, Printable, PrintableParts, ProblemTexts, ProblemTables, PrintText, NamesText, accepted, AreSteps, Checks, Derivation, CheckText, if_counted, RefutesPart, PartFile, name_with_number, FirstFiles, Lifts, Handed, RefutationsRead, Lifting, LiftText, StressText, word_with_number, TextOf, AnswerBy, AnswerOf}
 use Rattle.statuses.proofs.fault_order.OneStage.{one_answer, one_after}
 use Rattle.program.specs.Only.{IsDueAlone, IsOnlyAnswer, IsOnlyStop}
-use Rattle.source_goals.proofs.OneSource.{one_goal, one_short_file}
-use Rattle.source_goals.proofs.OneSetting.{one_setting}
+use Rattle.program.proofs.source_goals.OneSource.{one_goal, one_short_file}
+use Rattle.program.proofs.source_goals.OneSetting.{one_setting}
 use Rattle.program.proofs.Checking.{one_outcome, one_wrong, one_list}
 use Rattle.statuses.specs.Words.{command_of}
 use Rattle.statuses.specs.declared.fault_order.faults.Fault.TheVariants.{Polymorphic, Unprintable, NoSyntax, WrongLine}

@@ -13,7 +13,7 @@ use Rattle.part_texts.specs.declared.fault.PartFault.TheVariants as of_part
 use Rattle.part_texts.specs.Problems.{IsPartFault, first_fault}
 use Rattle.statuses.specs.fault_order.Answers.{IsStageAnswer}
 use Rattle.statuses.specs.fault_order.Order.{Answer}
-use Rattle.source_goals.specs.Order.{GoalSettingTree}
+use Rattle.program.specs.source_goals.Order.{GoalSettingTree}
 use Rattle.program.specs.Order.{or_stage_refused, Carried, Printable}
 use Rattle.program.specs.Values.{carry_fault, part_fault}
 

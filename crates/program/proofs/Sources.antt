@@ -2,11 +2,11 @@
 use Rattle.tasks.specs.Task.{TaskTree}
 use Rattle.tasks.specs.Valid.{IsValid}
 use Rattle.tasks.specs.Words.{NamesAreWords}
-use Rattle.source_goals.proofs.theories.Forgetting.{forgotten}
-use Rattle.source_goals.proofs.theories.Sources.{source_sound}
-use Rattle.source_goals.proofs.theories.SourceGoals.{task_valid}
-use Rattle.source_goals.proofs.theories.WordSources.{names_words}
-use Rattle.source_goals.specs.Sources.{IsSourceTask}
+use Rattle.theories.proofs.Forgetting.{forgotten}
+use Rattle.theories.proofs.Sources.{source_sound}
+use Rattle.theories.proofs.SourceGoals.{task_valid}
+use Rattle.theories.proofs.WordSources.{names_words}
+use Rattle.program.specs.source_goals.Sources.{IsSourceTask}
 
 pub valid_task : (t : TaskTree) → IsSourceTask t → IsValid t
 valid_task t h =

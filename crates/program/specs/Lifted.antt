@@ -2,7 +2,7 @@
 use Rattle.std.specs.Prelude.{ℕ, List, None, map}
 use Rattle.tasks.specs.trees.Tree.{Tree}
 use Rattle.tasks.specs.Task.{TaskTree}
-use Rattle.rule_rows.specs.Trees.{StepTree}
+use Rattle.rules.specs.Trees.{StepTree}
 use Rattle.step_writing.specs.name_tables.Tables.{task_names}
 use Rattle.step_writing.specs.step_reading.Lines.{StepsOf}
 use Rattle.tasks.specs.Meaning.{tasks_at}

@@ -4,9 +4,9 @@ use Rattle.std.specs.declared.alloc.Global.{Global}
 use Rattle.tasks.specs.trees.Tree.{Tree}
 use Rattle.tasks.specs.Task.{TaskTree}
 use Rattle.tasks.specs.Meaning.{task_at, tasks_at}
-use Rattle.rule_rows.specs.declared.rule.Step.{Step}
-use Rattle.rule_rows.specs.Trees.{StepTree}
-use Rattle.rule_rows.specs.Meaning.{steps_at}
+use Rattle.rules.specs.declared.rule.Step.{Step}
+use Rattle.rules.specs.Trees.{StepTree}
+use Rattle.rules.specs.Meaning.{steps_at}
 use Rattle.stages.specs.evidence.Stages.{parts_at}
 use Rattle.stages.specs.declared.fault.CarryFault.{CarryFault}
 use Rattle.stages.specs.declared.fault.CarryFault.TheVariants as of_carry
@@ -15,8 +15,8 @@ use Rattle.part_texts.specs.declared.fault.PartFault.TheVariants as of_part
 use Rattle.statuses.specs.declared.fault_order.faults.Fault.TheVariants as fault
 use Rattle.statuses.specs.declared.fault_order.faults.RunFault.{RunFault}
 use Rattle.statuses.specs.declared.fault_order.faults.RunFault.TheVariants as run_fault
-use Rattle.source_goals.specs.Order.{GoalSettingTree, setting_of}
-use Rattle.source_goals.specs.declared.setting.GoalSetting.{GoalSetting}
+use Rattle.program.specs.source_goals.Order.{GoalSettingTree, setting_of}
+use Rattle.program.specs.declared.source_goals.setting.GoalSetting.{GoalSetting}
 use Rattle.program.specs.declared.parts.PartProblems.{PartProblems}
 use Rattle.program.specs.declared.parts.StagedTask.{StagedTask}
 use Rattle.program.specs.declared.derivation.RefutedTask.{RefutedTask}

@@ -5,8 +5,8 @@ ghost use Rattle.statuses.specs.fault_order.Answers.{Answers, EndsAs, IsStageAns
 ghost use Rattle.program.specs.Only.{IsOnlyAnswer};
 ghost use Rattle.program.specs.Order.{CheckText, Checks, Derivation};
 
+use crate::source_goals::find_task;
 use crate::steps::read_steps;
-use source_goals::find_task;
 use statuses::{Library, RunFault, fetch_whole};
 use std::alloc::Global;
 use step_writing::task_names;

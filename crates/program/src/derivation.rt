@@ -8,7 +8,7 @@ ghost use Rattle.tasks.specs.Words.{NamesAreWords};
 ghost use Rattle.program.specs.Lifted.{IsLifted, IsRefutedTask};
 
 use crate::parts::StagedTask;
-use rule_rows::Step;
+use rules::Step;
 use stages::{Derived, lift};
 use statuses::Seq;
 use std::alloc::{AllocError, Global};

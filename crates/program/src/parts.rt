@@ -10,8 +10,8 @@ ghost use Rattle.program.specs.Order.{Carried, PrintableParts, Printable};
 ghost use Rattle.program.specs.Lifted.{IsStaged};
 ghost use Rattle.program.specs.Values.{carry_fault, part_fault, parts_in, setting_at, tasks_in};
 
+use crate::source_goals::GoalSetting;
 use part_texts::{Driver, PartFault, Problem, problems_of};
-use source_goals::GoalSetting;
 use stages::{CarryFault, TaskLevels, Transformation, carry, stages_of};
 use statuses::{Fault, RunFault};
 use std::alloc::Global;

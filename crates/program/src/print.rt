@@ -9,8 +9,8 @@ ghost use Rattle.program.specs.Values.{setting_at};
 
 use crate::parts::find_parts;
 use crate::setting::valid_setting;
+use crate::source_goals::GoalSetting;
 use part_texts::{name_texts, part_texts};
-use source_goals::GoalSetting;
 use statuses::{Library, RunFault};
 use std::alloc::Global;
 use tasks::Store;

@@ -3,7 +3,7 @@
 ghost use Rattle.std.specs.Prelude.{◌≡◌, ◌+◌, ◌<◌, length, map, IfOk, string_bytes};
 ghost use Rattle.tasks.specs.trees.Node.{Grows};
 ghost use Rattle.tasks.specs.Meaning.{task_at, tasks_at, TaskHeld, TasksHeld};
-ghost use Rattle.rule_rows.specs.Meaning.{steps_at, StepsHeld};
+ghost use Rattle.rules.specs.Meaning.{steps_at, StepsHeld};
 ghost use Rattle.stages.specs.evidence.Stages.{parts_at, PartsHeld};
 ghost use Rattle.part_texts.specs.printed_problems.Problems.{problem_of};
 ghost use Rattle.part_texts.specs.Problems.{AreProblems};
@@ -15,7 +15,7 @@ ghost use Rattle.program.specs.Values.{steps_in, handed_in};
 
 use crate::steps::read_steps;
 use part_texts::{Driver, Problem};
-use rule_rows::Step;
+use rules::Step;
 use statuses::{Library, RunFault, Seq, fetch_short};
 use std::alloc::Global;
 use step_writing::NameEntry;

@@ -5,10 +5,10 @@ ghost use Rattle.tasks.specs.Meaning.{task_at, TaskHeld};
 ghost use Rattle.tasks.specs.Valid.{IsValid};
 ghost use Rattle.tasks.specs.Words.{NamesAreWords};
 ghost use Rattle.statuses.specs.fault_order.Answers.{Answers};
-ghost use Rattle.source_goals.specs.Order.{GoalUnder};
-ghost use Rattle.source_goals.specs.Values.{next_in, setting_in};
+ghost use Rattle.program.specs.source_goals.Order.{GoalUnder};
+ghost use Rattle.program.specs.source_goals.Values.{next_in, setting_in};
 
-use source_goals::{GoalSetting, find_setting};
+use crate::source_goals::{GoalSetting, find_setting};
 use statuses::{Library, RunFault};
 use std::alloc::Global;
 use tasks::Store;

@@ -3,13 +3,13 @@
 ghost use Rattle.std.specs.Prelude.{IfOk};
 ghost use Rattle.tasks.specs.trees.Node.{Grows};
 ghost use Rattle.tasks.specs.Meaning.{task_at, TaskHeld};
-ghost use Rattle.rule_rows.specs.Meaning.{steps_at, StepsHeld};
+ghost use Rattle.rules.specs.Meaning.{steps_at, StepsHeld};
 ghost use Rattle.step_writing.specs.kernel.Right.{Closes};
 ghost use Rattle.statuses.specs.fault_order.Answers.{IsStageAnswer};
 ghost use Rattle.program.specs.Order.{AreSteps};
 ghost use Rattle.program.specs.Values.{steps_in};
 
-use rule_rows::Step;
+use rules::Step;
 use statuses::{Fault, RunFault};
 use std::alloc::Global;
 use step_writing::{NameEntry, ReadFault, read_whole};

@@ -2,8 +2,8 @@
 use crate::lines::bytes_of;
 use crate::readings::{put_expression, put_library, put_source};
 use crate::tokens::{put_place, put_tokens, put_value};
-use parse_decls::has_one_file;
-use parse_terms::has_one_tree;
+use parser::parse_decls::has_one_file;
+use parser::parse_terms::has_one_tree;
 use std::alloc::{AllocError, Global};
 
 fn put_answer(alloc: Global, out: &mut String, letter: u8, text: &[u8]) -> Result<(), AllocError> {

@@ -1,16 +1,16 @@
 // What is read of texts: sources, expressions, and the theories of the embedded library.
 ghost use Rattle.tokens_why.specs.Tokens.{AreTokens};
-ghost use Rattle.syntax_why.specs.Lexeme.{rest};
-ghost use Rattle.recognise_why.specs.Sources.{IsSyntaxRefusal};
+ghost use Rattle.surface.specs.Lexeme.{rest};
+ghost use Rattle.grammar.specs.recognise.Sources.{IsSyntaxRefusal};
 
 use crate::tokens::put_lex_fault;
-use parse_decls::{SyntaxFault, complete, parse};
-use parse_terms::{complete_expr, parse_expr};
+use parser::parse_decls::{SyntaxFault, complete, parse};
+use parser::parse_terms::{complete_expr, parse_expr};
+use parser::std_theories::library_files;
 use std::alloc::{AllocError, Global};
-use std_theories::library_files;
-use syntax_why::{Expr, ExprNode, File};
+use surface::unparse::unparse;
+use surface::{Expr, ExprNode, File};
 use tokens_why::{Token, TokenKind, classify, lex};
-use unparse_why::unparse;
 
 // Whether some kinds are those of tokens.
 fn are_kinds(tokens: &[Token], kinds: &[TokenKind]) -> bool {

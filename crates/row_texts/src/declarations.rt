@@ -2,7 +2,7 @@
 use crate::printing::{put_name, put_numbered, put_symbol, put_tree, put_trees};
 use std::alloc::{AllocError, Global};
 use tasks::{Alg, Body, Con, Decl, SymbolInfo, SymbolKind};
-use term_store::Store;
+use trees::store::Store;
 
 fn kind_word(kind: SymbolKind) -> &'static str {
     match kind {

@@ -1,9 +1,9 @@
 // Names, numbers, and trees of a store in prefix form: a letter for each operator, and the symbols and variables by number.
-use integer_words::integer_word;
 use std::alloc::{AllocError, Global};
 use tasks::SymbolInfo;
-use term_store::Store;
+use trees::store::Store;
 use trees::{Node, Op, Parts, TermId};
+use word_tables::integers::integer_word;
 
 // The letters of an operator between formulas.
 fn connective_word(op: Op) -> &'static str {

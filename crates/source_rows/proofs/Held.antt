@@ -7,13 +7,13 @@ use Rattle.tasks.specs.trees.Node.{Holds}
 use Rattle.tasks.specs.trees.declared.TermId.{TermId}
 use Rattle.tasks.specs.Meaning.{SymbolHeld}
 use Rattle.tasks.specs.declared.signature.SymbolInfo.{SymbolInfo}
-use Rattle.elab_parts.specs.names_space.declared.Table.TheVariants.{Scopes}
-use Rattle.elab_parts.specs.names_space.declared.TypeName.TheVariants as stands
-use Rattle.elab_parts.specs.names_space.Names.{ScopeNames, ScopeEntry, with_entry, with_scope}
-use Rattle.syntax_why.specs.Lexeme.{Word}
-use Rattle.elab_parts.specs.elab_walk.Drafts.{HoldsType, SymbolTyped}
-use Rattle.elab_parts.specs.Entries.{IsEntry, AreScopes}
-use Rattle.elab_parts.proofs.Scopes.{scopes_more}
+use Rattle.elab_groups.specs.scopes.declared.Table.TheVariants.{Scopes}
+use Rattle.elab_groups.specs.scopes.declared.TypeName.TheVariants as stands
+use Rattle.elab_groups.specs.scopes.Names.{ScopeNames, ScopeEntry, with_entry, with_scope}
+use Rattle.surface.specs.Lexeme.{Word}
+use Rattle.elab_groups.specs.open_types.Drafts.{HoldsType, SymbolTyped}
+use Rattle.elab_groups.specs.parts.Entries.{IsEntry, AreScopes}
+use Rattle.elab_groups.proofs.parts.Scopes.{scopes_more}
 
 result_held : (s : List Tree) (ty : Option TermId) → IfSome ty (HoldsType s) → IfSome ty (Holds s)
 result_held s None h = tt

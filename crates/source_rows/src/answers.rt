@@ -1,14 +1,14 @@
 // The answer to a line: whether a source is right, its first fault by its code and numbers, or the task of one of its goals.
 ghost use Rattle.tasks.specs.Meaning.{symbols_at};
-ghost use Rattle.goal_tasks.specs.Meaning.{AllTheoriesHeld, AreTuples};
+ghost use Rattle.theory_states.specs.goal_tasks.Meaning.{AllTheoriesHeld, AreTuples};
 
-use goal_tasks::{TaskFault, Theories, task_of};
+use parser::std_theories::{drop_file, parse};
 use row_texts::{put_declaration, put_number, put_numbered, put_tree};
 use std::alloc::{AllocError, Global};
-use std_theories::{drop_file, parse};
-use syntax_why::{File, lex};
+use surface::{File, lex};
 use tasks::{Store, Task};
 use theories::{SourceFault, type_file};
+use theory_states::goal_tasks::{TaskFault, Theories, task_of};
 
 // The code of a fault, its declaration, and its place there, if it has one.
 #[derive(Clone, Copy)]

@@ -1,16 +1,16 @@
 // The answer to a theory: what its last declaration becomes, what its matches leave, or the first fault.
 ghost use Rattle.std.specs.Prelude.{length, All, OnOk};
 ghost use Rattle.tasks.specs.Meaning.{DeclHeld};
-ghost use Rattle.elab_parts.specs.Entries.{IsSignature, AreScopes};
+ghost use Rattle.elab_groups.specs.parts.Entries.{IsSignature, AreScopes};
 
 use crate::made::put_made;
 use crate::sides::{put_covers, put_sides};
-use elab_parts::Scope;
-use elab_terms::{ElabFault, Elaborated, begin, elaborate, is_logical, no_names};
+use elab_declarations::{ElabFault, Elaborated, begin, elaborate, is_logical, no_names};
+use elab_groups::parts::Scope;
+use parser::std_theories::{drop_file, parse};
 use row_texts::{put_entries, put_numbered};
 use std::alloc::{AllocError, Global};
-use std_theories::{drop_file, parse};
-use syntax_why::{DeclNode, DeclTree, File, lex};
+use surface::{DeclNode, DeclTree, File, lex};
 use tasks::{Signature, Store};
 
 // A fault by its name, its declaration and its token or equation.

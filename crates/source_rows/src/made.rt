@@ -1,5 +1,5 @@
 // What a declaration becomes, as text: declarations with their bodies, rigid type variables and matches.
-use elab_terms::Elaborated;
+use elab_declarations::Elaborated;
 use row_texts::{put_declaration, put_numbered, put_trees};
 use std::alloc::{AllocError, Global};
 use tasks::Store;

@@ -2,17 +2,17 @@
 ghost use Rattle.std.specs.Prelude.{◌∷◌, [], All, IsTrue, IfSome};
 ghost use Rattle.tasks.specs.trees.Node.{Holds, tree_at};
 ghost use Rattle.tasks.specs.Meaning.{symbols_at, trees_at, SymbolHeld, DeclHeld};
-ghost use Rattle.theories.specs.match_cover.Shapes.{IsPattern, HaveType};
-ghost use Rattle.side_conditions.specs.Sides.{IsMatch};
+ghost use Rattle.theories.specs.checks.match_cover.Shapes.{IsPattern, HaveType};
+ghost use Rattle.theories.specs.side_conditions.Sides.{IsMatch};
 
-use elab_parts::MatchAt;
-use elab_terms::Elaborated;
+use elab_declarations::Elaborated;
+use elab_groups::parts::MatchAt;
 use row_texts::put_numbered;
-use side_conditions::{SideFault, check_sides};
 use std::alloc::{AllocError, Global};
+use tasks::typed_trees::{Vocabulary, is_typed_over};
 use tasks::{Signature, Sort, Store, TermId};
+use theories::side_conditions::{SideFault, check_sides};
 use theories::{CheckFault, ValueShape, cover};
-use typing::{Vocabulary, is_typed_over};
 
 // Whether a tree is a well-typed pattern of a type.
 fn is_pattern(store: &Store, sig: &Signature, ty: TermId, id: TermId) -> bool

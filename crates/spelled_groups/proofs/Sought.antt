@@ -9,7 +9,7 @@ use Rattle.tasks.specs.Task.{SymbolTree, DeclarationTree}
 use Rattle.tasks.specs.Facts.{equation_fact}
 use Rattle.tasks.specs.Looking.{fact_name}
 use Rattle.tasks.specs.Meaning.{definitions_at, body_at}
-use Rattle.recursive_groups.specs.Groups.{is_recursive}
+use Rattle.checks.specs.recursive_groups.Groups.{is_recursive}
 use Rattle.spelled_groups.specs.Groups.{definition_facts}
 use Rattle.declarations.specs.Said.{own_said}
 use Rattle.spelled_groups.specs.Spelled.{said_of}

@@ -9,7 +9,7 @@ use Rattle.tasks.specs.Vocabulary.{Vocabulary}
 use Rattle.tasks.specs.Valid.{IsDefinition, IsValidBody}
 use Rattle.declarations.specs.Rewritten.{AreUsable}
 use Rattle.spelled_groups.specs.Spelled.{IsSpellable, IsSayable, PatternsAreUsable, IsSpelling, SaysFacts}
-use Rattle.recursive_groups.specs.Groups.{is_recursive}
+use Rattle.checks.specs.recursive_groups.Groups.{is_recursive}
 use Rattle.spelled_groups.specs.Groups.{definition_facts}
 
 chosen_facts : (b : Bool) (fs gs : List FactTree) → (if b then None else Some fs) ≡ Some gs → gs ≡ fs

@@ -2,7 +2,7 @@
 use Rattle.std.specs.Prelude.{if◌then◌else◌, Some, None}
 use Rattle.tasks.specs.Task.{Defines, Induces}
 use Rattle.tasks.specs.Facts.{body_facts}
-use Rattle.recursive_groups.specs.Groups.{is_recursive}
+use Rattle.checks.specs.recursive_groups.Groups.{is_recursive}
 use Rattle.spelled_groups.specs.Spelled.{GroupFacts}
 
 -- each group that isn't recursive becomes its symbols, then the equation of each member

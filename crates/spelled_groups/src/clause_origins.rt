@@ -12,8 +12,8 @@ ghost use Rattle.spelled_groups.specs.Spelled.{spelling_said};
 
 use declarations::{FactSearch, own_origin};
 use tasks::{Body, Decl, Fact, Ind};
-use term_store::Store;
 use trees::TermId;
+use trees::store::Store;
 
 // Among the clauses of a predicate.
 fn origin_in_clauses(store: &Store, symbol: usize, clauses: &[TermId], k: usize) -> FactSearch

@@ -9,7 +9,7 @@ ghost use Rattle.spelled_groups.specs.Stored.{facts_at, SaidHeld, IsDeclaredAs};
 use crate::said::{Said, vars_of};
 use std::alloc::{AllocError, Global};
 use tasks::{Body, Decl, Signature, made_by};
-use term_store::Store;
+use trees::store::Store;
 
 // A declaration of the theory and name of another.
 fn declared_as(decl: &Decl, vars: usize, body: Body) -> Result<Decl, AllocError>

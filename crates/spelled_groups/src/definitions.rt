@@ -12,11 +12,11 @@ ghost use Rattle.spelled_groups.specs.Spelled.{spelling_said};
 ghost use Rattle.spelled_groups.specs.Stored.{facts_at, SaidHeld};
 
 use crate::said::{Said, push_equations};
+use checks::recursive_groups::is_recursive;
 use declarations::{FactSearch, own_origin};
-use recursive_groups::is_recursive;
 use std::alloc::{AllocError, Global};
 use tasks::{Body, Decl, Def, Fact, Signature};
-use term_store::Store;
+use trees::store::Store;
 
 /// The equations of a group of definitions that isn't recursive; none of another body.
 pub fn definitions_said(

@@ -14,8 +14,8 @@ use crate::inversions::inversion;
 use crate::said::{Said, vars_of};
 use std::alloc::{AllocError, Global};
 use tasks::{Body, Decl, Fact, Ind, Signature};
-use term_store::Store;
 use trees::TermId;
+use trees::store::Store;
 
 // The clauses of a predicate from a number on, after others.
 fn push_clauses(

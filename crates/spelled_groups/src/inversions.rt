@@ -13,7 +13,7 @@ ghost use Rattle.spelled_groups.specs.Making.{IsKindAt, IsFormulaId, joined_with
 
 use std::alloc::AllocError;
 use tasks::SymbolInfo;
-use term_store::{Grow, Store};
+use trees::store::{Grow, Store};
 use trees::{Node, Op, TermId};
 
 // The list of so many type variables, from a number on.

@@ -10,8 +10,8 @@ ghost use Rattle.spelled_groups.specs.Stored.{facts_at, SaidHeld};
 
 use std::alloc::AllocError;
 use tasks::{Def, Fact, Signature};
-use term_store::Store;
 use trees::TermId;
+use trees::store::Store;
 
 /// A formula that a group says, with the name of the fact of the group from which it follows, and the number of its type variables.
 #[derive(Clone, Copy)]

@@ -11,11 +11,11 @@ use Rattle.tasks.specs.Meaning.{task_at, tasks_at, TaskHeld, TasksHeld}
 use Rattle.tasks.specs.Valid.{IsValid}
 use Rattle.tasks.proofs.Growth.{map_agree, task_later, task_held_later, tasks_later, tasks_held_later}
 use Rattle.evidence.specs.Stages.{Refusal, StageEquation, Keeps, no_task, task_or}
-use Rattle.transformations.specs.declared.transformation.Transformation.{Transformation}
-use Rattle.transformations.specs.Transformations.{equation_of}
-use Rattle.transformations.specs.Transformations.{keeps_of}
+use Rattle.stages.specs.declared.transformations.transformation.Transformation.{Transformation}
+use Rattle.stages.specs.transformations.Transformations.{equation_of}
+use Rattle.stages.specs.transformations.Transformations.{keeps_of}
 use Rattle.stages.specs.Carried.{and_then, map_ok, all_tasks, carried_once, StageRefusal, at_stage, carried}
-use Rattle.stage_limits.specs.Limits.{limited}
+use Rattle.evidence.specs.stage_limits.Limits.{limited}
 use Rattle.stages.specs.Faults.{IsCarryFault}
 use Rattle.stages.specs.declared.fault.CarryFault.{CarryFault}
 use Rattle.stages.specs.declared.fault.CarryFault.TheVariants as fault

@@ -10,9 +10,9 @@ use Rattle.tasks.specs.Task.{TaskTree}
 use Rattle.tasks.specs.Meaning.{task_at, TaskHeld}
 use Rattle.tasks.specs.Valid.{IsValid}
 use Rattle.tasks.proofs.Growth.{map_agree}
-use Rattle.kernel.specs.rule_rows.declared.rule.Step.{Step}
-use Rattle.kernel.specs.rule_rows.Meaning.{steps_at, StepsHeld}
-use Rattle.kernel.specs.rule_rows.Trees.{StepTree}
+use Rattle.kernel.specs.rules.declared.rule.Step.{Step}
+use Rattle.kernel.specs.rules.Meaning.{steps_at, StepsHeld}
+use Rattle.kernel.specs.rules.Trees.{StepTree}
 use Rattle.kernel.specs.Right.{AreRight, Closes, last_starts}
 use Rattle.kernel.proofs.Growth.{steps_later, steps_held_later}
 use Rattle.evidence.specs.Drafts.{DraftTree, Extends}

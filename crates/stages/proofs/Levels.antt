@@ -3,8 +3,8 @@ use Rattle.std.proofs.Common.{◌≡◌, ◌∙◌, ℕ, zero, suc, ◌<◌, ◌
 use Rattle.std.proofs.lemmas.List.{length-append, take_all, take_more, take-append-le, drop_all, drop_more, drop-append-le, map-append}
 use Rattle.tasks.specs.Task.{TaskTree}
 use Rattle.evidence.specs.Stages.{StageEquation, no_task}
-use Rattle.transformations.specs.declared.transformation.Transformation.{Transformation}
-use Rattle.transformations.specs.Transformations.{equation_of}
+use Rattle.stages.specs.declared.transformations.transformation.Transformation.{Transformation}
+use Rattle.stages.specs.transformations.Transformations.{equation_of}
 use Rattle.stages.specs.Levels.{LevelTree, BecomeEach, next_tasks, AreLevels}
 
 -- ---- the tasks of a level

@@ -8,14 +8,14 @@ use Rattle.tasks.specs.declared.task.Task.{Task}
 use Rattle.tasks.specs.Task.{TaskTree}
 use Rattle.tasks.specs.Meaning.{tasks_at}
 use Rattle.tasks.proofs.Growth.{tasks_later, tasks_held_later}
-use Rattle.kernel.specs.rule_rows.declared.rule.Step.{Step}
-use Rattle.kernel.specs.rule_rows.Trees.{StepTree}
+use Rattle.kernel.specs.rules.declared.rule.Step.{Step}
+use Rattle.kernel.specs.rules.Trees.{StepTree}
 use Rattle.evidence.specs.Stages.{StageEquation, PartsClose, PartsHeld, parts_at}
 use Rattle.stages.specs.declared.task_levels.Level.{Level}
 use Rattle.stages.specs.declared.task_levels.TaskLevels.{TaskLevels}
 use Rattle.stages.specs.declared.lifting.PartSteps.{PartSteps}
-use Rattle.transformations.specs.declared.transformation.Transformation.{Transformation}
-use Rattle.transformations.specs.Transformations.{equation_of}
+use Rattle.stages.specs.declared.transformations.transformation.Transformation.{Transformation}
+use Rattle.stages.specs.transformations.Transformations.{equation_of}
 use Rattle.stages.specs.Steps.{AreTasks}
 use Rattle.stages.specs.Lifted.{ListsHaveSequents, AreDerived}
 use Rattle.stages.specs.Levels.{BecomeEach, IsCarried, IsRefutedLevel, carried_from, level_at, levels_at}

@@ -10,9 +10,9 @@ use Rattle.tasks.specs.declared.task.Task.{Task}
 use Rattle.tasks.specs.Task.{TaskTree}
 use Rattle.tasks.specs.Meaning.{task_at, tasks_at, TaskHeld, TasksHeld}
 use Rattle.tasks.proofs.Growth.{tasks_later, tasks_held_later}
-use Rattle.kernel.specs.rule_rows.declared.rule.Step.{Step}
-use Rattle.kernel.specs.rule_rows.Meaning.{steps_at, StepsHeld}
-use Rattle.kernel.specs.rule_rows.Trees.{StepTree}
+use Rattle.kernel.specs.rules.declared.rule.Step.{Step}
+use Rattle.kernel.specs.rules.Meaning.{steps_at, StepsHeld}
+use Rattle.kernel.specs.rules.Trees.{StepTree}
 use Rattle.kernel.specs.Right.{Closes}
 use Rattle.evidence.specs.Stages.{StageEquation, PartsClose, PartsHeld, parts_at, part_or, task_or, no_task}
 use Rattle.stages.specs.declared.lifting.Derived.{Derived}

@@ -4,7 +4,7 @@ use Rattle.std.proofs.lemmas.List.{length-append, get_or_append_left}
 use Rattle.std.proofs.lemmas.List.Elements.{All-from_get_or, All-weaker, All-append}
 use Rattle.std.proofs.Math.Seq.{get_or-append_seam, take-add}
 use Rattle.tasks.specs.trees.Tree.{Tree}
-use Rattle.kernel.specs.rule_rows.Trees.{StepTree, no_step, step_or}
+use Rattle.kernel.specs.rules.Trees.{StepTree, no_step, step_or}
 use Rattle.evidence.specs.Drafts.{DraftTree, Extends}
 use Rattle.evidence.specs.Stages.{part_or, HasSequents as DraftHasSequents}
 use Rattle.stages.specs.Lifted.{HasSequent, HandedHasSequents, OneHasSequent, ListsHaveSequents}

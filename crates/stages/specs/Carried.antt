@@ -3,7 +3,7 @@
 use Rattle.std.specs.Prelude.{ℕ, ◌+◌, List, [], ◌∷◌, ◌++◌, Result, Ok, Err}
 use Rattle.tasks.specs.Task.{TaskTree}
 use Rattle.evidence.specs.Stages.{Refusal, StageEquation}
-use Rattle.stage_limits.specs.Limits.{limited}
+use Rattle.evidence.specs.stage_limits.Limits.{limited}
 
 abbrev pub and_then : {A B E : Type 0} → Result A E → (A → Result B E) → Result B E
 and_then (Ok a) f = f a

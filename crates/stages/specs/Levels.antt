@@ -4,8 +4,8 @@ use Rattle.tasks.specs.trees.Tree.{Tree}
 use Rattle.tasks.specs.declared.task.Task.{Task}
 use Rattle.tasks.specs.Task.{TaskTree}
 use Rattle.tasks.specs.Meaning.{tasks_at, TasksHeld}
-use Rattle.kernel.specs.rule_rows.declared.rule.Step.{Step}
-use Rattle.kernel.specs.rule_rows.Trees.{StepTree}
+use Rattle.kernel.specs.rules.declared.rule.Step.{Step}
+use Rattle.kernel.specs.rules.Trees.{StepTree}
 use Rattle.evidence.specs.Stages.{StageEquation, PartsClose, PartsHeld, parts_at, task_or}
 use Rattle.stages.specs.declared.task_levels.Level.{Level}
 use Rattle.stages.specs.declared.task_levels.TaskLevels.{TaskLevels}

@@ -1,5 +1,6 @@
+pub use Rattle.tr_remove.specs as tr_remove
 pub use Rattle.evidence.specs as evidence
-pub use Rattle.transformations.specs as transformations
+pub mod transformations
 pub mod Carried
 pub mod Steps
 pub mod Faults

@@ -3,8 +3,8 @@ use Rattle.std.specs.Prelude.{◌≡◌, ℕ, ◌<◌, List, length, All}
 use Rattle.tasks.specs.trees.Tree.{Tree}
 use Rattle.tasks.specs.trees.Node.{Grows}
 use Rattle.tasks.specs.Task.{TaskTree}
-use Rattle.kernel.specs.rule_rows.Trees.{StepTree, step_or}
-use Rattle.kernel.specs.rule_rows.Meaning.{steps_at, StepsHeld}
+use Rattle.kernel.specs.rules.Trees.{StepTree, step_or}
+use Rattle.kernel.specs.rules.Meaning.{steps_at, StepsHeld}
 use Rattle.kernel.specs.Right.{Closes}
 use Rattle.evidence.specs.Stages.{PartsClose, PartsHeld, parts_at, part_or}
 use Rattle.stages.specs.declared.lifting.Derived.{Derived}

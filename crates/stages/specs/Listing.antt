@@ -4,10 +4,10 @@ use Rattle.std.specs.List.{list_any}
 use Rattle.std.specs.Str.{bytes_eq}
 use Rattle.tasks.specs.Task.{TaskTree, DeclarationTree}
 use Rattle.drivers.specs.declared.driver_parts.driver.Driver.{Driver}
-use Rattle.transformations.specs.tr_remove.Remove.{is_proposition}
-use Rattle.transformations.specs.declared.transformation.Transformation.{Transformation}
-use Rattle.transformations.specs.declared.transformation.Transformation.TheVariants.{Remove}
-use Rattle.transformations.specs.Words.{transformation_of}
+use Rattle.tr_remove.specs.Remove.{is_proposition}
+use Rattle.stages.specs.declared.transformations.transformation.Transformation.{Transformation}
+use Rattle.stages.specs.declared.transformations.transformation.Transformation.TheVariants.{Remove}
+use Rattle.stages.specs.transformations.Words.{transformation_of}
 
 -- a proposition of one of these theories
 abbrev pub is_removed_of : List (List ℕ) → DeclarationTree → Bool

@@ -4,8 +4,8 @@ ghost use Rattle.std.specs.Prelude.{map, Ok, IfOk, IfErr};
 ghost use Rattle.tasks.specs.trees.Node.{Grows};
 ghost use Rattle.tasks.specs.Meaning.{task_at, tasks_at, TaskHeld};
 ghost use Rattle.tasks.specs.Valid.{IsValid};
-ghost use Rattle.stage_limits.specs.Limits.{limited};
-ghost use Rattle.transformations.specs.Transformations.{equation_of};
+ghost use Rattle.evidence.specs.stage_limits.Limits.{limited};
+ghost use Rattle.stages.specs.transformations.Transformations.{equation_of};
 ghost use Rattle.stages.specs.Carried.{carried_once, carried_task, at_stage};
 ghost use Rattle.stages.specs.Faults.{IsCarryFault};
 ghost use Rattle.stages.specs.Levels.{BecomeEach, IsCarried};
@@ -13,11 +13,11 @@ ghost use Rattle.stages.specs.Steps.{AreTasks, AreTasksOf, ArePushed, IsAlone};
 
 use crate::fault::{CarryFault, fault_at};
 use crate::task_levels::{Level, TaskLevels};
+use crate::transformations::Transformation;
 use evidence::Transform;
-use stage_limits::limit_tasks;
+use evidence::stage_limits::limit_tasks;
 use std::alloc::{AllocError, Global};
 use tasks::{Store, Task};
-use transformations::Transformation;
 
 // Puts the tasks that a task becomes after the others, and says how many they are.
 fn push_tasks(

@@ -6,18 +6,18 @@ ghost use Rattle.tasks.specs.Valid.{IsValid};
 ghost use Rattle.kernel.specs.Right.{last_starts};
 ghost use Rattle.evidence.specs.Drafts.{Extends};
 ghost use Rattle.evidence.specs.Stages.{Gives, IsOwnTask, PartsClose, PartsHeld, parts_at};
-ghost use Rattle.transformations.specs.Transformations.{equation_of, task_equation_of};
+ghost use Rattle.stages.specs.transformations.Transformations.{equation_of, task_equation_of};
 ghost use Rattle.stages.specs.Steps.{IsCopy};
 ghost use Rattle.stages.specs.Lifted.{AreDerived, HandedHasSequents, IsDerived};
 ghost use Rattle.stages.specs.Levels.{IsCarried, IsRefutedLevel, carried_from};
 
 use crate::task_levels::{Level, TaskLevels};
+use crate::transformations::Transformation;
 use evidence::{Draft, finish, lift_stage};
 use kernel::Step;
 use std::alloc::{AllocError, Global};
 use std::rc::Rc;
 use tasks::{Seq, Store, Task};
-use transformations::Transformation;
 
 /// Steps, with the store that holds their trees.
 #[derive(Drop)]

@@ -6,13 +6,13 @@ ghost use Rattle.std.specs.Prelude.{◌≡◌, ◌++◌, List, IfOk, OnOk, map};
 ghost use Rattle.tasks.specs.trees.Tree.{Tree};
 ghost use Rattle.tasks.specs.Meaning.{declaration_at, declarations_at, task_at};
 ghost use Rattle.stages.specs.Listing.{is_removed_of, name_if, removed_names, removed_of, stages_of};
-ghost use Rattle.transformations.specs.Words.{transformation_of};
+ghost use Rattle.stages.specs.transformations.Words.{transformation_of};
 
+use crate::transformations::{Remove, Transformation, transformation_of};
 use drivers::driver_items::Trans;
 use drivers::driver_parts::Driver;
 use std::alloc::{AllocError, Global};
 use tasks::{Body, Decl, Seq, Task, Text};
-use transformations::{Remove, Transformation, transformation_of};
 
 // Whether a path is among these.
 fn is_among(paths: &[Text], its: &[u8]) -> bool

@@ -3,7 +3,7 @@ use Rattle.std.proofs.Common.{◌≡◌, ℕ, ◌≤◌, ◌==◌, Bool, true, f
 use Rattle.std.specs.Prelude.{ℤ, pos, negsuc, codes, nat_le, ◌&&◌}
 use Rattle.std.specs.Str.{bytes_eq}
 use Rattle.std.specs.Option.{option_map}
-use Rattle.integer_words.specs.Integers.{integer}
+use Rattle.word_tables.specs.integers.Integers.{integer}
 use Rattle.statuses.specs.declared.words.Command.{Command}
 use Rattle.statuses.specs.declared.words.Command.TheVariants.{Print, Names, Check, Lift, Stress}
 use Rattle.statuses.specs.Words.{CommandRow, command_rows, fits_row, command_among, command_named, command_of, stress_of, from_1_to_200, is_plain_word, all_plain}

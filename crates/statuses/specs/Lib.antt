@@ -1,4 +1,5 @@
 pub use Rattle.outside.specs as outside
+pub mod explain
 pub mod fault_order
 pub mod Words
 pub mod Faults

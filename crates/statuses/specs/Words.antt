@@ -3,7 +3,7 @@ use Rattle.std.specs.Prelude.{ℕ, Bool, true, false, not, List, [], ◌∷◌, 
 use Rattle.std.specs.Prelude.{ℤ, pos}
 use Rattle.std.specs.Option.{option_map}
 use Rattle.std.specs.Str.{bytes_eq}
-use Rattle.integer_words.specs.Integers.{integer}
+use Rattle.word_tables.specs.integers.Integers.{integer}
 use Rattle.statuses.specs.declared.words.Row.{Row}
 use Rattle.statuses.specs.declared.words.Command.{Command}
 use Rattle.statuses.specs.declared.words.Command.TheVariants.{Print, Names, Check, Lift, Stress}

@@ -1,8 +1,11 @@
-//! The shape of the words, the statuses with their lines and codes, what is put on the sinks.
+//! The shape of the words, the statuses with their lines and codes, what is put on the sinks; the order of faults;
+//! what the code of a fault means.
 //!
-//! Contract: exactly the command of the words; what a text or a line does to a sink, and the status after it.
+//! Contract: exactly the command of the words; what a text or a line does to a sink, and the status after it; the
+//! message of each code.
 #![tactic(auto)]
 
+pub mod explain;
 pub mod fault_order;
 mod lines;
 mod numbers;

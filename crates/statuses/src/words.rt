@@ -3,7 +3,7 @@
 ghost use Rattle.std.specs.Prelude.{◌≡◌, ◌≤◌, map, string_bytes, IfSome};
 ghost use Rattle.statuses.specs.Words.{command_of, is_plain_word, all_plain, command_row, command_among, command_named, part_count, stress_of};
 
-use integer_words::integer;
+use word_tables::integers::integer;
 
 /// A command that is built.
 #[derive(Clone, Copy)]

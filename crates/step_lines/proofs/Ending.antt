@@ -3,13 +3,13 @@ use Rattle.std.proofs.Common.{◌≡◌, ℕ, ◌-◌, min, List, [], ◌++◌, 
 use Rattle.std.specs.Option.{option_map, option_and_then}
 use Rattle.std.specs.Borrow.{Bor}
 use Rattle.std.proofs.lemmas.List.{map-append}
-use Rattle.term_store.specs.trees.Tree.{Tree}
-use Rattle.term_store.specs.trees.Node.{Grows}
+use Rattle.trees.specs.Tree.{Tree}
+use Rattle.trees.specs.Node.{Grows}
 use Rattle.tasks.specs.Task.{TaskTree}
 use Rattle.tasks.specs.Meaning.{task_at}
 use Rattle.tasks.proofs.Growth.{task_later}
-use Rattle.name_entries.specs.declared.names.NameEntry.{NameEntry}
-use Rattle.rule_rows.specs.Trees.{RuleTree, StepTree}
+use Rattle.name_tables.specs.declared.name_entries.names.NameEntry.{NameEntry}
+use Rattle.rules.specs.Trees.{RuleTree, StepTree}
 use Rattle.step_lines.specs.declared.rule_words.argument.Argument.{Argument}
 use Rattle.step_lines.specs.declared.rule_words.argument.ArgumentKind.{ArgumentKind}
 use Rattle.step_lines.specs.rule_words.Arguments.{ArgumentTree, argument_at, arguments_at}

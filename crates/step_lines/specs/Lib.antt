@@ -1,4 +1,4 @@
-pub use Rattle.integer_words.specs as integer_words
+pub use Rattle.word_tables.specs as word_tables
 pub mod rule_words
 pub mod tree_lines
 pub mod Steps

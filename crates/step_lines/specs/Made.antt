@@ -1,9 +1,9 @@
 -- What code makes of a line, by numbers in a store.
 use Rattle.std.specs.Prelude.{◌≡◌, List, Option, Some, None}
-use Rattle.term_store.specs.trees.Tree.{Tree}
-use Rattle.term_store.specs.trees.Node.{tree_at, Holds}
-use Rattle.term_store.specs.trees.Sorts.{WellSorted}
-use Rattle.rule_rows.specs.Meaning.{step_at, StepHeld}
+use Rattle.trees.specs.Tree.{Tree}
+use Rattle.trees.specs.Node.{tree_at, Holds}
+use Rattle.trees.specs.Sorts.{WellSorted}
+use Rattle.rules.specs.Meaning.{step_at, StepHeld}
 use Rattle.step_lines.specs.tree_lines.Made.{IsTypeHeld}
 use Rattle.step_lines.specs.declared.thing.MadeThing.{MadeThing}
 use Rattle.step_lines.specs.declared.thing.MadeThing.TheVariants as made

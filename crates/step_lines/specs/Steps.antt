@@ -2,11 +2,11 @@
 use Rattle.std.specs.Prelude.{Bool, ℕ, if◌then◌else◌, List, [], ◌∷◌, ◌++◌, length, take, drop, map, Option, Some, None, codes}
 use Rattle.std.specs.Option.{option_and_then, option_map}
 use Rattle.std.specs.Str.{bytes_eq}
-use Rattle.term_store.specs.trees.Tree.{Tree}
+use Rattle.trees.specs.Tree.{Tree}
 use Rattle.tasks.specs.Task.{TaskTree}
-use Rattle.rule_rows.specs.Trees.{RuleTree, StepTree}
-use Rattle.name_entries.specs.declared.names.NameEntry.{NameEntry}
-use Rattle.integer_words.specs.Integers.{integer}
+use Rattle.rules.specs.Trees.{RuleTree, StepTree}
+use Rattle.name_tables.specs.declared.name_entries.names.NameEntry.{NameEntry}
+use Rattle.word_tables.specs.integers.Integers.{integer}
 use Rattle.step_lines.specs.declared.rule_words.argument.ArgumentKind.{ArgumentKind}
 use Rattle.step_lines.specs.declared.rule_words.argument.ArgumentKind.TheVariants as kind
 use Rattle.step_lines.specs.declared.rule_words.name.RuleName.{RuleName}

@@ -2,8 +2,8 @@
 // They depend on known things and on the words of rules; the steps of lines depend on them.
 ghost use Rattle.std.specs.Prelude.{◌≡◌, ◌++◌, ◌∷◌, map, All, IfOk, IfSome};
 ghost use Rattle.std.specs.Option.{option_map, option_and_then};
-ghost use Rattle.term_store.specs.trees.Node.{Grows};
-ghost use Rattle.binders.specs.Visits.{HoldTypes};
+ghost use Rattle.trees.specs.Node.{Grows};
+ghost use Rattle.trees.specs.binders.Visits.{HoldTypes};
 ghost use Rattle.tasks.specs.Meaning.{task_at, trees_at};
 ghost use Rattle.step_lines.specs.rule_words.Arguments.{AType, argument_at, arguments_at, ArgumentHeld};
 ghost use Rattle.step_lines.specs.tree_lines.Words.{texts};
@@ -14,10 +14,10 @@ ghost use Rattle.step_lines.specs.Steps.{argument, arguments, next_kinds, types_
 
 use crate::rule_words::{Argument, ArgumentKind};
 use crate::tree_lines::{EarlierLines, meaning_of, number_of_word, thing};
-use integer_words::integer;
-use name_entries::NameOf;
+use name_tables::name_entries::NameOf;
 use std::alloc::{AllocError, Global};
-use term_store::{Store, TermId};
+use trees::store::{Store, TermId};
+use word_tables::integers::integer;
 
 // The symbol that a name stands for.
 fn symbol_named(x: &EarlierLines<'_>, word: &[u8]) -> Option<usize>

@@ -11,6 +11,6 @@ mod thing;
 pub mod tree_lines;
 mod words;
 
-pub use integer_words::{integer, integer_word};
 pub use line::made_by_line;
 pub use thing::MadeThing;
+pub use word_tables::integers::{integer, integer_word};

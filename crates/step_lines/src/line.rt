@@ -1,7 +1,7 @@
 // What a line makes.
 // It depends on the lines of trees and of steps.
 ghost use Rattle.std.specs.Prelude.{IfOk};
-ghost use Rattle.term_store.specs.trees.Node.{Grows};
+ghost use Rattle.trees.specs.Node.{Grows};
 ghost use Rattle.tasks.specs.Meaning.{task_at};
 ghost use Rattle.step_lines.specs.tree_lines.Words.{texts};
 ghost use Rattle.step_lines.specs.tree_lines.Made.{KnownHeld, earlier_at};
@@ -13,7 +13,7 @@ use crate::thing::MadeThing;
 use crate::tree_lines::{EarlierLines, line_expression, line_pattern, line_type};
 use crate::words::is;
 use std::alloc::{AllocError, Global};
-use term_store::Store;
+use trees::store::Store;
 
 /// What a line makes, by its words; none where they make nothing, or a tree whose parts don't fit. Only want of memory
 /// refuses.

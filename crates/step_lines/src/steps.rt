@@ -2,9 +2,9 @@
 // They depend on arguments and on the words of rules; what a line makes depends on them.
 ghost use Rattle.std.specs.Prelude.{◌≡◌, ◌++◌, All, IfOk, IfSome};
 ghost use Rattle.std.specs.Option.{option_map};
-ghost use Rattle.term_store.specs.trees.Node.{Holds, Grows};
+ghost use Rattle.trees.specs.Node.{Holds, Grows};
 ghost use Rattle.tasks.specs.Meaning.{task_at, trees_at};
-ghost use Rattle.rule_rows.specs.Meaning.{rule_at, step_at, RuleHeld, StepHeld};
+ghost use Rattle.rules.specs.Meaning.{rule_at, step_at, RuleHeld, StepHeld};
 ghost use Rattle.step_lines.specs.rule_words.Arguments.{arguments_at, ArgumentHeld};
 ghost use Rattle.step_lines.specs.rule_words.Forms.{argument_kinds};
 ghost use Rattle.step_lines.specs.rule_words.Rules.{rule_row};
@@ -16,10 +16,10 @@ use crate::arguments::{types_of_first, word_arguments};
 use crate::rule_words::{Argument, RuleName, kinds_of, name_of_word, rule_of};
 use crate::tree_lines::{EarlierLines, things_at};
 use crate::words::{colon, numbers};
-use rule_rows::{Rule, Step};
+use rules::{Rule, Step};
 use std::alloc::{AllocError, Global};
 use tasks::Seq;
-use term_store::{Store, TermId};
+use trees::store::{Store, TermId};
 
 // Three lists of arguments as one.
 fn join_arguments(

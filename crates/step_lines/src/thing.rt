@@ -1,7 +1,7 @@
 // What a line makes.
 // It depends on steps; the reader of lines depends on it.
-use rule_rows::Step;
-use term_store::TermId;
+use rules::Step;
+use trees::store::TermId;
 
 /// What a line makes.
 #[derive(Drop)]

@@ -2,8 +2,8 @@
 use Rattle.std.proofs.Common.{◌≡◌, ℕ, zero, suc, List, [], ◌∷◌, Option, Some, None, refl, sym, ap, ◌∙◌}
 use Rattle.std.specs.Prelude.{IsSomeAnd}
 use Rattle.tasks.specs.Task.{TaskTree}
-use Rattle.rule_rows.specs.Trees.{StepTree}
-use Rattle.name_entries.specs.declared.names.NameEntry.{NameEntry}
+use Rattle.rules.specs.Trees.{StepTree}
+use Rattle.name_tables.specs.declared.name_entries.names.NameEntry.{NameEntry}
 use Rattle.step_reading.specs.Words.{lines_of}
 use Rattle.step_lines.specs.Steps.{Thing}
 use Rattle.step_reading.specs.Lines.{Reading, nothing_read, line_thing, IsGood, reading_with, AreRead, IsWrongLine, StepsOf, LinesMake, IsWrongAmong}

@@ -6,14 +6,14 @@ use Rattle.std.proofs.lemmas.List.{append_assoc, append-nil, take-append-drop, t
 use Rattle.tasks.specs.trees.declared.TermId.{TermId}
 use Rattle.tasks.specs.trees.Tree.{Tree}
 use Rattle.tasks.specs.trees.Node.{Holds}
-use Rattle.binders.specs.Visits.{HoldTypes}
+use Rattle.trees.specs.binders.Visits.{HoldTypes}
 use Rattle.tasks.specs.Task.{TaskTree}
 use Rattle.tasks.specs.declared.task.Task.{Task}
 use Rattle.tasks.specs.Meaning.{trees_at, task_at}
 use Rattle.kernel.specs.Right.{last_starts}
-use Rattle.rule_rows.specs.declared.rule.Step.{Step}
-use Rattle.rule_rows.specs.Meaning.{steps_at, StepHeld, StepsHeld}
-use Rattle.name_entries.specs.declared.names.NameEntry.{NameEntry}
+use Rattle.rules.specs.declared.rule.Step.{Step}
+use Rattle.rules.specs.Meaning.{steps_at, StepHeld, StepsHeld}
+use Rattle.name_tables.specs.declared.name_entries.names.NameEntry.{NameEntry}
 use Rattle.step_reading.specs.Words.{lines_of, ended_lines}
 use Rattle.step_reading.specs.Marks.{AreMarkedTyped}
 use Rattle.step_reading.specs.Lines.{nothing_read, reading_of, LinesMake, IsWrongLine, FirstWrongAmong, StepsOf}

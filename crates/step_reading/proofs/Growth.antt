@@ -8,17 +8,17 @@ use Rattle.tasks.specs.trees.declared.Sort.TheVariants.{Kind}
 use Rattle.tasks.specs.trees.Tree.{Tree}
 use Rattle.tasks.specs.trees.Node.{tree_at, Holds, Grows}
 use Rattle.tasks.specs.trees.Sorts.{sort_of}
-use Rattle.binders.specs.Visits.{HoldTypes, typing_stays_ready, trees_stay}
+use Rattle.trees.specs.binders.Visits.{HoldTypes, typing_stays_ready, trees_stay}
 use Rattle.tasks.specs.declared.task.Task.{Task}
 use Rattle.tasks.specs.Task.{TaskTree}
 use Rattle.tasks.specs.Vocabulary.{of_task}
 use Rattle.tasks.specs.Meaning.{trees_at, task_at, TaskHeld}
 use Rattle.tasks.proofs.Growth.{held_later, all_held_later, trees_later, task_later}
-use Rattle.rule_rows.specs.declared.rule.Step.{Step}
-use Rattle.rule_rows.specs.Trees.{StepTree}
-use Rattle.rule_rows.specs.Meaning.{step_at, steps_at, StepHeld, StepsHeld}
+use Rattle.rules.specs.declared.rule.Step.{Step}
+use Rattle.rules.specs.Trees.{StepTree}
+use Rattle.rules.specs.Meaning.{step_at, steps_at, StepHeld, StepsHeld}
 use Rattle.kernel.proofs.Growth.{step_held_later, step_later, steps_held_later, steps_later}
-use Rattle.name_entries.specs.declared.names.NameEntry.{NameEntry}
+use Rattle.name_tables.specs.declared.name_entries.names.NameEntry.{NameEntry}
 use Rattle.step_lines.proofs.tree_lines.Growing.{types_pushed}
 use Rattle.step_lines.specs.declared.thing.MadeThing.{MadeThing}
 use Rattle.step_lines.specs.declared.thing.MadeThing.TheVariants as made

@@ -4,7 +4,7 @@ use Rattle.std.specs.Prelude.{IsSomeAnd, IsTrue}
 use Rattle.tasks.specs.Task.{TaskTree}
 use Rattle.kernel.specs.Right.{AreRight, last_starts}
 use Rattle.kernel.proofs.Growth.{right_more}
-use Rattle.name_entries.specs.declared.names.NameEntry.{NameEntry}
+use Rattle.name_tables.specs.declared.name_entries.names.NameEntry.{NameEntry}
 use Rattle.step_lines.specs.Steps.{Thing, TypeOf, PatternOf, ExpressionOf, StepOf}
 use Rattle.step_reading.specs.Lines.{Reading, nothing_read, line_thing, IsGood, LineIsRight, reading_with, AreRead, IsWrongLine, LinesMake, IsWrongAmong}
 use Rattle.step_reading.specs.Reading.{MakesGood}

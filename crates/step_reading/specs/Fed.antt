@@ -5,9 +5,9 @@ use Rattle.tasks.specs.Task.{TaskTree}
 use Rattle.tasks.specs.declared.task.Task.{Task}
 use Rattle.tasks.specs.Meaning.{task_at}
 use Rattle.tasks.specs.Looking.{IsIndexOf}
-use Rattle.rule_rows.specs.Trees.{StepTree}
+use Rattle.rules.specs.Trees.{StepTree}
 use Rattle.kernel.specs.Right.{last_starts}
-use Rattle.name_entries.specs.declared.names.NameEntry.{NameEntry}
+use Rattle.name_tables.specs.declared.name_entries.names.NameEntry.{NameEntry}
 use Rattle.step_lines.specs.tree_lines.Made.{IsNamesOf}
 use Rattle.step_reading.specs.Words.{line_parts, ended_lines}
 use Rattle.step_reading.specs.Marks.{AreMarkedTyped}

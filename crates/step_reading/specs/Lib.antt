@@ -1,4 +1,4 @@
-pub use Rattle.name_entries.specs as name_entries
+pub use Rattle.name_tables.specs as name_tables
 pub mod quick_steps
 pub mod Words
 pub mod Lines

@@ -3,10 +3,10 @@ use Rattle.std.specs.Prelude.{◌≡◌, ℕ, ◌≤◌, ◌+◌, zero, suc, Lis
 use Rattle.std.specs.Option.{ForSome}
 use Rattle.tasks.specs.trees.Tree.{Tree, height}
 use Rattle.tasks.specs.Task.{TaskTree}
-use Rattle.rule_rows.specs.Trees.{StepTree}
+use Rattle.rules.specs.Trees.{StepTree}
 use Rattle.kernel.specs.Right.{IsRight, last_starts}
 use Rattle.kernel.specs.Open.{OpenIn}
-use Rattle.name_entries.specs.declared.names.NameEntry.{NameEntry}
+use Rattle.name_tables.specs.declared.name_entries.names.NameEntry.{NameEntry}
 use Rattle.step_lines.specs.tree_lines.Lines.{Earlier}
 use Rattle.step_lines.specs.Steps.{Thing, TypeOf, PatternOf, ExpressionOf, StepOf, line_made}
 use Rattle.step_reading.specs.Words.{lines_of, words_in_line}

@@ -2,12 +2,12 @@
 use Rattle.std.specs.Prelude.{◌≡◌, ℕ, List, ◌∷◌, [], ◌++◌, Option, Some, All}
 use Rattle.tasks.specs.trees.Tree.{Tree}
 use Rattle.tasks.specs.trees.Node.{Holds}
-use Rattle.binders.specs.Visits.{HoldTypes}
+use Rattle.trees.specs.binders.Visits.{HoldTypes}
 use Rattle.tasks.specs.Task.{TaskTree}
 use Rattle.tasks.specs.Meaning.{trees_at, TaskHeld}
 use Rattle.tasks.specs.Looking.{IsIndexOf}
-use Rattle.rule_rows.specs.Meaning.{steps_at, StepsHeld}
-use Rattle.name_entries.specs.declared.names.NameEntry.{NameEntry}
+use Rattle.rules.specs.Meaning.{steps_at, StepsHeld}
+use Rattle.name_tables.specs.declared.name_entries.names.NameEntry.{NameEntry}
 use Rattle.step_lines.specs.tree_lines.Made.{IsNamesOf}
 use Rattle.step_lines.specs.declared.thing.MadeThing.{MadeThing}
 use Rattle.step_lines.specs.declared.thing.MadeThing.TheVariants as made

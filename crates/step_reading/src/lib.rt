@@ -14,4 +14,4 @@ mod words;
 
 pub use fault::ReadFault;
 pub use feeding::{StepReader, read_whole};
-pub use name_entries::{NameEntry, NameOf};
+pub use name_tables::name_entries::{NameEntry, NameOf};

@@ -11,8 +11,8 @@ ghost use Rattle.step_reading.specs.Marks.{has_mark, AreMarkedTyped};
 
 use crate::quick_steps::is_top_open;
 use std::alloc::AllocError;
+use tasks::typed_trees::Vocabulary;
 use tasks::{Index, Lookup, Parts, Store, Task, TermId};
-use typing::Vocabulary;
 
 /// Whether a tree is marked, and so typed as far as it goes.
 #[tactic(auto, using(crate::proofs::Marking::marked_open))]

@@ -3,7 +3,7 @@
 ghost use Rattle.std.specs.Prelude.{◌≡◌, OnOk};
 ghost use Rattle.step_reading.specs.Reading.{IsReadKept};
 
-use rule_rows::Step;
+use rules::Step;
 use std::alloc::AllocError;
 use step_lines::MadeThing;
 use tasks::TermId;

@@ -3,8 +3,8 @@ use Rattle.std.specs.Prelude.{◌≡◌, pos, List, [], ◌∷◌, codes, refl, 
 use Rattle.tasks.specs.trees.Tree.{Tree, Leaf, One, Two, Three, HTyVar, HTyApp, HEnd, HFun, HPred, HNum, HPatVar, HPatCon, HCase, HArm}
 use Rattle.tasks.specs.declared.signature.SymbolKind.TheVariants.{Kind, Constructor, Predicate}
 use Rattle.tasks.specs.Task.{SymbolTree, int_symbol, TaskTree}
-use Rattle.step_writing.specs.name_entries.declared.names.NameOf.TheVariants.{Int, Symbol}
-use Rattle.step_writing.specs.name_entries.declared.names.NameEntry.{NameEntry}
+use Rattle.step_writing.specs.name_tables.declared.name_entries.names.NameOf.TheVariants.{Int, Symbol}
+use Rattle.step_writing.specs.name_tables.declared.name_entries.names.NameEntry.{NameEntry}
 use Rattle.step_lines.specs.tree_lines.Named.{cells, meaning}
 use Rattle.step_lines.specs.tree_lines.Lines.{Earlier, type_of_line, pattern_of_line, expression_of_line}
 

@@ -5,13 +5,13 @@ use Rattle.std.proofs.lemmas.List.Elements.{All-push, All-append, All-weaker}
 use Rattle.tasks.specs.trees.declared.TermId.{TermId}
 use Rattle.tasks.specs.trees.Tree.{Tree}
 use Rattle.tasks.specs.trees.Node.{Holds, Grows}
-use Rattle.elab_parts.specs.binders.Visits.{HoldTypes, typing_stays_ready}
+use Rattle.elab_groups.specs.trees.binders.Visits.{HoldTypes, typing_stays_ready}
 use Rattle.tasks.specs.declared.declaration.Decl.{Decl}
 use Rattle.tasks.specs.declared.signature.SymbolInfo.{SymbolInfo}
 use Rattle.tasks.specs.Meaning.{SymbolHeld, DeclHeld}
-use Rattle.elab_parts.specs.elab_walk.Drafts.{HoldsType, SymbolTyped}
+use Rattle.elab_groups.specs.open_types.Drafts.{HoldsType, SymbolTyped}
 use Rattle.tasks.proofs.Growth.{all_held_later, decl_held_later}
-use Rattle.rule_rows.specs.Meaning.{StepHeld, StepsHeld}
+use Rattle.rules.specs.Meaning.{StepHeld, StepsHeld}
 use Rattle.step_writing.proofs.kernel.Growth.{steps_held_later}
 use Rattle.step_lines.proofs.tree_lines.Growing.{types_pushed}
 use Rattle.step_lines.specs.declared.thing.MadeThing.{MadeThing}

@@ -2,8 +2,8 @@
 use Rattle.std.specs.Prelude.{◌≡◌, List, [], ◌∷◌, ◌++◌, All}
 use Rattle.tasks.specs.trees.Tree.{Tree}
 use Rattle.tasks.specs.trees.Node.{Holds}
-use Rattle.elab_parts.specs.binders.Visits.{HoldTypes}
-use Rattle.rule_rows.specs.Meaning.{StepsHeld}
+use Rattle.elab_groups.specs.trees.binders.Visits.{HoldTypes}
+use Rattle.rules.specs.Meaning.{StepsHeld}
 use Rattle.step_lines.specs.declared.thing.MadeThing.{MadeThing}
 use Rattle.step_lines.specs.declared.thing.MadeThing.TheVariants as made
 use Rattle.step_rows.specs.declared.read.Read.{Read}

@@ -1,7 +1,7 @@
 // The answer to a block: what each line makes, and then whether its steps close the task.
 ghost use Rattle.tasks.specs.trees.Node.{Grows};
 ghost use Rattle.tasks.specs.Meaning.{TaskHeld};
-ghost use Rattle.rule_rows.specs.Meaning.{StepsHeld};
+ghost use Rattle.rules.specs.Meaning.{StepsHeld};
 
 use crate::files::{Tables, put_files};
 use crate::given::read_task;
@@ -9,7 +9,7 @@ use crate::lines::put_line;
 use crate::read::Read;
 use crate::words::number_of;
 use row_texts::put_number;
-use rule_rows::Step;
+use rules::Step;
 use std::alloc::{AllocError, Global};
 use step_lines::tree_lines::TableNames;
 use step_writing::{NameEntry, NameOf, closes, ends_in_start, first_wrong};

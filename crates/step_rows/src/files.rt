@@ -4,11 +4,11 @@ ghost use Rattle.std.specs.Prelude.{List, ℕ, IfOk};
 ghost use Rattle.tasks.specs.Meaning.{task_at, TaskHeld};
 ghost use Rattle.step_writing.specs.kernel.Right.{Closes};
 ghost use Rattle.step_writing.specs.step_reading.Fed.{IsFed};
-ghost use Rattle.rule_rows.specs.Meaning.{steps_at, StepsHeld};
+ghost use Rattle.rules.specs.Meaning.{steps_at, StepsHeld};
 
 use crate::words::number_of;
 use row_texts::put_number;
-use rule_rows::Step;
+use rules::Step;
 use std::alloc::{AllocError, Global};
 use step_writing::{NameEntry, ReadFault, StepReader, written_steps};
 use tasks::{Store, Task};

@@ -3,14 +3,14 @@
 ghost use Rattle.std.specs.Prelude.{◌≡◌, length, All, OnOk, IfOk};
 ghost use Rattle.tasks.specs.trees.Node.{Holds};
 ghost use Rattle.tasks.specs.Meaning.{SymbolHeld, DeclHeld, TaskHeld};
-ghost use Rattle.elab_parts.specs.Entries.{IsSignature, AreScopes};
+ghost use Rattle.elab_groups.specs.parts.Entries.{IsSignature, AreScopes};
 
-use elab_parts::Scope;
-use elab_terms::{ElabFault, Elaborated, begin, elaborate, is_logical, no_names};
-use parse_decls::parse;
+use elab_declarations::{ElabFault, Elaborated, begin, elaborate, is_logical, no_names};
+use elab_groups::parts::Scope;
+use parser::parse_decls::parse;
 use std::alloc::{AllocError, Global};
 use std::rc::Rc;
-use syntax_why::{DeclTree, lex};
+use surface::{DeclTree, lex};
 use tasks::{Body, Decl, Ints, Seq, Signature, Store, SymbolInfo, Task, TermId};
 
 // The declarations of what is made.

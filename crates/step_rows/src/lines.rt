@@ -3,14 +3,14 @@
 ghost use Rattle.std.specs.Prelude.{IfOk, IfSome, OnOk};
 ghost use Rattle.tasks.specs.trees.Node.{Grows};
 ghost use Rattle.tasks.specs.Meaning.{TaskHeld};
-ghost use Rattle.rule_rows.specs.Meaning.{StepHeld, StepsHeld};
+ghost use Rattle.rules.specs.Meaning.{StepHeld, StepsHeld};
 ghost use Rattle.step_lines.specs.tree_lines.Made.{IsNamesOf};
 ghost use Rattle.step_lines.specs.Made.{ThingHeld};
 ghost use Rattle.step_rows.specs.Read.{RowReadHeld};
 
 use crate::read::{Read, keep};
 use row_texts::{put_number, put_tree, put_trees};
-use rule_rows::{Rule, Step};
+use rules::{Rule, Step};
 use std::alloc::{AllocError, Global};
 use step_lines::tree_lines::{EarlierLines, TableNames};
 use step_lines::{MadeThing, integer_word, made_by_line};

@@ -3,8 +3,8 @@ use Rattle.std.proofs.Common.{◌≡◌, ◌≤◌, ◌^◌, List, length, None,
 use Rattle.kernel.specs.trees.Tree.{Tree}
 use Rattle.kernel.specs.tasks.Task.{TaskTree}
 use Rattle.kernel.specs.tasks.Valid.{IsValid}
-use Rattle.name_tables.specs.name_entries.declared.names.NameEntry.{NameEntry}
-use Rattle.kernel.specs.rule_rows.Trees.{StepTree}
+use Rattle.name_tables.specs.declared.name_entries.names.NameEntry.{NameEntry}
+use Rattle.kernel.specs.rules.Trees.{StepTree}
 use Rattle.kernel.specs.Right.{AreRight}
 use Rattle.name_tables.specs.Tables.{task_names, NamesDiffer}
 use Rattle.kernel.specs.tasks.Words.{NamesAreWords}

@@ -3,10 +3,10 @@ use Rattle.std.proofs.Common.{◌≡◌, ℕ, List, ◌++◌, get_or, All, inl, 
 use Rattle.std.specs.Prelude.{flat_map}
 use Rattle.kernel.specs.trees.Tree.{Tree}
 use Rattle.kernel.specs.trees.Sorts.{sort_of, IsExpression}
-use Rattle.name_tables.specs.name_entries.declared.names.NameEntry.{NameEntry}
-use Rattle.kernel.specs.rule_rows.declared.rule.Step.{Step}
-use Rattle.kernel.specs.rule_rows.Trees.{StepTree, rule_types}
-use Rattle.kernel.specs.rule_rows.Meaning.{steps_at}
+use Rattle.name_tables.specs.declared.name_entries.names.NameEntry.{NameEntry}
+use Rattle.kernel.specs.rules.declared.rule.Step.{Step}
+use Rattle.kernel.specs.rules.Trees.{StepTree, rule_types}
+use Rattle.kernel.specs.rules.Meaning.{steps_at}
 use Rattle.step_writing.specs.declared.tree_writing.writer.LineKind.{LineKind}
 use Rattle.step_writing.specs.declared.tree_writing.writer.LineKind.TheVariants as kind
 use Rattle.step_writing.specs.tree_writing.Spelt.{AreNamesOf}
@@ -19,7 +19,7 @@ use Rattle.step_writing.specs.Written.{read_with, AddsSteps, StepsReadBack}
 use Rattle.step_writing.proofs.Texts.{trees_text, text_read}
 use Rattle.step_writing.proofs.Rightness.{all_used, all_good, all_stand, flat_all, all_flat}
 use Rattle.step_writing.proofs.tree_writing.Sorting.{expression_kind as kind_expression}
-use Rattle.kernel.proofs.plain_laws.Lists.{All-left as front_all, All-right as back_all}
+use Rattle.tasks.proofs.plain_laws.Lists.{All-left as front_all, All-right as back_all}
 
 pub finished : (x : Lines) (steps : List Step) (roots : List Tree) (start new : List ℕ) → roots ≡ flat_map step_trees (steps_at x.store.now steps) → IsWritten x.store.now x.table.now roots start x.numbers.now → AreWords x.table.now → AddsSteps x steps start new → StepsReadBack x.table.now (steps_at x.store.now steps) new
 finished x steps roots start new are written words adds t tallest closes low =

@@ -2,10 +2,10 @@
 use Rattle.std.proofs.Common.{◌≡◌, ℕ, ◌+◌, ◌<◌, ◌≤◌, List, [], ◌∷◌, length, get_or, take, All, Option, Some, None, IsSome, IfSome, IsTrue, false, true, Bool, sym, subst, ◌∙◌, arith}
 use Rattle.std.proofs.lemmas.List.{take_more, take_all}
 use Rattle.std.proofs.lemmas.List.Elements.{All-cons, All-nil, All-append}
-use Rattle.name_tables.specs.name_entries.declared.names.NameEntry.{NameEntry}
+use Rattle.name_tables.specs.declared.name_entries.names.NameEntry.{NameEntry}
 use Rattle.std.specs.Option.{is_some}
 use Rattle.kernel.specs.trees.Tree.{Tree}
-use Rattle.name_tables.specs.name_entries.declared.names.NameOf.{NameOf}
+use Rattle.name_tables.specs.declared.name_entries.names.NameOf.{NameOf}
 use Rattle.step_lines.specs.tree_lines.Named.{cells}
 use Rattle.step_writing.specs.declared.tree_writing.spelling.Spelling.{Spelling}
 use Rattle.step_writing.specs.tree_writing.Spelt.{IsSpelt, Spells}

@@ -10,9 +10,9 @@ use Rattle.std.proofs.lemmas.List.Elements.{All-cons, All-nil, All-append}
 use Rattle.std.proofs.lemmas.List.{take-append-drop}
 use Rattle.kernel.specs.trees.Tree.{Tree, Leaf, Three, HNum, HTrue, HFalse, HIf}
 use Rattle.kernel.specs.tasks.Task.{TaskTree, SymbolTree}
-use Rattle.kernel.specs.rule_rows.Trees.{RuleTree, StepTree}
-use Rattle.name_tables.specs.name_entries.declared.names.NameEntry.{NameEntry}
-use Rattle.step_lines.specs.integer_words.Integers.{number_from, number_below, negative, integer}
+use Rattle.kernel.specs.rules.Trees.{RuleTree, StepTree}
+use Rattle.name_tables.specs.declared.name_entries.names.NameEntry.{NameEntry}
+use Rattle.step_lines.specs.word_tables.integers.Integers.{number_from, number_below, negative, integer}
 use Rattle.word_tables.specs.Words.{is_same_word, place_in_words}
 use Rattle.step_lines.specs.declared.rule_words.argument.ArgumentKind.{ArgumentKind}
 use Rattle.step_lines.specs.declared.rule_words.argument.ArgumentKind.TheVariants as arg
@@ -29,7 +29,7 @@ use Rattle.step_lines.specs.Steps.{Thing, TypeOf, PatternOf, ExpressionOf, StepO
 use Rattle.kernel.specs.tasks.Words.{IsLineWord}
 use Rattle.step_writing.specs.Named.{AreWords}
 use Rattle.step_writing.proofs.StepBack.{name_found, found_name}
-use Rattle.kernel.proofs.plain_laws.Bools.{and_both as both, same_number}
+use Rattle.tasks.proofs.plain_laws.Bools.{and_both as both, same_number}
 
 -- what a step in a chain was
 pub then_some : {A B : Type 0} (f : A → Option B) (o : Option A) (y : B) → option_and_then f o ≡ Some y → (x : A) × (o ≡ Some x) × (f x ≡ Some y)

@@ -11,10 +11,10 @@ use Rattle.kernel.specs.tasks.Vocabulary.{Vocabulary, of_task}
 use Rattle.kernel.specs.tasks.Open.{OpenTyped}
 use Rattle.kernel.specs.tasks.Valid.{IsGround}
 use Rattle.kernel.proofs.tasks.Closing.{typed_open}
-use Rattle.kernel.specs.rule_rows.Trees.{RuleTree, RReplace, StepTree, rule_trees, rule_types, step_or, sequents}
+use Rattle.kernel.specs.rules.Trees.{RuleTree, RReplace, StepTree, rule_trees, rule_types, step_or, sequents}
 use Rattle.kernel.specs.trees.Binding.{inst}
-use Rattle.kernel.specs.rule_rows.Forms.{equation_sides}
-use Rattle.kernel.specs.rule_rows.Rows.{IsRuleRow, IsTemplate, Adds}
+use Rattle.kernel.specs.rules.Forms.{equation_sides}
+use Rattle.kernel.specs.rules.Rows.{IsRuleRow, IsTemplate, Adds}
 use Rattle.kernel.specs.trees.Sorts.{type_of}
 use Rattle.kernel.specs.trees.Facts.{Each}
 use Rattle.kernel.specs.Right.{IsGroundExpression, IsRight, AreRight}
@@ -23,7 +23,7 @@ use Rattle.step_reading.specs.Lines.{IsGoodTree}
 use Rattle.step_writing.specs.tree_writing.Used.{IsUsed}
 use Rattle.step_writing.specs.tree_writing.Parts.{IsSubtree, StandsIn}
 use Rattle.step_writing.specs.Named.{rule_expressions, step_trees, IsSortedStep, AreSorted, IsLow, AreLow}
-use Rattle.kernel.proofs.plain_laws.Lists.{All-left as front_all, All-right as back_all}
+use Rattle.tasks.proofs.plain_laws.Lists.{All-left as front_all, All-right as back_all}
 use Rattle.step_lines.proofs.rule_words.ReadBack.{first_of, rest_of}
 
 -- a part is typed as far as it goes

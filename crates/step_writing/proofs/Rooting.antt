@@ -8,8 +8,8 @@ use Rattle.kernel.specs.trees.declared.TermId.{TermId}
 use Rattle.kernel.specs.trees.Tree.{Tree}
 use Rattle.kernel.specs.trees.Node.{tree_at, Holds}
 use Rattle.kernel.specs.tasks.Meaning.{trees_at}
-use Rattle.kernel.specs.rule_rows.declared.rule.Step.{Step}
-use Rattle.kernel.specs.rule_rows.Meaning.{rule_at, step_at, steps_at}
+use Rattle.kernel.specs.rules.declared.rule.Step.{Step}
+use Rattle.kernel.specs.rules.Meaning.{rule_at, step_at, steps_at}
 use Rattle.step_lines.specs.declared.rule_words.argument.Argument.{Argument}
 use Rattle.step_lines.specs.declared.rule_words.name.RuleName.{RuleName}
 use Rattle.step_lines.specs.rule_words.Arguments.{ArgumentTree, ANumber, ASymbol, AInteger, AExpression, AType, argument_at, arguments_at, ArgumentHeld, ArgumentsHeld}

@@ -2,7 +2,7 @@
 use Rattle.std.proofs.Common.{◌≡◌, ℕ, ℤ, List, [], ◌∷◌, ◌++◌, map, Option, Some, None, sym, refl, ap, subst, ◌∙◌, append-nil, append_assoc}
 use Rattle.std.specs.Option.{option_and_then, option_map}
 use Rattle.kernel.specs.trees.Tree.{Tree}
-use Rattle.kernel.specs.rule_rows.Trees.{RuleTree, RAnd, RAndThen, RBound, RCase, RClash, RClause, RCut, RDef, RDistinct, RExists, RFact, RFalse, RForall, RIfDef, RIff, RImp, RInject, RInv, RIrrefl, RKeep, RLetDef, RLinear, RMatchDef, RNotAnd, RNotAndThen, RNotExists, RNotForall, RNotIff, RNotImp, RNotNot, RNotOr, RNotOrElse, RNotTrue, ROr, ROrElse, RProject, RRefl, RReplace, RTrichotomy, rule_types}
+use Rattle.kernel.specs.rules.Trees.{RuleTree, RAnd, RAndThen, RBound, RCase, RClash, RClause, RCut, RDef, RDistinct, RExists, RFact, RFalse, RForall, RIfDef, RIff, RImp, RInject, RInv, RIrrefl, RKeep, RLetDef, RLinear, RMatchDef, RNotAnd, RNotAndThen, RNotExists, RNotForall, RNotIff, RNotImp, RNotNot, RNotOr, RNotOrElse, RNotTrue, ROr, ROrElse, RProject, RRefl, RReplace, RTrichotomy, rule_types}
 use Rattle.step_lines.specs.declared.rule_words.name.RuleName.{RuleName}
 use Rattle.step_lines.specs.declared.rule_words.name.RuleName.TheVariants as name
 use Rattle.step_lines.specs.rule_words.Arguments.{ArgumentTree, ANumber, ASymbol, AInteger, AExpression, AType, number_in, symbol_in, integer_in, expression_in, type_in}

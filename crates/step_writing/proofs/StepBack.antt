@@ -6,10 +6,10 @@ use Rattle.std.specs.Option.{option_and_then, option_map}
 use Rattle.std.specs.Str.{bytes_eq}
 use Rattle.kernel.specs.trees.Tree.{Tree}
 use Rattle.kernel.specs.tasks.Task.{TaskTree}
-use Rattle.kernel.specs.rule_rows.Trees.{RuleTree}
-use Rattle.name_tables.specs.name_entries.declared.names.NameOf.TheVariants.{Symbol}
-use Rattle.name_tables.specs.name_entries.declared.names.NameEntry.{NameEntry}
-use Rattle.step_lines.specs.integer_words.Integers.{integer}
+use Rattle.kernel.specs.rules.Trees.{RuleTree}
+use Rattle.name_tables.specs.declared.name_entries.names.NameOf.TheVariants.{Symbol}
+use Rattle.name_tables.specs.declared.name_entries.names.NameEntry.{NameEntry}
+use Rattle.step_lines.specs.word_tables.integers.Integers.{integer}
 use Rattle.step_lines.specs.declared.rule_words.argument.ArgumentKind.{ArgumentKind}
 use Rattle.step_lines.specs.declared.rule_words.argument.ArgumentKind.TheVariants as kind
 use Rattle.step_lines.specs.declared.rule_words.name.RuleName.{RuleName}

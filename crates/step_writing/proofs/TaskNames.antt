@@ -20,14 +20,14 @@ use Rattle.kernel.specs.tasks.Typing.{members, MakesTerms, IsUse, HasResult}
 use Rattle.kernel.specs.tasks.Valid.{IsGround, IsValid}
 use Rattle.kernel.proofs.tasks.Declared.{any_iff, contains_cases, contains_step, none_in, maker_made, usable_made, matched_made}
 use Rattle.kernel.specs.trees.Binding.{inst_types}
-use Rattle.kernel.specs.rule_rows.Trees.{RuleTree, RDef, RClause, RInv, StepTree, step_or, sequents}
+use Rattle.kernel.specs.rules.Trees.{RuleTree, RDef, RClause, RInv, StepTree, step_or, sequents}
 use Rattle.kernel.specs.tasks.Inversion.{inversion}
-use Rattle.kernel.specs.rule_rows.Rows.{IsRuleRow, Adds, IsAtTypes, equation, clauses}
+use Rattle.kernel.specs.rules.Rows.{IsRuleRow, Adds, IsAtTypes, equation, clauses}
 use Rattle.kernel.specs.Right.{IsRight, AreRight}
 use Rattle.kernel.specs.Open.{OpenIn}
-use Rattle.name_tables.specs.name_entries.declared.names.NameOf.{NameOf}
-use Rattle.name_tables.specs.name_entries.declared.names.NameOf.TheVariants.{Int, Rigid, Symbol}
-use Rattle.name_tables.specs.name_entries.declared.names.NameEntry.{NameEntry}
+use Rattle.name_tables.specs.declared.name_entries.names.NameOf.{NameOf}
+use Rattle.name_tables.specs.declared.name_entries.names.NameOf.TheVariants.{Int, Rigid, Symbol}
+use Rattle.name_tables.specs.declared.name_entries.names.NameEntry.{NameEntry}
 use Rattle.step_lines.specs.tree_lines.Named.{meaning_by, entry_meaning, entry_named, entry_type}
 use Rattle.step_lines.specs.tree_lines.Words.{each}
 use Rattle.name_tables.specs.Occurrences.{Occurrence, whole_occurrence}
@@ -40,7 +40,7 @@ use Rattle.kernel.specs.tasks.Words.{IsPlainByte, IsLineWord, NamesAreWords}
 use Rattle.step_writing.specs.Named.{IsName, AreWords, rule_symbols, step_trees, IsNamedTree, IsNamedStep, AreNamed}
 use Rattle.step_writing.proofs.Plain.{past_plain}
 use Rattle.step_writing.proofs.Rightness.{part_open, part_ground, step_open, step_ground, same_default}
-use Rattle.kernel.proofs.plain_laws.Bools.{and_both as both, same_number}
+use Rattle.tasks.proofs.plain_laws.Bools.{and_both as both, same_number}
 
 -- ---- each symbol of a task is in its table
 record HasThing (os : List Occurrence) (k : ℕ) : Type 0 where

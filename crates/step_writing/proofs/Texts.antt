@@ -9,11 +9,11 @@ use Rattle.std.specs.Option.{option_map}
 use Rattle.std.specs.List.{onto_first}
 use Rattle.kernel.specs.trees.Tree.{Tree}
 use Rattle.kernel.specs.tasks.Task.{TaskTree}
-use Rattle.kernel.specs.rule_rows.declared.rule.Step.{Step}
-use Rattle.kernel.specs.rule_rows.Trees.{StepTree, no_step, step_or}
-use Rattle.kernel.specs.rule_rows.Meaning.{step_at, steps_at}
+use Rattle.kernel.specs.rules.declared.rule.Step.{Step}
+use Rattle.kernel.specs.rules.Trees.{StepTree, no_step, step_or}
+use Rattle.kernel.specs.rules.Meaning.{step_at, steps_at}
 use Rattle.kernel.specs.Right.{last_starts}
-use Rattle.name_tables.specs.name_entries.declared.names.NameEntry.{NameEntry}
+use Rattle.name_tables.specs.declared.name_entries.names.NameEntry.{NameEntry}
 use Rattle.step_lines.specs.tree_lines.Words.{LineWord}
 use Rattle.step_lines.specs.tree_lines.Lines.{Earlier}
 use Rattle.step_lines.specs.Steps.{Thing, TypeOf, PatternOf, ExpressionOf, StepOf, line_made}

@@ -1,4 +1,4 @@
-pub use Rattle.step_reading.specs.name_entries as name_entries
+pub use Rattle.step_reading.specs.name_tables as name_tables
 pub use Rattle.kernel.specs as kernel
 pub use Rattle.step_reading.specs as step_reading
 pub use Rattle.name_tables.specs as name_tables

@@ -6,9 +6,9 @@ use Rattle.kernel.specs.trees.Sorts.{sort_of, IsExpression}
 use Rattle.kernel.specs.trees.declared.Sort.TheVariants.{Kind}
 use Rattle.kernel.specs.tasks.Words.{IsLineWord}
 use Rattle.step_lines.specs.rule_words.Arguments.{ArgumentTree, AExpression, AType}
-use Rattle.kernel.specs.rule_rows.Trees.{RuleTree, RForall, RNotExists, RCut, RRefl, RReplace, RLetDef, RIfDef, RMatchDef, RDef, RClause, RInv, RCase, RProject, RTrichotomy, RBound, StepTree, rule_types}
-use Rattle.name_tables.specs.name_entries.declared.names.NameOf.TheVariants.{Symbol}
-use Rattle.name_tables.specs.name_entries.declared.names.NameEntry.{NameEntry}
+use Rattle.kernel.specs.rules.Trees.{RuleTree, RForall, RNotExists, RCut, RRefl, RReplace, RLetDef, RIfDef, RMatchDef, RDef, RClause, RInv, RCase, RProject, RTrichotomy, RBound, StepTree, rule_types}
+use Rattle.name_tables.specs.declared.name_entries.names.NameOf.TheVariants.{Symbol}
+use Rattle.name_tables.specs.declared.name_entries.names.NameEntry.{NameEntry}
 use Rattle.step_writing.specs.tree_writing.Spelt.{IsSpelt}
 use Rattle.step_writing.specs.tree_writing.Parts.{IsSubtree}
 use Rattle.step_writing.specs.tree_writing.Whole.{TopNamed}

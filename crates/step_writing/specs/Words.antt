@@ -5,12 +5,12 @@ use Rattle.kernel.specs.trees.Tree.{Tree}
 use Rattle.kernel.specs.trees.Node.{tree_at, Holds}
 use Rattle.kernel.specs.trees.Sorts.{sort_of, IsExpression}
 use Rattle.kernel.specs.tasks.Task.{TaskTree}
-use Rattle.name_tables.specs.name_entries.declared.names.NameOf.TheVariants.{Symbol}
-use Rattle.name_tables.specs.name_entries.declared.names.NameEntry.{NameEntry}
-use Rattle.step_lines.specs.integer_words.Integers.{integer}
-use Rattle.kernel.specs.rule_rows.declared.rule.Step.{Step}
-use Rattle.kernel.specs.rule_rows.Trees.{RuleTree, rule_types, StepTree}
-use Rattle.kernel.specs.rule_rows.Meaning.{step_at}
+use Rattle.name_tables.specs.declared.name_entries.names.NameOf.TheVariants.{Symbol}
+use Rattle.name_tables.specs.declared.name_entries.names.NameEntry.{NameEntry}
+use Rattle.step_lines.specs.word_tables.integers.Integers.{integer}
+use Rattle.kernel.specs.rules.declared.rule.Step.{Step}
+use Rattle.kernel.specs.rules.Trees.{RuleTree, rule_types, StepTree}
+use Rattle.kernel.specs.rules.Meaning.{step_at}
 use Rattle.step_lines.specs.declared.rule_words.argument.Argument.{Argument}
 use Rattle.step_lines.specs.declared.rule_words.argument.Argument.TheVariants as made
 use Rattle.step_lines.specs.rule_words.Arguments.{ArgumentTree, ANumber, ASymbol, AInteger, AExpression, AType}

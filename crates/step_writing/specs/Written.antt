@@ -1,11 +1,11 @@
 -- The text of a step file as it is written, and what it is read back as.
 use Rattle.std.specs.Prelude.{◌≡◌, ℕ, List, [], ◌∷◌, ◌++◌, map, take, Option, Some}
 use Rattle.kernel.specs.tasks.Task.{TaskTree}
-use Rattle.kernel.specs.rule_rows.Trees.{StepTree}
-use Rattle.kernel.specs.rule_rows.declared.rule.Step.{Step}
-use Rattle.kernel.specs.rule_rows.Meaning.{steps_at}
+use Rattle.kernel.specs.rules.Trees.{StepTree}
+use Rattle.kernel.specs.rules.declared.rule.Step.{Step}
+use Rattle.kernel.specs.rules.Meaning.{steps_at}
 use Rattle.kernel.specs.Right.{AreRight, Closes}
-use Rattle.name_tables.specs.name_entries.declared.names.NameEntry.{NameEntry}
+use Rattle.name_tables.specs.declared.name_entries.names.NameEntry.{NameEntry}
 use Rattle.step_lines.specs.tree_lines.Words.{LineWord}
 use Rattle.step_lines.specs.tree_lines.Lines.{Earlier}
 use Rattle.step_lines.specs.Steps.{Thing, line_made}

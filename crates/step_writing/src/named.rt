@@ -1,8 +1,8 @@
 // Whether the names of a table can be words of lines, and whether rules name symbols that have names.
 // They depend on names by symbols; the writer of files depends on them.
 ghost use Rattle.std.specs.Prelude.{◌≡◌, ◌↔◌, [], All, IsTrue, codes};
-ghost use Rattle.name_tables.specs.name_entries.declared.names.NameOf.TheVariants.{Symbol};
-ghost use Rattle.kernel.specs.rule_rows.Meaning.{rule_at, steps_at};
+ghost use Rattle.name_tables.specs.declared.name_entries.names.NameOf.TheVariants.{Symbol};
+ghost use Rattle.kernel.specs.rules.Meaning.{rule_at, steps_at};
 ghost use Rattle.step_writing.specs.tree_writing.Spelt.{IsSpelt, AreNamesOf};
 ghost use Rattle.kernel.specs.tasks.Words.{IsPlainByte, IsLineWord};
 ghost use Rattle.step_writing.specs.Named.{IsName, AreWords, rule_symbols, SymbolsNamed};

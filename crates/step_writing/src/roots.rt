@@ -3,7 +3,7 @@
 ghost use Rattle.std.specs.Prelude.{◌≡◌, ◌++◌, ◌∷◌, [], All, flat_map, IfOk, OnOk};
 ghost use Rattle.kernel.specs.trees.Node.{Holds};
 ghost use Rattle.kernel.specs.tasks.Meaning.{trees_at};
-ghost use Rattle.kernel.specs.rule_rows.Meaning.{step_at, steps_at, StepHeld, StepsHeld};
+ghost use Rattle.kernel.specs.rules.Meaning.{step_at, steps_at, StepHeld, StepsHeld};
 ghost use Rattle.step_lines.specs.rule_words.Arguments.{argument_at, arguments_at, ArgumentHeld};
 ghost use Rattle.step_writing.specs.Named.{step_trees, trees_in};
 

@@ -3,8 +3,8 @@
 ghost use Rattle.std.specs.Prelude.{◌≡◌, ◌++◌, ◌∷◌, [], All, OnOk};
 ghost use Rattle.kernel.specs.trees.Node.{tree_at, Holds};
 ghost use Rattle.kernel.specs.tasks.Meaning.{trees_at};
-ghost use Rattle.name_tables.specs.name_entries.declared.names.NameOf.TheVariants.{Symbol};
-ghost use Rattle.kernel.specs.rule_rows.Meaning.{rule_at, step_at, RuleHeld, StepHeld};
+ghost use Rattle.name_tables.specs.declared.name_entries.names.NameOf.TheVariants.{Symbol};
+ghost use Rattle.kernel.specs.rules.Meaning.{rule_at, step_at, RuleHeld, StepHeld};
 ghost use Rattle.step_lines.specs.rule_words.Arguments.{ASymbol, argument_at, arguments_at};
 ghost use Rattle.step_writing.specs.tree_writing.Spelt.{IsSpelt, AreNamesOf};
 ghost use Rattle.step_writing.specs.tree_writing.Referring.{HasLine};

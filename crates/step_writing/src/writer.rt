@@ -5,7 +5,7 @@ ghost use Rattle.step_writing.specs.tree_writing.Spelt.{AreNamesOf};
 ghost use Rattle.kernel.specs.trees.Node.{Grows};
 ghost use Rattle.kernel.specs.tasks.Meaning.{task_at, TaskHeld};
 ghost use Rattle.kernel.specs.tasks.Valid.{IsValid};
-ghost use Rattle.kernel.specs.rule_rows.Meaning.{steps_at, StepsHeld};
+ghost use Rattle.kernel.specs.rules.Meaning.{steps_at, StepsHeld};
 ghost use Rattle.kernel.specs.Right.{Closes};
 ghost use Rattle.name_tables.specs.Tables.{task_names};
 ghost use Rattle.step_reading.specs.Lines.{StepsOf};

@@ -4,7 +4,7 @@ use Rattle.std.proofs.Common.{◌≡◌, ◌↔◌, ℕ, zero, suc, ◌+◌, ◌
 use Rattle.std.proofs.lemmas.List.{length-append}
 use Rattle.trees.specs.Tree.{Tree, Leaf, One, Two, Three, Head, HTyApp, HBound, binders_over, loose}
 use Rattle.trees.specs.Sorts.{Fits, WellSorted}
-use Rattle.trees.proofs.Changes.{one_loose_le}
+use Rattle.trees.specs.laws.Changes.{one_loose_le}
 use Rattle.tasks.specs.Vocabulary.{Vocabulary}
 use Rattle.tasks.specs.Typing.{OneTyped, TypedUnder, bound_types}
 use Rattle.tasks.specs.Open.{VariableHas, VariablesHave, one_has, OneOpen, TopOpen, OpenTyped, PartsAreOpen}

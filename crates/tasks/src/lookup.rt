@@ -15,7 +15,7 @@ use crate::roles::{makes, role_in};
 use crate::symbols::made_by;
 use crate::{Body, Decl, Fact, Proposition, Role, Task, nth_proposition};
 use std::alloc::{AllocError, Global};
-use term_store::Store;
+use trees::store::Store;
 
 /// An index of a task: where each symbol is made, its propositions and its facts.
 #[derive(Drop)]

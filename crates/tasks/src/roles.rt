@@ -8,8 +8,8 @@ ghost use Rattle.tasks.specs.Looking.{role_at, RoleHeld};
 ghost use Rattle.trees.specs.Node.{Holds};
 
 use crate::{Alg, Body, Con, Def, Ind};
-use term_store::Store;
 use trees::TermId;
+use trees::store::Store;
 
 /// What a task's declarations make a symbol as.
 #[derive(Clone, Copy)]

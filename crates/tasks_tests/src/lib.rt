@@ -3,8 +3,14 @@
 #![tactic(auto)]
 
 #[cfg(test)]
+mod binders;
+#[cfg(test)]
+mod linear;
+#[cfg(test)]
 mod nodes;
 #[cfg(test)]
 mod rows;
 #[cfg(test)]
 mod small;
+#[cfg(test)]
+mod store;

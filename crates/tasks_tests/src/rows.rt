@@ -8,10 +8,10 @@ use crate::nodes::NODES;
 use crate::small::small_task;
 use std::alloc::Global;
 use std::process::Abort;
+use tasks::typed_trees::well_typed;
 use tasks::{Fact, Index, Lookup, Role, Task, nodes};
-use term_store::{Grow, Store};
+use trees::store::{Grow, Store};
 use trees::{Sort, TermId};
-use typing::well_typed;
 
 const MEMORY: &str = "out of memory";
 

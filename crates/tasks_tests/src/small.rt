@@ -4,13 +4,12 @@ ghost use Rattle.std.specs.Prelude.{◌≡◌, All, IfSome};
 ghost use Rattle.trees.specs.Node.{Holds};
 ghost use Rattle.tasks.specs.Meaning.{SymbolHeld, ConHeld, BodyHeld, DeclHeld, TaskHeld};
 
-use outside::{Seq, Text};
 use std::alloc::Global;
 use std::process::Abort;
 use std::rc::Rc;
-use tasks::{Alg, Body, Con, Decl, Def, Ind, Signature, SymbolInfo, SymbolKind, Task};
-use term_store::Store;
+use tasks::{Alg, Body, Con, Decl, Def, Ind, Seq, Signature, SymbolInfo, SymbolKind, Task, Text};
 use trees::TermId;
+use trees::store::Store;
 
 const MEMORY: &str = "out of memory";
 

@@ -5,52 +5,52 @@ use Rattle.tasks.specs.trees.Tree.{Tree}
 use Rattle.tasks.specs.trees.Node.{Grows}
 use Rattle.tasks.specs.Task.{SymbolTree, BodyTree, MakesType, Makes, Defines, Induces, Constructs, Says, DeclarationTree}
 use Rattle.tasks.specs.Rigid.{rigid_symbol}
-use Rattle.valid_tasks.specs.clones.Mapped.{Map}
-use Rattle.syntax_why.specs.Lexeme.{Word}
-use Rattle.syntax_why.specs.declared.names.Name.{Name}
-use Rattle.syntax_why.specs.declared.names.Path.{Path}
-use Rattle.syntax_why.specs.declared.declarations.Link.{Link}
-use Rattle.syntax_why.specs.Declarations.{Element}
+use Rattle.elaboration_laws.specs.clones.Mapped.{Map}
+use Rattle.surface.specs.Lexeme.{Word}
+use Rattle.surface.specs.declared.names.Name.{Name}
+use Rattle.surface.specs.declared.names.Path.{Path}
+use Rattle.surface.specs.declared.declarations.Link.{Link}
+use Rattle.surface.specs.Declarations.{Element}
 use Rattle.theory_states.specs.declared.moves.Move.{Move}
 use Rattle.theory_states.specs.Moves.{brought, handed}
-use Rattle.valid_tasks.specs.elab_walk.Scoped.{IsScopedEntry}
-use Rattle.valid_tasks.specs.Scopes.{IsSubvocabulary}
-use Rattle.valid_tasks.specs.Moves.{AreTypedMoves}
-use Rattle.valid_tasks.proofs.MovedScopes.{moves_more}
-use Rattle.valid_tasks.specs.Lists.{after}
-use Rattle.valid_tasks.specs.Built.{IsBuiltRight}
-use Rattle.valid_tasks.proofs.Distinct.{IsDistinct, pairs_distinct}
-use Rattle.valid_tasks.proofs.Grown.{more_part, front_distinct}
+use Rattle.elaboration_laws.specs.open_types.Scoped.{IsScopedEntry}
+use Rattle.elaboration_laws.specs.Scopes.{IsSubvocabulary}
+use Rattle.elaboration_laws.specs.Moves.{AreTypedMoves}
+use Rattle.elaboration_laws.proofs.MovedScopes.{moves_more}
+use Rattle.elaboration_laws.specs.Lists.{after}
+use Rattle.elaboration_laws.specs.Built.{IsBuiltRight}
+use Rattle.elaboration_laws.proofs.Distinct.{IsDistinct, pairs_distinct}
+use Rattle.elaboration_laws.proofs.Grown.{more_part, front_distinct}
 use Rattle.theory_states.specs.declared.states.AxiomAt.{AxiomAt}
 use Rattle.theory_states.specs.States.{KnownTree, StateTree, at_places, visible_in, visible_now}
 use Rattle.theory_states.specs.Uses.{path_text, last_part, alias_text}
-use Rattle.valid_tasks.specs.TypedStates.{IsTypedState}
-use Rattle.valid_tasks.specs.Sound.{IsSoundAmong, IsSoundAxiom, IsSoundKnown, IsApart, IsSoundState}
-use Rattle.valid_tasks.specs.Steps.{CopyStep, declarations_of, made_from}
-use Rattle.valid_tasks.proofs.CloneSteps.{clone_sound}
-use Rattle.valid_tasks.specs.Cloned.{IsAfterClone, IsSoundClone}
-use Rattle.valid_tasks.proofs.Cloned.{state_cloned}
-use Rattle.valid_tasks.specs.clone_elements.Left.{no_declaration, decl_or}
-use Rattle.valid_tasks.specs.clone_elements.Rights.{rights_tuples, rights_fault}
-use Rattle.valid_tasks.specs.clone_elements.Plans.{fates_of, kept}
-use Rattle.valid_tasks.specs.clone_copies.Origins.{Axioms, no_axioms, with_axioms, axioms_at, origin_of}
-use Rattle.valid_tasks.specs.clone_copies.Entries.{entries_copied}
-use Rattle.valid_tasks.specs.clone_copies.Moves.{AreMovesMapped}
-use Rattle.valid_tasks.specs.clone_copies.Places.{Copying, with_places}
-use Rattle.valid_tasks.specs.Placed.{ArePlaced}
-use Rattle.clone_theories.specs.Cloned.{symbols_tupled, sides_in, map_in, AreTold, within_of, copying_in, with_copied_entries, with_names, IsCloned}
-use Rattle.valid_tasks.specs.PlaceSteps.{copy_steps_at}
-use Rattle.valid_tasks.proofs.PlaceSteps.{places_made, cloned_places}
-use Rattle.valid_tasks.proofs.Moves.{moves_become}
+use Rattle.elaboration_laws.specs.TypedStates.{IsTypedState}
+use Rattle.elaboration_laws.specs.Sound.{IsSoundAmong, IsSoundAxiom, IsSoundKnown, IsApart, IsSoundState}
+use Rattle.elaboration_laws.specs.Steps.{CopyStep, declarations_of, made_from}
+use Rattle.elaboration_laws.proofs.CloneSteps.{clone_sound}
+use Rattle.elaboration_laws.specs.Cloned.{IsAfterClone, IsSoundClone}
+use Rattle.elaboration_laws.proofs.Cloned.{state_cloned}
+use Rattle.elaboration_laws.specs.clones.clone_elements.Left.{no_declaration, decl_or}
+use Rattle.elaboration_laws.specs.clones.clone_elements.Rights.{rights_tuples, rights_fault}
+use Rattle.elaboration_laws.specs.clones.clone_elements.Plans.{fates_of, kept}
+use Rattle.elaboration_laws.specs.clones.clone_copies.Origins.{Axioms, no_axioms, with_axioms, axioms_at, origin_of}
+use Rattle.elaboration_laws.specs.clones.clone_copies.Entries.{entries_copied}
+use Rattle.elaboration_laws.specs.clones.clone_copies.Moves.{AreMovesMapped}
+use Rattle.elaboration_laws.specs.clones.clone_copies.Places.{Copying, with_places}
+use Rattle.elaboration_laws.specs.Placed.{ArePlaced}
+use Rattle.theories.specs.cloning.Cloned.{symbols_tupled, sides_in, map_in, AreTold, within_of, copying_in, with_copied_entries, with_names, IsCloned}
+use Rattle.elaboration_laws.specs.PlaceSteps.{copy_steps_at}
+use Rattle.elaboration_laws.proofs.PlaceSteps.{places_made, cloned_places}
+use Rattle.elaboration_laws.proofs.Moves.{moves_become}
 use Rattle.theories.specs.Plain.{IsSaid, IsPlainAxiom, IsPlainTheory, IsPlainKnown, ArePlainTheories, IsPlainState}
 use Rattle.theories.proofs.Steps.{steps_declarations, steps_taken}
 use Rattle.theories.proofs.Fits.{tupled_built, keeps}
 use Rattle.theories.proofs.Plain.{handed_plain, moves_mapped, known_more, opened_more}
 use Rattle.theories.proofs.Goals.{IsSaidAt, IsReached, all_reached, built, scoped, is_clone}
 use Rattle.std.proofs.lemmas.Option.{slice_get-get_or as some_at}
-use Rattle.valid_tasks.proofs.Numbers.{later}
+use Rattle.elaboration_laws.proofs.Numbers.{later}
 use Rattle.tasks.proofs.plain_laws.Lists.{All-left as front_all}
-use Rattle.valid_tasks.proofs.Scoped.{found_in}
+use Rattle.elaboration_laws.proofs.Scoped.{found_in}
 use Rattle.tasks.proofs.plain_laws.Bools.{same_number}
 
 -- ---- lists

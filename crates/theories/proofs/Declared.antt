@@ -3,18 +3,18 @@ use Rattle.std.proofs.Common.{ℕ, List, [], ◌∷◌, length, All, Option, Som
 use Rattle.std.specs.Option.{IfSome}
 use Rattle.std.proofs.lemmas.List.Elements.{All-append, All-push}
 use Rattle.tasks.specs.Task.{DeclarationTree}
-use Rattle.syntax_why.specs.Lexeme.{Word}
-use Rattle.syntax_why.specs.Declarations.{write_decl}
-use Rattle.syntax_why.specs.Declarations as source
-use Rattle.syntax_why.specs.declared.declarations.PropKind.{PropKind}
-use Rattle.syntax_why.specs.declared.declarations.PropKind.TheVariants as kind
-use Rattle.valid_tasks.specs.elab_names.Abstract.{Expression}
-use Rattle.valid_tasks.specs.elab_parts.Declarations.{Declaration, declaration}
-use Rattle.valid_tasks.specs.elab_terms.Outcomes.{proposition_seen}
+use Rattle.surface.specs.Lexeme.{Word}
+use Rattle.surface.specs.Declarations.{write_decl}
+use Rattle.surface.specs.Declarations as source
+use Rattle.surface.specs.declared.declarations.PropKind.{PropKind}
+use Rattle.surface.specs.declared.declarations.PropKind.TheVariants as kind
+use Rattle.elaboration_laws.specs.name_resolution.Abstract.{Expression}
+use Rattle.elaboration_laws.specs.elab_groups.parts.Declarations.{Declaration, declaration}
+use Rattle.elaboration_laws.specs.elab_declarations.Outcomes.{proposition_seen}
 use Rattle.theory_states.specs.declared.states.AxiomAt.{AxiomAt}
 use Rattle.theory_states.specs.States.{StateTree, with_declaration, with_declarations}
-use Rattle.valid_tasks.specs.TypedStates.{state_setting}
-use Rattle.theory_declarations.specs.Declared.{with_proposed, proposition_in, known_by, with_named, IsDeclared}
+use Rattle.elaboration_laws.specs.TypedStates.{state_setting}
+use Rattle.theories.specs.declaring.Declared.{with_proposed, proposition_in, known_by, with_named, IsDeclared}
 use Rattle.tasks.specs.Words.{IsScopedName}
 use Rattle.theories.specs.Lexemes.{AreWordLexemes}
 use Rattle.theories.specs.Names.{HasWordNames}

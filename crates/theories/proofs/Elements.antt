@@ -7,24 +7,24 @@ use Rattle.tasks.specs.trees.Tree.{Tree}
 use Rattle.tasks.specs.Task.{SymbolTree, symbol_or, MakesType, Makes}
 use Rattle.tasks.specs.Vocabulary.{Vocabulary}
 use Rattle.tasks.specs.Valid.{IsTypeIn}
-use Rattle.valid_tasks.specs.clones.Mapped.{Map}
-use Rattle.syntax_why.specs.declared.declarations.SymbolWord.{SymbolWord}
-use Rattle.syntax_why.specs.declared.declarations.PropKind.{PropKind}
-use Rattle.syntax_why.specs.Declarations.{Element, type_element, symbol_element, prop_element, all_axioms}
-use Rattle.valid_tasks.proofs.Places.{none_here, cases_of, here}
-use Rattle.valid_tasks.specs.clone_elements.declared.plans.Fate.{Fate}
-use Rattle.valid_tasks.specs.clone_elements.declared.plans.Fate.TheVariants.{Replaced, Becomes}
-use Rattle.valid_tasks.specs.clone_elements.Left.{Origin, decl_or, abstract_symbol, symbol_at_place}
-use Rattle.valid_tasks.specs.clone_elements.Rights.{RightTree, type_right, symbol_right, no_right}
-use Rattle.valid_tasks.specs.clone_elements.Plans.{SideTree, PlacedFates, element_fate, with_fate, with_side, with_sides, is_replaced, type_with, type_for, replaced_types, symbol_for, symbols_replaced}
-use Rattle.valid_tasks.specs.clone_elements.Elements.{has_vars, is_wrong, is_kind_of_word, IsSameSignature, IsRightSide, SideTold, SidesTold}
-use Rattle.valid_tasks.specs.Sides.{IsTypedRight, IsTypedSide}
+use Rattle.elaboration_laws.specs.clones.Mapped.{Map}
+use Rattle.surface.specs.declared.declarations.SymbolWord.{SymbolWord}
+use Rattle.surface.specs.declared.declarations.PropKind.{PropKind}
+use Rattle.surface.specs.Declarations.{Element, type_element, symbol_element, prop_element, all_axioms}
+use Rattle.elaboration_laws.proofs.Places.{none_here, cases_of, here}
+use Rattle.elaboration_laws.specs.clones.declared.clone_elements.plans.Fate.{Fate}
+use Rattle.elaboration_laws.specs.clones.declared.clone_elements.plans.Fate.TheVariants.{Replaced, Becomes}
+use Rattle.elaboration_laws.specs.clones.clone_elements.Left.{Origin, decl_or, abstract_symbol, symbol_at_place}
+use Rattle.elaboration_laws.specs.clones.clone_elements.Rights.{RightTree, type_right, symbol_right, no_right}
+use Rattle.elaboration_laws.specs.clones.clone_elements.Plans.{SideTree, PlacedFates, element_fate, with_fate, with_side, with_sides, is_replaced, type_with, type_for, replaced_types, symbol_for, symbols_replaced}
+use Rattle.elaboration_laws.specs.clones.clone_elements.Elements.{has_vars, is_wrong, is_kind_of_word, IsSameSignature, IsRightSide, SideTold, SidesTold}
+use Rattle.elaboration_laws.specs.Sides.{IsTypedRight, IsTypedSide}
 use Rattle.theories.proofs.Lefts.{IsKindOf, IsLeftType, IsLeftSymbol, IsLeft, IsFormed, IsRead}
 use Rattle.std.proofs.lemmas.Bool.{or_parts as right_both}
-use Rattle.valid_tasks.proofs.elab_walk.Walking.{not_not as not_false}
-use Rattle.valid_tasks.proofs.Mapped.{only_here}
+use Rattle.elaboration_laws.proofs.open_types.Walking.{not_not as not_false}
+use Rattle.elaboration_laws.proofs.Mapped.{only_here}
 use Rattle.tasks.proofs.plain_laws.Bools.{same_number}
-use Rattle.valid_tasks.proofs.Widths.{same_width as itself}
+use Rattle.elaboration_laws.proofs.Widths.{same_width as itself}
 
 pub is_replaced_as : (o : Option Fate) → is_replaced o ≡ true → o ≡ Some Replaced
 is_replaced_as (Some Replaced) q = refl

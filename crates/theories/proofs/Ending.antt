@@ -8,29 +8,29 @@ use Rattle.tasks.specs.trees.Tree.{Tree}
 use Rattle.tasks.specs.declared.declaration.Decl.{Decl}
 use Rattle.tasks.specs.Task.{SymbolTree, DeclarationTree, int_symbol}
 use Rattle.tasks.specs.Vocabulary.{of_signature}
-use Rattle.valid_tasks.specs.names_space.Names.{empty_names}
-use Rattle.valid_tasks.specs.elab_parts.Entries.{IsSignature}
-use Rattle.valid_tasks.specs.elab_parts.Outcomes.{Setting}
-use Rattle.valid_tasks.proofs.Begin.{begins}
-use Rattle.valid_tasks.proofs.TaskOutcomes.{begins as begins_built}
-use Rattle.valid_tasks.specs.Moves.{AreTypedMoves}
+use Rattle.elaboration_laws.specs.scopes.Names.{empty_names}
+use Rattle.elaboration_laws.specs.elab_groups.parts.Entries.{IsSignature}
+use Rattle.elaboration_laws.specs.elab_groups.parts.Outcomes.{Setting}
+use Rattle.elaboration_laws.proofs.Begin.{begins}
+use Rattle.elaboration_laws.proofs.TaskOutcomes.{begins as begins_built}
+use Rattle.elaboration_laws.specs.Moves.{AreTypedMoves}
 use Rattle.tasks.specs.Meaning.{symbols_at, declaration_at, declarations_at, SymbolHeld, DeclHeld}
 use Rattle.tasks.specs.trees.declared.TermId.{TermId}
 use Rattle.tasks.specs.trees.Node.{Holds}
 use Rattle.tasks.specs.declared.signature.SymbolInfo.{SymbolInfo}
-use Rattle.valid_tasks.specs.elab_walk.Drafts.{HoldsType, SymbolTyped}
-use Rattle.valid_tasks.specs.goal_tasks.Theories.{KnownTheoryTree, TheoriesTree}
-use Rattle.valid_tasks.specs.goal_tasks.declared.theories.Theory.{Theory}
+use Rattle.elaboration_laws.specs.open_types.Drafts.{HoldsType, SymbolTyped}
+use Rattle.elaboration_laws.specs.theory_states.goal_tasks.Theories.{KnownTheoryTree, TheoriesTree}
+use Rattle.elaboration_laws.specs.theory_states.declared.goal_tasks.theories.Theory.{Theory}
 use Rattle.tasks.specs.declared.signature.Signature.{Signature}
-use Rattle.valid_tasks.specs.goal_tasks.Meaning.{placed, goal_at, theory_at, TheoryHeld}
+use Rattle.elaboration_laws.specs.theory_states.goal_tasks.Meaning.{placed, goal_at, theory_at, TheoryHeld}
 use Rattle.theory_states.specs.declared.states.KnownTheory.{KnownTheory}
 use Rattle.theory_states.specs.declared.states.Opened.{Opened}
 use Rattle.theory_states.specs.declared.states.Typed.{Typed}
 use Rattle.theory_states.specs.States.{KnownTree, OpenedTree, StateTree, at_places, known_as, opened_empty}
 use Rattle.theory_states.specs.Meaning.{known_at, opened_at, state_at, KnownTheoryHeld, OpenedHeld, TypedHeld}
-use Rattle.valid_tasks.specs.Placed.{IsPlacedEntry, ArePlaced}
-use Rattle.valid_tasks.specs.TypedStates.{AreTypedTheories, IsTypedState}
-use Rattle.valid_tasks.proofs.Keeping.{begun_typed, ended_typed}
+use Rattle.elaboration_laws.specs.Placed.{IsPlacedEntry, ArePlaced}
+use Rattle.elaboration_laws.specs.TypedStates.{AreTypedTheories, IsTypedState}
+use Rattle.elaboration_laws.proofs.Keeping.{begun_typed, ended_typed}
 use Rattle.theories.specs.Files.{IsTheoryBegun, IsEnded, visible_theory, theories_of, nothing_known}
 use Rattle.theories.specs.Ints.{int_entries}
 use Rattle.theories.specs.Right.{IsStateRight, AreTheoriesRight, IsPath, between_at}

@@ -11,43 +11,43 @@ use Rattle.tasks.specs.Roles.{is_constructor, role_in}
 use Rattle.tasks.specs.Vocabulary.{Vocabulary, of_signature}
 use Rattle.tasks.specs.Typing.{entry}
 use Rattle.tasks.specs.Valid.{IsTypeIn, HasTypes, IsTypeEntry, IsSignatureOf, IsValidBody, IsValidDecl}
-use Rattle.valid_tasks.specs.clones.Mapped.{Map}
-use Rattle.syntax_why.specs.Lexeme.{Word}
-use Rattle.syntax_why.specs.Declarations.{Element}
-use Rattle.syntax_why.specs.declared.declarations.PropKind.{PropKind}
-use Rattle.syntax_why.specs.declared.declarations.PropKind.TheVariants as kind
-use Rattle.valid_tasks.specs.clones.Copies.{entry_copied}
-use Rattle.valid_tasks.specs.elab_parts.Entries.{builtin}
-use Rattle.valid_tasks.specs.Scopes.{is_projection_kind, IsSubvocabulary, IsSymbolNumber}
-use Rattle.valid_tasks.proofs.Extended.{further}
-use Rattle.valid_tasks.specs.Valid.{IsTypedSetting}
-use Rattle.valid_tasks.specs.Lists.{is_built, after}
-use Rattle.valid_tasks.proofs.Begin.{agrees}
-use Rattle.valid_tasks.proofs.Lists.{list_valid}
-use Rattle.valid_tasks.specs.Built.{IsBuiltRight}
-use Rattle.valid_tasks.specs.Tasks.{AreSound}
-use Rattle.valid_tasks.proofs.Grown.{more_part, sound_more}
-use Rattle.valid_tasks.specs.Morphisms.{TypeBecomes, KindBecomes, HasMappedTypes}
+use Rattle.elaboration_laws.specs.clones.Mapped.{Map}
+use Rattle.surface.specs.Lexeme.{Word}
+use Rattle.surface.specs.Declarations.{Element}
+use Rattle.surface.specs.declared.declarations.PropKind.{PropKind}
+use Rattle.surface.specs.declared.declarations.PropKind.TheVariants as kind
+use Rattle.elaboration_laws.specs.clones.Copies.{entry_copied}
+use Rattle.elaboration_laws.specs.elab_groups.parts.Entries.{builtin}
+use Rattle.elaboration_laws.specs.Scopes.{is_projection_kind, IsSubvocabulary, IsSymbolNumber}
+use Rattle.elaboration_laws.proofs.Extended.{further}
+use Rattle.elaboration_laws.specs.Valid.{IsTypedSetting}
+use Rattle.elaboration_laws.specs.Lists.{is_built, after}
+use Rattle.elaboration_laws.proofs.Begin.{agrees}
+use Rattle.elaboration_laws.proofs.Lists.{list_valid}
+use Rattle.elaboration_laws.specs.Built.{IsBuiltRight}
+use Rattle.elaboration_laws.specs.Tasks.{AreSound}
+use Rattle.elaboration_laws.proofs.Grown.{more_part, sound_more}
+use Rattle.elaboration_laws.specs.Morphisms.{TypeBecomes, KindBecomes, HasMappedTypes}
 use Rattle.theory_states.specs.States.{KnownTree, StateTree, visible_in, visible_now}
-use Rattle.valid_tasks.specs.TypedStates.{state_setting, IsTypedState}
-use Rattle.valid_tasks.specs.Sound.{IsSoundKnown, IsApart, IsSoundState}
-use Rattle.valid_tasks.proofs.Places.{here, in_places}
-use Rattle.valid_tasks.specs.Cloning.{IsImage, BecomesNew, IsFixed, KeepsBuilt}
-use Rattle.valid_tasks.specs.Steps.{copies, leaves, joins, StepFits}
-use Rattle.valid_tasks.proofs.Vocabularies.{made_below}
-use Rattle.valid_tasks.proofs.Trials.{signatures_agree}
-use Rattle.valid_tasks.specs.clone_elements.Left.{Origin, no_declaration, decl_or, last_place}
-use Rattle.valid_tasks.specs.clone_elements.Rights.{rights_tuples, rights_fault}
-use Rattle.valid_tasks.specs.clone_elements.Plans.{SideTree, PlacedFates, no_fates, fates_of, is_replaced, kind_or, has_all, types_replaced, symbols_replaced, kept}
-use Rattle.valid_tasks.specs.clone_copies.Origins.{is_own, axioms_at, origin_of}
-use Rattle.valid_tasks.specs.clone_copies.Entries.{entries_copied}
-use Rattle.valid_tasks.specs.clone_copies.Places.{Copying}
-use Rattle.valid_tasks.specs.Placed.{ArePlaced}
-use Rattle.valid_tasks.specs.Sides.{IsTypedSide, with_rights}
-use Rattle.valid_tasks.proofs.Rights.{all_typed, rights_typed, rights_built}
-use Rattle.valid_tasks.proofs.Copies.{or_typed, tupled_placed}
-use Rattle.clone_theories.specs.Cloned.{symbols_tupled, sides_in, tried_in, map_in, AreTold, copying_in}
-use Rattle.valid_tasks.specs.PlaceSteps.{step_as, step_of, copy_step_at, copy_steps_at}
+use Rattle.elaboration_laws.specs.TypedStates.{state_setting, IsTypedState}
+use Rattle.elaboration_laws.specs.Sound.{IsSoundKnown, IsApart, IsSoundState}
+use Rattle.elaboration_laws.proofs.Places.{here, in_places}
+use Rattle.elaboration_laws.specs.Cloning.{IsImage, BecomesNew, IsFixed, KeepsBuilt}
+use Rattle.elaboration_laws.specs.Steps.{copies, leaves, joins, StepFits}
+use Rattle.elaboration_laws.proofs.Vocabularies.{made_below}
+use Rattle.elaboration_laws.proofs.Trials.{signatures_agree}
+use Rattle.elaboration_laws.specs.clones.clone_elements.Left.{Origin, no_declaration, decl_or, last_place}
+use Rattle.elaboration_laws.specs.clones.clone_elements.Rights.{rights_tuples, rights_fault}
+use Rattle.elaboration_laws.specs.clones.clone_elements.Plans.{SideTree, PlacedFates, no_fates, fates_of, is_replaced, kind_or, has_all, types_replaced, symbols_replaced, kept}
+use Rattle.elaboration_laws.specs.clones.clone_copies.Origins.{is_own, axioms_at, origin_of}
+use Rattle.elaboration_laws.specs.clones.clone_copies.Entries.{entries_copied}
+use Rattle.elaboration_laws.specs.clones.clone_copies.Places.{Copying}
+use Rattle.elaboration_laws.specs.Placed.{ArePlaced}
+use Rattle.elaboration_laws.specs.Sides.{IsTypedSide, with_rights}
+use Rattle.elaboration_laws.proofs.Rights.{all_typed, rights_typed, rights_built}
+use Rattle.elaboration_laws.proofs.Copies.{or_typed, tupled_placed}
+use Rattle.theories.specs.cloning.Cloned.{symbols_tupled, sides_in, tried_in, map_in, AreTold, copying_in}
+use Rattle.elaboration_laws.specs.PlaceSteps.{step_as, step_of, copy_step_at, copy_steps_at}
 use Rattle.theories.specs.Plain.{IsSaid}
 use Rattle.theories.proofs.Numbers.{IsReplacedBy, type_cases}
 use Rattle.theories.proofs.Lefts.{kinds_become, sides_read}
@@ -55,10 +55,10 @@ use Rattle.theories.proofs.Elements.{HasType, HasSymbol, IsSymbolReplaced, types
 use Rattle.theories.proofs.Owned.{own_in, own_there, makes_in, own_visible, one_place, makes_own, makes_below}
 use Rattle.theories.proofs.Maps.{IsMadeOwn, type_makes, symbol_makes, fixed, copied_type, copied_at, copied_alone, pair_of, replaced_type, replaced_symbol, symbol_from, agrees as maps_agree}
 use Rattle.theories.proofs.Rights.{agree, sides_after, right_numbers}
-use Rattle.valid_tasks.proofs.Mapped.{behind, copied_at as copied_there}
+use Rattle.elaboration_laws.proofs.Mapped.{behind, copied_at as copied_there}
 use Rattle.std.proofs.lemmas.Option.{slice_get-get_or as some_at}
-use Rattle.valid_tasks.proofs.Numbers.{later}
-use Rattle.valid_tasks.proofs.Begun.{slice_or}
+use Rattle.elaboration_laws.proofs.Numbers.{later}
+use Rattle.elaboration_laws.proofs.Begun.{slice_or}
 
 -- ---- lists
 

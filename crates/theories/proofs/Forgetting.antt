@@ -1,10 +1,10 @@
 -- What is typed soundly is typed.
 use Rattle.std.proofs.Common.{ℕ, List, [], ◌∷◌, inl, inr}
 use Rattle.tasks.specs.trees.Tree.{Tree}
-use Rattle.syntax_why.specs.Declarations.{SyntaxDeclaration, SyntaxDeclarations, SyntaxTheory, type_decl, algebraic_decl, function_decl, predicate_decl, constant_decl, inductive_decl, prop_decl, use_decl, clone_decl, scope_decl, no_decls, more_decls}
-use Rattle.syntax_why.specs.declared.declarations.File.{File}
-use Rattle.syntax_why.specs.SurfaceDeclarations.{file_of}
-use Rattle.valid_tasks.specs.goal_tasks.Theories.{TheoriesTree}
+use Rattle.surface.specs.Declarations.{SyntaxDeclaration, SyntaxDeclarations, SyntaxTheory, type_decl, algebraic_decl, function_decl, predicate_decl, constant_decl, inductive_decl, prop_decl, use_decl, clone_decl, scope_decl, no_decls, more_decls}
+use Rattle.surface.specs.declared.declarations.File.{File}
+use Rattle.surface.specs.SurfaceDeclarations.{file_of}
+use Rattle.elaboration_laws.specs.theory_states.goal_tasks.Theories.{TheoriesTree}
 use Rattle.theory_states.specs.declared.fault.SourceFault.{SourceFault}
 use Rattle.theory_states.specs.States.{StateTree}
 use Rattle.theories.specs.Typing.{Steps, FirstFault, IsDeclarationTyped, AreDeclarationsTyped}

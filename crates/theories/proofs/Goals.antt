@@ -10,54 +10,54 @@ use Rattle.tasks.specs.Task.{SymbolTree, symbol_or, BodyTree, Says, DeclarationT
 use Rattle.tasks.specs.Rigid.{rigid_symbol}
 use Rattle.tasks.specs.Vocabulary.{of_signature}
 use Rattle.tasks.specs.Valid.{IsQuoted, IsFormulaOver, IsValidBody, IsValidDecl}
-use Rattle.valid_tasks.specs.clones.Mapped.{Map, mapped}
-use Rattle.syntax_why.specs.Lexeme.{Word}
-use Rattle.syntax_why.specs.Declarations.{Element}
-use Rattle.syntax_why.specs.declared.declarations.PropKind.{PropKind}
-use Rattle.syntax_why.specs.declared.declarations.PropKind.TheVariants as kind
-use Rattle.valid_tasks.specs.clones.Copies.{body_mapped, entry_copied}
-use Rattle.valid_tasks.specs.elab_walk.Scoped.{IsScopedEntry}
-use Rattle.valid_tasks.specs.elab_terms.Outcomes.{entry_numbers, rigid_types}
-use Rattle.valid_tasks.specs.Scopes.{IsTypedEntry}
-use Rattle.valid_tasks.specs.Lists.{after}
-use Rattle.valid_tasks.proofs.Lists.{list_valid}
-use Rattle.valid_tasks.specs.Built.{IsBuiltRight}
-use Rattle.valid_tasks.specs.Joined.{has_theory, Agree}
-use Rattle.valid_tasks.specs.Tasks.{AreSound, IsSoundAfter}
-use Rattle.valid_tasks.proofs.Grown.{sound_more, behind_more, front_sound}
-use Rattle.valid_tasks.proofs.Kept.{IsOfSource, source_kept}
-use Rattle.valid_tasks.proofs.Trees.{formula_mapped}
-use Rattle.valid_tasks.specs.goal_tasks.Theories.{GoalTree}
+use Rattle.elaboration_laws.specs.clones.Mapped.{Map, mapped}
+use Rattle.surface.specs.Lexeme.{Word}
+use Rattle.surface.specs.Declarations.{Element}
+use Rattle.surface.specs.declared.declarations.PropKind.{PropKind}
+use Rattle.surface.specs.declared.declarations.PropKind.TheVariants as kind
+use Rattle.elaboration_laws.specs.clones.Copies.{body_mapped, entry_copied}
+use Rattle.elaboration_laws.specs.open_types.Scoped.{IsScopedEntry}
+use Rattle.elaboration_laws.specs.elab_declarations.Outcomes.{entry_numbers, rigid_types}
+use Rattle.elaboration_laws.specs.Scopes.{IsTypedEntry}
+use Rattle.elaboration_laws.specs.Lists.{after}
+use Rattle.elaboration_laws.proofs.Lists.{list_valid}
+use Rattle.elaboration_laws.specs.Built.{IsBuiltRight}
+use Rattle.elaboration_laws.specs.Joined.{has_theory, Agree}
+use Rattle.elaboration_laws.specs.Tasks.{AreSound, IsSoundAfter}
+use Rattle.elaboration_laws.proofs.Grown.{sound_more, behind_more, front_sound}
+use Rattle.elaboration_laws.proofs.Kept.{IsOfSource, source_kept}
+use Rattle.elaboration_laws.proofs.Trees.{formula_mapped}
+use Rattle.elaboration_laws.specs.theory_states.goal_tasks.Theories.{GoalTree}
 use Rattle.theory_states.specs.declared.states.AxiomAt.{AxiomAt}
 use Rattle.theory_states.specs.States.{KnownTree, StateTree, visible_in, visible_now, with_declaration}
-use Rattle.valid_tasks.specs.TypedStates.{state_setting, IsTypedState}
-use Rattle.valid_tasks.specs.Sound.{is_other, others, IsSoundAmong, IsSoundAxiom, IsSoundKnown, IsApart, IsSoundState}
-use Rattle.valid_tasks.proofs.Places.{there, further, places_agree}
-use Rattle.valid_tasks.proofs.Used.{among_more}
-use Rattle.valid_tasks.specs.Cloning.{AreMadeRight, IsCloning, IsMadeRight}
-use Rattle.valid_tasks.specs.Steps.{CopyStep, declaration_of, declarations_of, made_from, IsClone}
-use Rattle.valid_tasks.proofs.Vocabularies.{typed_list}
-use Rattle.valid_tasks.proofs.CopiedSignatures.{made_right}
-use Rattle.valid_tasks.proofs.Taken.{cloning_left}
-use Rattle.valid_tasks.proofs.ClonedGoals.{right_more, goal_sound}
-use Rattle.valid_tasks.proofs.CloneSteps.{clone_sound, clone_front}
-use Rattle.valid_tasks.specs.Entries.{IsGrounded}
-use Rattle.valid_tasks.proofs.Entries.{further_typed, variables_built}
-use Rattle.valid_tasks.specs.clone_elements.Left.{Origin, decl_or}
-use Rattle.valid_tasks.specs.clone_elements.Rights.{rights_tuples, rights_fault}
-use Rattle.valid_tasks.specs.clone_elements.Plans.{fates_of, is_replaced, kind_or, kept}
-use Rattle.valid_tasks.specs.clone_copies.Origins.{is_own, axioms_at, origin_of}
-use Rattle.valid_tasks.specs.clone_copies.Entries.{entries_copied}
-use Rattle.valid_tasks.specs.clone_copies.Places.{Copying, axiom_at, with_copied_axiom, next_numbers, goal_of, goal_with, with_kind, with_copy, copy_of, with_joined, with_place, with_places}
-use Rattle.valid_tasks.specs.Placed.{ArePlaced}
-use Rattle.valid_tasks.proofs.Copies.{all_copies_typed}
-use Rattle.clone_theories.specs.Cloned.{symbols_tupled, sides_in, map_in, AreTold, copying_in, with_copied_entries}
-use Rattle.valid_tasks.specs.PlaceSteps.{copy_steps_at}
+use Rattle.elaboration_laws.specs.TypedStates.{state_setting, IsTypedState}
+use Rattle.elaboration_laws.specs.Sound.{is_other, others, IsSoundAmong, IsSoundAxiom, IsSoundKnown, IsApart, IsSoundState}
+use Rattle.elaboration_laws.proofs.Places.{there, further, places_agree}
+use Rattle.elaboration_laws.proofs.Used.{among_more}
+use Rattle.elaboration_laws.specs.Cloning.{AreMadeRight, IsCloning, IsMadeRight}
+use Rattle.elaboration_laws.specs.Steps.{CopyStep, declaration_of, declarations_of, made_from, IsClone}
+use Rattle.elaboration_laws.proofs.Vocabularies.{typed_list}
+use Rattle.elaboration_laws.proofs.CopiedSignatures.{made_right}
+use Rattle.elaboration_laws.proofs.Taken.{cloning_left}
+use Rattle.elaboration_laws.proofs.ClonedGoals.{right_more, goal_sound}
+use Rattle.elaboration_laws.proofs.CloneSteps.{clone_sound, clone_front}
+use Rattle.elaboration_laws.specs.Entries.{IsGrounded}
+use Rattle.elaboration_laws.proofs.Entries.{further_typed, variables_built}
+use Rattle.elaboration_laws.specs.clones.clone_elements.Left.{Origin, decl_or}
+use Rattle.elaboration_laws.specs.clones.clone_elements.Rights.{rights_tuples, rights_fault}
+use Rattle.elaboration_laws.specs.clones.clone_elements.Plans.{fates_of, is_replaced, kind_or, kept}
+use Rattle.elaboration_laws.specs.clones.clone_copies.Origins.{is_own, axioms_at, origin_of}
+use Rattle.elaboration_laws.specs.clones.clone_copies.Entries.{entries_copied}
+use Rattle.elaboration_laws.specs.clones.clone_copies.Places.{Copying, axiom_at, with_copied_axiom, next_numbers, goal_of, goal_with, with_kind, with_copy, copy_of, with_joined, with_place, with_places}
+use Rattle.elaboration_laws.specs.Placed.{ArePlaced}
+use Rattle.elaboration_laws.proofs.Copies.{all_copies_typed}
+use Rattle.theories.specs.cloning.Cloned.{symbols_tupled, sides_in, map_in, AreTold, copying_in, with_copied_entries}
+use Rattle.elaboration_laws.specs.PlaceSteps.{copy_steps_at}
 use Rattle.theories.specs.Plain.{IsSaid, IsPlainAxiom}
 use Rattle.theories.proofs.KnownLists.{last_at, plain_more}
 use Rattle.theories.proofs.Steps.{step_is, steps_declarations, steps_taken, steps_both, right_after, made_both}
 use Rattle.theories.proofs.Fits.{says_nothing, source_sound, tupled_built, tupled_setting, keeps, steps_fit}
-use Rattle.valid_tasks.proofs.Further.{axiom_more as axiom_grown}
+use Rattle.elaboration_laws.proofs.Further.{axiom_more as axiom_grown}
 use Rattle.tasks.proofs.plain_laws.Lists.{All-left as front_all}
 
 -- ---- lists

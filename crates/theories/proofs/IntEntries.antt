@@ -4,14 +4,14 @@ use Rattle.tasks.specs.trees.Tree.{Tree}
 use Rattle.tasks.specs.trees.Sorts.{int_type}
 use Rattle.tasks.specs.Task.{SymbolTree, int_symbol}
 use Rattle.tasks.specs.Valid.{int_function, int_predicate}
-use Rattle.valid_tasks.specs.names_space.Names.{ScopeNames, with_entry, empty_names}
-use Rattle.valid_tasks.specs.names_space.declared.Table.TheVariants.{Symbols}
-use Rattle.syntax_why.specs.tokens_why.declared.terminal.Terminal.TheVariants as t
-use Rattle.syntax_why.specs.Forms.{Called, called, infix_op, prefix_op, star}
-use Rattle.syntax_why.specs.Declarations.{ParamGroup, SyntaxDeclarations}
-use Rattle.valid_tasks.specs.elab_names.Abstract.{type_expression}
-use Rattle.valid_tasks.specs.elab_parts.Declarations.{GroupMember, symbol, parameter_of}
-use Rattle.std_theories.proofs.IntFile.{int_form, int_param, int_function as function_of, int_predicate as predicate_of, int_declarations}
+use Rattle.elaboration_laws.specs.scopes.Names.{ScopeNames, with_entry, empty_names}
+use Rattle.elaboration_laws.specs.scopes.declared.Table.TheVariants.{Symbols}
+use Rattle.surface.specs.tokens_why.declared.terminal.Terminal.TheVariants as t
+use Rattle.surface.specs.Forms.{Called, called, infix_op, prefix_op, star}
+use Rattle.surface.specs.Declarations.{ParamGroup, SyntaxDeclarations}
+use Rattle.elaboration_laws.specs.name_resolution.Abstract.{type_expression}
+use Rattle.elaboration_laws.specs.elab_groups.parts.Declarations.{GroupMember, symbol, parameter_of}
+use Rattle.parser.proofs.std_theories.IntFile.{int_form, int_param, int_function as function_of, int_predicate as predicate_of, int_declarations}
 use Rattle.theory_states.specs.States.{StateTree}
 use Rattle.theories.specs.Typing.{AreDeclarationsTyped}
 use Rattle.theories.proofs.IntSteps.{IsIntState, int_typed}

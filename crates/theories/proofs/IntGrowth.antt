@@ -3,30 +3,30 @@ use Rattle.std.proofs.Common.{◌≡◌, ℕ, zero, suc, Bool, true, false, if�
 use Rattle.tasks.specs.Task.{SymbolTree, BodyTree, MakesType, Makes, Defines, Induces, Constructs, Says, DeclarationTree}
 use Rattle.tasks.specs.Rigid.{rigid_symbol}
 use Rattle.tasks.specs.Valid.{AreInts}
-use Rattle.syntax_why.specs.Lexeme.{Word}
-use Rattle.syntax_why.specs.Declarations.{Element, SyntaxDeclaration, SyntaxDeclarations, SyntaxTheory, use_decl, clone_decl, scope_decl, no_decls, more_decls}
-use Rattle.syntax_why.specs.declared.names.Name.{Name}
-use Rattle.syntax_why.specs.declared.names.Path.{Path}
-use Rattle.syntax_why.specs.declared.declarations.File.{File}
-use Rattle.syntax_why.specs.declared.declarations.Link.{Link}
-use Rattle.syntax_why.specs.declared.declarations.PropKind.{PropKind}
-use Rattle.syntax_why.specs.declared.declarations.PropKind.TheVariants as kind
-use Rattle.syntax_why.specs.SurfaceDeclarations.{file_of}
-use Rattle.valid_tasks.specs.elab_names.Abstract.{Expression}
-use Rattle.valid_tasks.specs.elab_terms.Outcomes.{proposition_seen}
+use Rattle.surface.specs.Lexeme.{Word}
+use Rattle.surface.specs.Declarations.{Element, SyntaxDeclaration, SyntaxDeclarations, SyntaxTheory, use_decl, clone_decl, scope_decl, no_decls, more_decls}
+use Rattle.surface.specs.declared.names.Name.{Name}
+use Rattle.surface.specs.declared.names.Path.{Path}
+use Rattle.surface.specs.declared.declarations.File.{File}
+use Rattle.surface.specs.declared.declarations.Link.{Link}
+use Rattle.surface.specs.declared.declarations.PropKind.{PropKind}
+use Rattle.surface.specs.declared.declarations.PropKind.TheVariants as kind
+use Rattle.surface.specs.SurfaceDeclarations.{file_of}
+use Rattle.elaboration_laws.specs.name_resolution.Abstract.{Expression}
+use Rattle.elaboration_laws.specs.elab_declarations.Outcomes.{proposition_seen}
 use Rattle.theory_states.specs.States.{StateTree, with_declaration, with_declarations}
 use Rattle.theory_states.specs.Uses.{last_part, alias_text}
-use Rattle.theory_declarations.specs.Declared.{with_proposed, proposition_in, known_by, with_named, IsDeclared}
-use Rattle.valid_tasks.specs.clone_elements.Rights.{rights_tuples}
-use Rattle.valid_tasks.specs.clone_elements.Plans.{fates_of, kept, kind_or, is_replaced}
-use Rattle.valid_tasks.specs.clone_copies.Origins.{origin_of, is_own}
-use Rattle.valid_tasks.specs.clone_copies.Entries.{entries_copied}
-use Rattle.valid_tasks.specs.clone_copies.Places.{Copying, goal_with, with_kind, with_copy, copy_of, with_joined, with_own, with_place, with_places}
-use Rattle.clone_theories.specs.Cloned.{symbols_tupled, sides_in, map_in, within_of, copying_in, with_copied_entries, IsCloned}
+use Rattle.theories.specs.declaring.Declared.{with_proposed, proposition_in, known_by, with_named, IsDeclared}
+use Rattle.elaboration_laws.specs.clones.clone_elements.Rights.{rights_tuples}
+use Rattle.elaboration_laws.specs.clones.clone_elements.Plans.{fates_of, kept, kind_or, is_replaced}
+use Rattle.elaboration_laws.specs.clones.clone_copies.Origins.{origin_of, is_own}
+use Rattle.elaboration_laws.specs.clones.clone_copies.Entries.{entries_copied}
+use Rattle.elaboration_laws.specs.clones.clone_copies.Places.{Copying, goal_with, with_kind, with_copy, copy_of, with_joined, with_own, with_place, with_places}
+use Rattle.theories.specs.cloning.Cloned.{symbols_tupled, sides_in, map_in, within_of, copying_in, with_copied_entries, IsCloned}
 use Rattle.theories.specs.Ints.{int_entries}
 use Rattle.theories.specs.Typing.{IsDeclarationTyped, AreDeclarationsTyped}
 use Rattle.theories.specs.Files.{IsNewTheory, AreTypedIn, AreEmbeddedIn, AreEmbeddedBy}
-use Rattle.valid_tasks.proofs.Extended.{further as get_more}
+use Rattle.elaboration_laws.proofs.Extended.{further as get_more}
 
 abbrev pub HasInts : StateTree → Type 0
 HasInts c = AreInts c.symbols int_entries

@@ -3,12 +3,12 @@ use Rattle.std.proofs.Common.{ℕ, List, [], ◌∷◌, codes, refl, sym, subst}
 use Rattle.tasks.specs.trees.Tree.{Tree}
 use Rattle.tasks.specs.Task.{SymbolTree}
 use Rattle.tasks.specs.Valid.{AreInts}
-use Rattle.syntax_why.specs.Declarations.{SyntaxDeclarations, SyntaxTheory}
-use Rattle.syntax_why.specs.declared.declarations.File.{File}
-use Rattle.syntax_why.specs.SurfaceDeclarations.{file_of}
-use Rattle.std_theories.specs.Library.{AreFilesOf, library}
-use Rattle.std_theories.proofs.IntFile.{IsIntTheory, IsIntFile, int_file}
-use Rattle.valid_tasks.specs.goal_tasks.Theories.{TheoriesTree}
+use Rattle.surface.specs.Declarations.{SyntaxDeclarations, SyntaxTheory}
+use Rattle.surface.specs.declared.declarations.File.{File}
+use Rattle.surface.specs.SurfaceDeclarations.{file_of}
+use Rattle.parser.specs.std_theories.Library.{AreFilesOf, library}
+use Rattle.parser.proofs.std_theories.IntFile.{IsIntTheory, IsIntFile, int_file}
+use Rattle.elaboration_laws.specs.theory_states.goal_tasks.Theories.{TheoriesTree}
 use Rattle.theory_states.specs.States.{StateTree}
 use Rattle.theories.specs.Ints.{int_entries}
 use Rattle.theories.specs.Typing.{AreDeclarationsTyped}

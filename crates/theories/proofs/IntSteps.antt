@@ -2,16 +2,16 @@
 use Rattle.std.proofs.Common.{◌≡◌, ℕ, List, [], ◌∷◌, ◌++◌, codes, Some, None, sym, ap, subst, ◌∙◌}
 use Rattle.tasks.specs.trees.Tree.{Tree}
 use Rattle.tasks.specs.Task.{SymbolTree, DeclarationTree}
-use Rattle.valid_tasks.specs.names_space.Names.{ScopeNames}
-use Rattle.syntax_why.specs.Declarations.{SyntaxDeclaration}
-use Rattle.valid_tasks.specs.elab_parts.Declarations.{GroupMember, Declaration, member_group, declaration}
-use Rattle.valid_tasks.specs.elab_parts.Outcomes.{Setting}
-use Rattle.valid_tasks.specs.elab_groups.Groups.{group_tuples, before_group, group_scope, IsGroup}
-use Rattle.valid_tasks.specs.elab_members.Members.{member_entries}
-use Rattle.valid_tasks.specs.elab_terms.Outcomes.{IsOutcome}
+use Rattle.elaboration_laws.specs.scopes.Names.{ScopeNames}
+use Rattle.surface.specs.Declarations.{SyntaxDeclaration}
+use Rattle.elaboration_laws.specs.elab_groups.parts.Declarations.{GroupMember, Declaration, member_group, declaration}
+use Rattle.elaboration_laws.specs.elab_groups.parts.Outcomes.{Setting}
+use Rattle.elaboration_laws.specs.elab_groups.Groups.{group_tuples, before_group, group_scope, IsGroup}
+use Rattle.elaboration_laws.specs.elab_groups.members.Members.{member_entries}
+use Rattle.elaboration_laws.specs.elab_declarations.Outcomes.{IsOutcome}
 use Rattle.theory_states.specs.States.{StateTree, with_declaration, with_declarations}
-use Rattle.valid_tasks.specs.TypedStates.{state_setting}
-use Rattle.theory_declarations.specs.Declared.{proposition_in, known_by, with_named, IsDeclared}
+use Rattle.elaboration_laws.specs.TypedStates.{state_setting}
+use Rattle.theories.specs.declaring.Declared.{proposition_in, known_by, with_named, IsDeclared}
 use Rattle.theories.specs.Typing.{ThenStep, IsPassed}
 
 -- where a declaration of int.Int stands, whatever its number and the store

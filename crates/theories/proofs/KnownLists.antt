@@ -4,9 +4,9 @@ use Rattle.std.proofs.lemmas.List.Elements.{All-nil, All-cons, All-head, All-tai
 use Rattle.tasks.specs.Task.{DeclarationTree}
 use Rattle.theory_states.specs.declared.states.AxiomAt.{AxiomAt}
 use Rattle.theory_states.specs.States.{KnownTree, known_has_path, known_named}
-use Rattle.valid_tasks.proofs.Places.{there, further}
+use Rattle.elaboration_laws.proofs.Places.{there, further}
 use Rattle.theories.specs.Plain.{IsPlainAxiom}
-use Rattle.valid_tasks.proofs.Numbers.{later}
+use Rattle.elaboration_laws.proofs.Numbers.{later}
 
 pub last_at : (ds : List DeclarationTree) (d e : DeclarationTree) → slice_get (ds ++ d ∷ []) (length ds) ≡ Some e → d ≡ e
 last_at [] d e q = cc

@@ -6,22 +6,22 @@ use Rattle.tasks.specs.declared.signature.SymbolKind.{SymbolKind}
 use Rattle.tasks.specs.declared.signature.SymbolKind.TheVariants as symbol
 use Rattle.tasks.specs.Task.{SymbolTree, symbol_or, BodyTree, MakesType, Makes, Defines, Induces, Constructs, Says}
 use Rattle.tasks.specs.Typing.{MakesTerms}
-use Rattle.valid_tasks.specs.names_space.Names.{ScopeNames}
-use Rattle.syntax_why.specs.Lexeme.{Word}
-use Rattle.syntax_why.specs.declared.declarations.SymbolWord.{SymbolWord}
-use Rattle.syntax_why.specs.declared.declarations.SymbolWord.TheVariants as word
-use Rattle.syntax_why.specs.Declarations.{Element, type_element, symbol_element, prop_element, all_axioms}
-use Rattle.valid_tasks.proofs.Words.{same_word}
-use Rattle.valid_tasks.specs.Morphisms.{KindBecomes}
-use Rattle.valid_tasks.proofs.Places.{here}
-use Rattle.valid_tasks.specs.clone_elements.declared.left.Abstract.{Abstract}
-use Rattle.valid_tasks.specs.clone_elements.declared.left.Abstract.TheVariants as abstract
-use Rattle.valid_tasks.specs.clone_elements.Left.{Origin, decl_or, called_text, kind_of_symbol, kind_of_word, kind_of_proposition, kind_of_body, kind_letter, key, key_with, left_key, element_key, is_key, place_after, last_place, place_by}
-use Rattle.valid_tasks.specs.clone_elements.Rights.{RightTree, type_right, symbol_right, no_right, right_made, right_tuples}
-use Rattle.valid_tasks.specs.clone_elements.Plans.{SideTree, sides_made}
-use Rattle.valid_tasks.specs.clone_elements.Elements.{is_kind_of_word}
-use Rattle.valid_tasks.proofs.Lefts.{keyed, not_axiom, not_type}
-use Rattle.valid_tasks.proofs.Numbers.{later}
+use Rattle.elaboration_laws.specs.scopes.Names.{ScopeNames}
+use Rattle.surface.specs.Lexeme.{Word}
+use Rattle.surface.specs.declared.declarations.SymbolWord.{SymbolWord}
+use Rattle.surface.specs.declared.declarations.SymbolWord.TheVariants as word
+use Rattle.surface.specs.Declarations.{Element, type_element, symbol_element, prop_element, all_axioms}
+use Rattle.elaboration_laws.proofs.Words.{same_word}
+use Rattle.elaboration_laws.specs.Morphisms.{KindBecomes}
+use Rattle.elaboration_laws.proofs.Places.{here}
+use Rattle.elaboration_laws.specs.clones.declared.clone_elements.left.Abstract.{Abstract}
+use Rattle.elaboration_laws.specs.clones.declared.clone_elements.left.Abstract.TheVariants as abstract
+use Rattle.elaboration_laws.specs.clones.clone_elements.Left.{Origin, decl_or, called_text, kind_of_symbol, kind_of_word, kind_of_proposition, kind_of_body, kind_letter, key, key_with, left_key, element_key, is_key, place_after, last_place, place_by}
+use Rattle.elaboration_laws.specs.clones.clone_elements.Rights.{RightTree, type_right, symbol_right, no_right, right_made, right_tuples}
+use Rattle.elaboration_laws.specs.clones.clone_elements.Plans.{SideTree, sides_made}
+use Rattle.elaboration_laws.specs.clones.clone_elements.Elements.{is_kind_of_word}
+use Rattle.elaboration_laws.proofs.Lefts.{keyed, not_axiom, not_type}
+use Rattle.elaboration_laws.proofs.Numbers.{later}
 
 -- ---- the last declaration with a key
 pub record IsNamed (symbols : List SymbolTree) (o : Origin) (x : Word) (place : ℕ) : Type 0 where

@@ -1,4 +1,6 @@
-pub use Rattle.valid_tasks.proofs.goal_tasks as goal_tasks
+pub use Rattle.checks.proofs as checks
+pub use Rattle.elab_declarations.proofs as elab_declarations
+pub use Rattle.elaboration_laws.proofs.theory_states as theory_states
 pub mod Forgetting
 pub mod Walking
 pub mod Lists

@@ -3,17 +3,17 @@
 use Rattle.std.proofs.Common.{◌≡◌, ◌⊎◌, inl, inr, ℕ, ◌+◌, ◌<◌, true, false, List, [], length, slice_get, Contains, All, Some, None, refl, sym, ap, subst, ◌∙◌, arith}
 use Rattle.tasks.specs.trees.Tree.{Tree}
 use Rattle.tasks.specs.Task.{SymbolTree, BodyTree, MakesType, Makes, DeclarationTree, made_by}
-use Rattle.valid_tasks.specs.clones.Mapped.{Map}
-use Rattle.valid_tasks.specs.Tasks.{AreSound}
+use Rattle.elaboration_laws.specs.clones.Mapped.{Map}
+use Rattle.elaboration_laws.specs.Tasks.{AreSound}
 use Rattle.theory_states.specs.States.{KnownTree, at_places}
-use Rattle.valid_tasks.proofs.Places.{none_here, here}
-use Rattle.valid_tasks.specs.Cloning.{IsFixed}
-use Rattle.valid_tasks.specs.Trials.{AgreeOn}
-use Rattle.valid_tasks.specs.clone_elements.declared.plans.Fate.TheVariants.{Replaced}
-use Rattle.valid_tasks.specs.clone_elements.Left.{Origin, decl_or}
-use Rattle.valid_tasks.specs.clone_elements.Plans.{SideTree, PlacedFates, no_fates, fates_of, is_replaced, types_replaced, symbols_replaced, kept, clone_map, tried_map}
-use Rattle.valid_tasks.specs.clone_elements.Elements.{SidesTold}
-use Rattle.valid_tasks.specs.clone_copies.Origins.{origin_of}
+use Rattle.elaboration_laws.proofs.Places.{none_here, here}
+use Rattle.elaboration_laws.specs.Cloning.{IsFixed}
+use Rattle.elaboration_laws.specs.Trials.{AgreeOn}
+use Rattle.elaboration_laws.specs.clones.declared.clone_elements.plans.Fate.TheVariants.{Replaced}
+use Rattle.elaboration_laws.specs.clones.clone_elements.Left.{Origin, decl_or}
+use Rattle.elaboration_laws.specs.clones.clone_elements.Plans.{SideTree, PlacedFates, no_fates, fates_of, is_replaced, types_replaced, symbols_replaced, kept, clone_map, tried_map}
+use Rattle.elaboration_laws.specs.clones.clone_elements.Elements.{SidesTold}
+use Rattle.elaboration_laws.specs.clones.clone_copies.Origins.{origin_of}
 use Rattle.theories.proofs.Numbers.{IsAt, contained, IsReplacedBy, IsOther, symbol_cases, type_cases, types_alike}
 use Rattle.theories.proofs.Lefts.{IsRead}
 use Rattle.theories.proofs.Elements.{IsTypeReplaced, IsSymbolReplaced, HasType, HasSymbol, is_replaced_as, types_from, symbols_from, pair_there}

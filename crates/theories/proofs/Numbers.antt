@@ -3,12 +3,12 @@
 use Rattle.std.proofs.Common.{◌≡◌, ◌⊎◌, inl, inr, ℕ, ◌+◌, ◌==◌, if◌then◌else◌, zero, suc, Bool, true, false, List, [], ◌∷◌, slice_get, Contains, Option, Some, None, refl, sym, ap, subst, ◌∙◌, arith}
 use Rattle.std.proofs.lemmas.Bool.Decides.{nat_tests}
 use Rattle.tasks.specs.trees.Tree.{Tree}
-use Rattle.valid_tasks.specs.clones.Mapped.{Map}
-use Rattle.valid_tasks.proofs.Places.{none_here, cases_of, here}
-use Rattle.valid_tasks.specs.clone_elements.Plans.{same_map, with_symbol, with_type, with_numbers, with_symbols, with_mapped_types, map_of}
+use Rattle.elaboration_laws.specs.clones.Mapped.{Map}
+use Rattle.elaboration_laws.proofs.Places.{none_here, cases_of, here}
+use Rattle.elaboration_laws.specs.clones.clone_elements.Plans.{same_map, with_symbol, with_type, with_numbers, with_symbols, with_mapped_types, map_of}
 use Rattle.tasks.proofs.plain_laws.Bools.{same_number}
-use Rattle.valid_tasks.proofs.Numbers.{types_leave, symbols_leave, numbers_leave, later}
-use Rattle.valid_tasks.proofs.Widths.{same_width as itself}
+use Rattle.elaboration_laws.proofs.Numbers.{types_leave, symbols_leave, numbers_leave, later}
+use Rattle.elaboration_laws.proofs.Widths.{same_width as itself}
 
 -- ---- numbers from one on
 pub record IsAt (n : ℕ) (ks : List ℕ) (k j : ℕ) : Type 0 where

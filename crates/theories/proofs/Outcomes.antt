@@ -5,18 +5,18 @@ use Rattle.tasks.specs.trees.Tree.{Tree}
 use Rattle.tasks.specs.Task.{SymbolTree, ConstructorTree, AlgebraicTree}
 use Rattle.tasks.specs.Rigid.{rigid_symbol}
 use Rattle.tasks.specs.Valid.{own_type}
-use Rattle.syntax_why.specs.Lexeme.{Word}
-use Rattle.syntax_why.specs.declared.declarations.PropKind.{PropKind}
-use Rattle.syntax_why.specs.declared.declarations.PropKind.TheVariants as kind
-use Rattle.valid_tasks.specs.elab_parts.Elaborated.{unseen}
-use Rattle.valid_tasks.specs.elab_parts.Entries.{type_entry, constructor_entries, wanting_tuples}
-use Rattle.valid_tasks.specs.elab_parts.Declarations.{AlgebraicConstructor, AlgebraicType, GroupMember, Declaration, abstract_type, alias, algebraic, member_group, inductive, proposition_declaration}
-use Rattle.valid_tasks.specs.elab_parts.Outcomes.{Setting, Outcome, full_name}
-use Rattle.valid_tasks.specs.elab_members.Members.{SignatureTree, symbol_kind_of, signed_entries, signature_trees, members_seen}
-use Rattle.valid_tasks.specs.elab_groups.Groups.{group_signatures}
-use Rattle.valid_tasks.specs.elab_inductives.Inductives.{as_members, before_inductives, inductives_seen}
-use Rattle.valid_tasks.specs.elab_types.Algebraics.{group_seen, type_entries, constructors_entries, group_trees, group_entries}
-use Rattle.valid_tasks.specs.elab_terms.Outcomes.{alias_seen, proposition_seen, rigid_names, IsOutcome}
+use Rattle.surface.specs.Lexeme.{Word}
+use Rattle.surface.specs.declared.declarations.PropKind.{PropKind}
+use Rattle.surface.specs.declared.declarations.PropKind.TheVariants as kind
+use Rattle.elaboration_laws.specs.elab_groups.parts.Elaborated.{unseen}
+use Rattle.elaboration_laws.specs.elab_groups.parts.Entries.{type_entry, constructor_entries, wanting_tuples}
+use Rattle.elaboration_laws.specs.elab_groups.parts.Declarations.{AlgebraicConstructor, AlgebraicType, GroupMember, Declaration, abstract_type, alias, algebraic, member_group, inductive, proposition_declaration}
+use Rattle.elaboration_laws.specs.elab_groups.parts.Outcomes.{Setting, Outcome, full_name}
+use Rattle.elaboration_laws.specs.elab_groups.members.Members.{SignatureTree, symbol_kind_of, signed_entries, signature_trees, members_seen}
+use Rattle.elaboration_laws.specs.elab_groups.Groups.{group_signatures}
+use Rattle.elaboration_laws.specs.elab_declarations.inductive_declarations.Inductives.{as_members, before_inductives, inductives_seen}
+use Rattle.elaboration_laws.specs.elab_declarations.type_declarations.Algebraics.{group_seen, type_entries, constructors_entries, group_trees, group_entries}
+use Rattle.elaboration_laws.specs.elab_declarations.Outcomes.{alias_seen, proposition_seen, rigid_names, IsOutcome}
 use Rattle.tasks.specs.Words.{IsScopedName}
 use Rattle.theories.specs.Names.{HaveWords}
 use Rattle.theories.proofs.Words.{joined}

@@ -2,19 +2,19 @@
 use Rattle.std.proofs.Common.{◌≡◌, ◌⊎◌, inl, inr, ℕ, ◌<◌, if◌then◌else◌, zero, suc, Bool, true, false, List, [], ◌∷◌, ◌++◌, length, slice_get, Contains, Some, option_to_list, refl, sym, subst, ◌∙◌, arith, append-nil}
 use Rattle.std.proofs.lemmas.List.Elements.{All-contains, Contains-append_left, Contains-append_right, Contains-append_cases}
 use Rattle.tasks.specs.Task.{SymbolTree, DeclarationTree, made, made_by}
-use Rattle.syntax_why.specs.Lexeme.{Word}
-use Rattle.valid_tasks.specs.Tasks.{IsOwnSymbol, AreSound}
-use Rattle.valid_tasks.proofs.Distinct.{IsDistinct, pairs_distinct}
-use Rattle.valid_tasks.proofs.TupleDecls.{made_both}
+use Rattle.surface.specs.Lexeme.{Word}
+use Rattle.elaboration_laws.specs.Tasks.{IsOwnSymbol, AreSound}
+use Rattle.elaboration_laws.proofs.Distinct.{IsDistinct, pairs_distinct}
+use Rattle.elaboration_laws.proofs.TupleDecls.{made_both}
 use Rattle.theory_states.specs.States.{KnownTree, at_places}
-use Rattle.valid_tasks.proofs.Places.{none_here, cases_of, here, in_places}
-use Rattle.valid_tasks.proofs.Vocabularies.{made_below}
-use Rattle.valid_tasks.specs.clone_elements.Left.{Origin, no_declaration, decl_or}
-use Rattle.valid_tasks.specs.clone_elements.Plans.{PlacedFates, is_replaced, kept_at, kept_of}
-use Rattle.valid_tasks.specs.clone_copies.Origins.{is_own, own_at, own_among, origin_of}
-use Rattle.valid_tasks.proofs.Joined.{distinct_last as back_distinct, into_made, distinct_apart as apart_from}
+use Rattle.elaboration_laws.proofs.Places.{none_here, cases_of, here, in_places}
+use Rattle.elaboration_laws.proofs.Vocabularies.{made_below}
+use Rattle.elaboration_laws.specs.clones.clone_elements.Left.{Origin, no_declaration, decl_or}
+use Rattle.elaboration_laws.specs.clones.clone_elements.Plans.{PlacedFates, is_replaced, kept_at, kept_of}
+use Rattle.elaboration_laws.specs.clones.clone_copies.Origins.{is_own, own_at, own_among, origin_of}
+use Rattle.elaboration_laws.proofs.Joined.{distinct_last as back_distinct, into_made, distinct_apart as apart_from}
 use Rattle.std.proofs.lemmas.Option.{slice_get-get_or as some_at}
-use Rattle.valid_tasks.proofs.Numbers.{later}
+use Rattle.elaboration_laws.proofs.Numbers.{later}
 
 -- ---- own places
 module _ (ds : List DeclarationTree) (path : Word) where

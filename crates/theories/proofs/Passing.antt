@@ -5,17 +5,17 @@ use Rattle.std.proofs.lemmas.List.Elements.{All-push}
 use Rattle.tasks.specs.trees.Tree.{Tree}
 use Rattle.tasks.specs.Vocabulary.{of_signature}
 use Rattle.tasks.specs.Meaning.{symbols_at}
-use Rattle.valid_tasks.specs.names_space.Names.{with_scope}
+use Rattle.elaboration_laws.specs.scopes.Names.{with_scope}
 use Rattle.theory_states.specs.declared.moves.Move.{Move}
 use Rattle.theory_states.specs.declared.moves.Move.TheVariants.{Opens, Closes}
 use Rattle.theory_states.specs.Moves.{left}
-use Rattle.valid_tasks.specs.Scopes.{AreTypedScopes}
-use Rattle.valid_tasks.specs.Moves.{AreTypedMoves, IsTypedMove}
-use Rattle.valid_tasks.proofs.MovedScopes.{opened_typed, left_typed}
+use Rattle.elaboration_laws.specs.Scopes.{AreTypedScopes}
+use Rattle.elaboration_laws.specs.Moves.{AreTypedMoves, IsTypedMove}
+use Rattle.elaboration_laws.proofs.MovedScopes.{opened_typed, left_typed}
 use Rattle.theory_states.specs.declared.states.Opened.{Opened}
 use Rattle.theory_states.specs.declared.states.Typed.{Typed}
 use Rattle.theory_states.specs.Meaning.{opened_at, state_at}
-use Rattle.valid_tasks.proofs.Keeping.{renamed_typed}
+use Rattle.elaboration_laws.proofs.Keeping.{renamed_typed}
 use Rattle.theories.specs.Typing.{IsPassed}
 use Rattle.theories.specs.Right.{IsStateRight}
 

@@ -4,7 +4,7 @@ use Rattle.std.specs.Prelude.{◌||◌}
 use Rattle.std.specs.Str.{bytes_eq}
 use Rattle.std.specs.Option.{is_some}
 use Rattle.tasks.specs.Vocabulary.{is_empty}
-use Rattle.valid_tasks.specs.elab_parts.Entries.{builtin}
+use Rattle.elaboration_laws.specs.elab_groups.parts.Entries.{builtin}
 use Rattle.theory_states.specs.States.{KnownTree, known_named}
 use Rattle.theories.specs.Files.{is_path_taken}
 use Rattle.theories.specs.Right.{IsPath}

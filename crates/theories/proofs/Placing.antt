@@ -3,16 +3,16 @@ use Rattle.std.proofs.Common.{◌≡◌, ℕ, false, List, [], ◌∷◌, ◌++�
 use Rattle.std.proofs.lemmas.List.Elements.{All-append}
 use Rattle.tasks.specs.Task.{DeclarationTree}
 use Rattle.tasks.specs.Vocabulary.{is_empty}
-use Rattle.syntax_why.specs.Lexeme.{Word}
-use Rattle.syntax_why.specs.Declarations.{SyntaxDeclaration}
-use Rattle.syntax_why.specs.declared.declarations.PropKind.{PropKind}
-use Rattle.syntax_why.specs.declared.declarations.PropKind.TheVariants as kind
-use Rattle.valid_tasks.specs.elab_names.Abstract.{Expression}
-use Rattle.valid_tasks.specs.Placed.{IsPlacedEntry, ArePlaced}
-use Rattle.valid_tasks.proofs.PlacedOutcomes.{outcome_placed}
+use Rattle.surface.specs.Lexeme.{Word}
+use Rattle.surface.specs.Declarations.{SyntaxDeclaration}
+use Rattle.surface.specs.declared.declarations.PropKind.{PropKind}
+use Rattle.surface.specs.declared.declarations.PropKind.TheVariants as kind
+use Rattle.elaboration_laws.specs.name_resolution.Abstract.{Expression}
+use Rattle.elaboration_laws.specs.Placed.{IsPlacedEntry, ArePlaced}
+use Rattle.elaboration_laws.proofs.PlacedOutcomes.{outcome_placed}
 use Rattle.theory_states.specs.States.{StateTree, with_declaration, with_declarations}
-use Rattle.valid_tasks.specs.TypedStates.{state_setting}
-use Rattle.theory_declarations.specs.Declared.{with_proposed, proposition_in, known_by, with_named, IsDeclared}
+use Rattle.elaboration_laws.specs.TypedStates.{state_setting}
+use Rattle.theories.specs.declaring.Declared.{with_proposed, proposition_in, known_by, with_named, IsDeclared}
 
 declarations_keep : (ds : List DeclarationTree) (c : StateTree) → (with_declarations ds c).symbols ≡ c.symbols
 declarations_keep [] c = refl

@@ -3,38 +3,38 @@ use Rattle.std.proofs.Common.{◌≡◌, ℕ, ◌<◌, List, [], ◌∷◌, ◌+
 use Rattle.std.proofs.lemmas.List.Elements.{All-nil, All-cons, All-append, All-contains}
 use Rattle.tasks.specs.trees.Tree.{Tree}
 use Rattle.tasks.specs.Task.{SymbolTree, DeclarationTree}
-use Rattle.valid_tasks.specs.names_space.Names.{ScopeNames, find_number, find_name}
-use Rattle.valid_tasks.specs.names_space.declared.Table.{Table}
-use Rattle.valid_tasks.specs.names_space.declared.Table.TheVariants.{Types, Symbols, Propositions, Scopes}
-use Rattle.valid_tasks.specs.names_space.declared.TypeName.{TypeName}
-use Rattle.valid_tasks.specs.names_space.declared.TypeName.TheVariants as stands
+use Rattle.elaboration_laws.specs.scopes.Names.{ScopeNames, find_number, find_name}
+use Rattle.elaboration_laws.specs.scopes.declared.Table.{Table}
+use Rattle.elaboration_laws.specs.scopes.declared.Table.TheVariants.{Types, Symbols, Propositions, Scopes}
+use Rattle.elaboration_laws.specs.scopes.declared.TypeName.{TypeName}
+use Rattle.elaboration_laws.specs.scopes.declared.TypeName.TheVariants as stands
 use Rattle.theory_states.specs.declared.moves.Move.{Move}
 use Rattle.theory_states.specs.declared.moves.Move.TheVariants.{Brings, Opens, Closes}
 use Rattle.theory_states.specs.Moves.{handed}
-use Rattle.syntax_why.specs.Lexeme.{Word}
-use Rattle.syntax_why.specs.declared.names.Name.{Name}
-use Rattle.syntax_why.specs.declared.names.Path.{Path}
-use Rattle.syntax_why.specs.declared.declarations.Link.{Link}
-use Rattle.syntax_why.specs.declared.declarations.Link.TheVariants.{Bare, Import, Export}
-use Rattle.syntax_why.specs.declared.declarations.PropKind.{PropKind}
-use Rattle.syntax_why.specs.declared.declarations.PropKind.TheVariants as kind
-use Rattle.syntax_why.specs.Declarations as source
-use Rattle.valid_tasks.specs.clones.Mapped.{Map}
-use Rattle.valid_tasks.specs.elab_names.Abstract.{Expression, expression}
-use Rattle.valid_tasks.specs.elab_parts.Declarations.{Declaration, proposition_declaration, declaration, symbol, Made, makes, binds_names, made_names}
-use Rattle.valid_tasks.specs.elab_parts.Outcomes.{Setting, Outcome}
-use Rattle.valid_tasks.specs.elab_terms.Outcomes.{proposition_seen, IsOutcome}
-use Rattle.theory_declarations.specs.Made.{thing_named, brought_as, moves_made, moves_of, moves_declared}
+use Rattle.surface.specs.Lexeme.{Word}
+use Rattle.surface.specs.declared.names.Name.{Name}
+use Rattle.surface.specs.declared.names.Path.{Path}
+use Rattle.surface.specs.declared.declarations.Link.{Link}
+use Rattle.surface.specs.declared.declarations.Link.TheVariants.{Bare, Import, Export}
+use Rattle.surface.specs.declared.declarations.PropKind.{PropKind}
+use Rattle.surface.specs.declared.declarations.PropKind.TheVariants as kind
+use Rattle.surface.specs.Declarations as source
+use Rattle.elaboration_laws.specs.clones.Mapped.{Map}
+use Rattle.elaboration_laws.specs.name_resolution.Abstract.{Expression, expression}
+use Rattle.elaboration_laws.specs.elab_groups.parts.Declarations.{Declaration, proposition_declaration, declaration, symbol, Made, makes, binds_names, made_names}
+use Rattle.elaboration_laws.specs.elab_groups.parts.Outcomes.{Setting, Outcome}
+use Rattle.elaboration_laws.specs.elab_declarations.Outcomes.{proposition_seen, IsOutcome}
+use Rattle.theories.specs.declaring.Made.{thing_named, brought_as, moves_made, moves_of, moves_declared}
 use Rattle.theory_states.specs.declared.states.AxiomAt.{AxiomAt}
 use Rattle.theory_states.specs.States.{KnownTree, StateTree, opened_empty, known_as, with_declaration, with_declarations}
 use Rattle.theory_states.specs.Uses.{path_text, IsTheoryUsed}
-use Rattle.valid_tasks.specs.TypedStates.{state_setting}
-use Rattle.theory_declarations.specs.Declared.{with_declared_goal, with_axiom, with_proposition, proposition_in, known_by, with_named, IsDeclared}
-use Rattle.valid_tasks.specs.clone_copies.Moves.{IsThingMapped, IsMoveMapped, AreMovesMapped}
-use Rattle.valid_tasks.specs.Unaliased.{IsPlainThing, IsPlainMove}
+use Rattle.elaboration_laws.specs.TypedStates.{state_setting}
+use Rattle.theories.specs.declaring.Declared.{with_declared_goal, with_axiom, with_proposition, proposition_in, known_by, with_named, IsDeclared}
+use Rattle.elaboration_laws.specs.clones.clone_copies.Moves.{IsThingMapped, IsMoveMapped, AreMovesMapped}
+use Rattle.elaboration_laws.specs.Unaliased.{IsPlainThing, IsPlainMove}
 use Rattle.theories.specs.Plain.{IsSaid, IsPlainAxiom, IsPlainTheory, IsPlainKnown, ArePlainTheories, IsPlainState}
 use Rattle.theories.proofs.KnownLists.{last_at, plain_more}
-use Rattle.valid_tasks.proofs.Scoped.{found_in}
+use Rattle.elaboration_laws.proofs.Scoped.{found_in}
 
 -- ---- moves
 pub handed_plain : (link : Link) (ms : List Move) → All IsPlainMove ms → All IsPlainMove (handed link ms)

@@ -10,40 +10,40 @@ use Rattle.tasks.specs.Task.{SymbolTree, int_symbol, DeclarationTree}
 use Rattle.tasks.specs.Roles.{is_constructor, maker, role_by}
 use Rattle.tasks.specs.Vocabulary.{Vocabulary, passes, is_empty, is_constructor_kind}
 use Rattle.tasks.specs.Valid.{IsTypeIn}
-use Rattle.valid_tasks.specs.names_space.Names.{ScopeNames, find_name, number_of}
-use Rattle.valid_tasks.specs.names_space.declared.Table.TheVariants.{Symbols}
-use Rattle.valid_tasks.specs.names_space.declared.TypeName.{TypeName}
-use Rattle.syntax_why.specs.Lexeme.{Word}
-use Rattle.syntax_why.specs.declared.names.Name.{Name}
-use Rattle.syntax_why.specs.Declarations.{Element, type_element, symbol_element, prop_element, all_axioms}
-use Rattle.valid_tasks.specs.elab_names.Abstract.{texts_of_names, type_expression, text_of_own}
-use Rattle.valid_tasks.specs.elab_names.Faults.{first_of}
-use Rattle.valid_tasks.specs.elab_names.declared.NamingFault.{NamingFault}
-use Rattle.valid_tasks.specs.elab_variables.Seen.{form_seen}
-use Rattle.valid_tasks.specs.elab_walk.Pieces.{type_at}
-use Rattle.valid_tasks.specs.elab_parts.Elaborated.{unseen}
-use Rattle.valid_tasks.specs.elab_parts.Entries.{builtin, wanting_tuples}
-use Rattle.valid_tasks.specs.elab_parts.Outcomes.{Setting, over}
-use Rattle.valid_tasks.specs.Signature.{with_entries}
-use Rattle.valid_tasks.specs.Scopes.{is_projection_kind, IsNamedBy, NamesNew, IsSubvocabulary, AgreeBelow, IsSymbolNumber, IsTypedThing, AreTypedScopes}
-use Rattle.valid_tasks.proofs.Words.{self_word}
-use Rattle.valid_tasks.proofs.Scopes.{found_thing}
-use Rattle.valid_tasks.proofs.Extended.{further, in_either, slice_all, entries_part, type_more}
-use Rattle.valid_tasks.specs.Valid.{IsTypedSetting}
-use Rattle.valid_tasks.specs.Lists.{is_built, after}
-use Rattle.valid_tasks.proofs.Made.{tuples_built}
-use Rattle.valid_tasks.proofs.Joined.{matched_usable}
-use Rattle.valid_tasks.proofs.Places.{none_here}
-use Rattle.valid_tasks.proofs.CopiedRights.{right_typed}
-use Rattle.valid_tasks.specs.clone_elements.Left.{Origin, symbol_at_place}
-use Rattle.valid_tasks.specs.clone_elements.Rights.{RightTree, type_right, symbol_right, no_right, symbol_missing, called_symbol, right_made, right_fault, right_tuples, rights_tuples, rights_fault}
-use Rattle.valid_tasks.specs.clone_elements.Plans.{SideTree, sides_made, symbol_for, symbols_replaced}
-use Rattle.valid_tasks.specs.Sides.{IsTypedRight, IsTypedSide}
-use Rattle.valid_tasks.proofs.Rights.{right_more, texts_count}
+use Rattle.elaboration_laws.specs.scopes.Names.{ScopeNames, find_name, number_of}
+use Rattle.elaboration_laws.specs.scopes.declared.Table.TheVariants.{Symbols}
+use Rattle.elaboration_laws.specs.scopes.declared.TypeName.{TypeName}
+use Rattle.surface.specs.Lexeme.{Word}
+use Rattle.surface.specs.declared.names.Name.{Name}
+use Rattle.surface.specs.Declarations.{Element, type_element, symbol_element, prop_element, all_axioms}
+use Rattle.elaboration_laws.specs.name_resolution.Abstract.{texts_of_names, type_expression, text_of_own}
+use Rattle.elaboration_laws.specs.name_resolution.Faults.{first_of}
+use Rattle.elaboration_laws.specs.name_resolution.declared.NamingFault.{NamingFault}
+use Rattle.elaboration_laws.specs.name_resolution.variables.Seen.{form_seen}
+use Rattle.elaboration_laws.specs.open_types.Pieces.{type_at}
+use Rattle.elaboration_laws.specs.elab_groups.parts.Elaborated.{unseen}
+use Rattle.elaboration_laws.specs.elab_groups.parts.Entries.{builtin, wanting_tuples}
+use Rattle.elaboration_laws.specs.elab_groups.parts.Outcomes.{Setting, over}
+use Rattle.elaboration_laws.specs.Signature.{with_entries}
+use Rattle.elaboration_laws.specs.Scopes.{is_projection_kind, IsNamedBy, NamesNew, IsSubvocabulary, AgreeBelow, IsSymbolNumber, IsTypedThing, AreTypedScopes}
+use Rattle.elaboration_laws.proofs.Words.{self_word}
+use Rattle.elaboration_laws.proofs.Scopes.{found_thing}
+use Rattle.elaboration_laws.proofs.Extended.{further, in_either, slice_all, entries_part, type_more}
+use Rattle.elaboration_laws.specs.Valid.{IsTypedSetting}
+use Rattle.elaboration_laws.specs.Lists.{is_built, after}
+use Rattle.elaboration_laws.proofs.Made.{tuples_built}
+use Rattle.elaboration_laws.proofs.Joined.{matched_usable}
+use Rattle.elaboration_laws.proofs.Places.{none_here}
+use Rattle.elaboration_laws.proofs.CopiedRights.{right_typed}
+use Rattle.elaboration_laws.specs.clones.clone_elements.Left.{Origin, symbol_at_place}
+use Rattle.elaboration_laws.specs.clones.clone_elements.Rights.{RightTree, type_right, symbol_right, no_right, symbol_missing, called_symbol, right_made, right_fault, right_tuples, rights_tuples, rights_fault}
+use Rattle.elaboration_laws.specs.clones.clone_elements.Plans.{SideTree, sides_made, symbol_for, symbols_replaced}
+use Rattle.elaboration_laws.specs.Sides.{IsTypedRight, IsTypedSide}
+use Rattle.elaboration_laws.proofs.Rights.{right_more, texts_count}
 use Rattle.std.proofs.lemmas.Option.{slice_get-get_or as some_at}
-use Rattle.valid_tasks.proofs.Declarations.{below as slice_below}
-use Rattle.valid_tasks.proofs.Names.{or_left as left_of}
-use Rattle.valid_tasks.proofs.Mapped.{only_here}
+use Rattle.elaboration_laws.proofs.Declarations.{below as slice_below}
+use Rattle.elaboration_laws.proofs.Names.{or_left as left_of}
+use Rattle.elaboration_laws.proofs.Mapped.{only_here}
 
 -- ---- with further entries
 module _ (xs ys : List SymbolTree) (ds : List DeclarationTree) where

@@ -4,10 +4,10 @@ use Rattle.std.specs.Prelude.{IsSomeAnd}
 use Rattle.std.proofs.lemmas.List.Elements.{All-drop, All-map, Contains-get_or}
 use Rattle.tasks.specs.Task.{TaskTree}
 use Rattle.tasks.specs.Valid.{IsValid}
-use Rattle.valid_tasks.specs.goal_tasks.Theories.{GoalTree, KnownTheoryTree, TheoriesTree, has_path, has_name, theory_named, goal_named}
-use Rattle.valid_tasks.specs.goal_tasks.Tasks.{task_for, IsTaskOf}
+use Rattle.elaboration_laws.specs.theory_states.goal_tasks.Theories.{GoalTree, KnownTheoryTree, TheoriesTree, has_path, has_name, theory_named, goal_named}
+use Rattle.elaboration_laws.specs.theory_states.goal_tasks.Tasks.{task_for, IsTaskOf}
 use Rattle.theory_states.specs.States.{KnownTree}
-use Rattle.valid_tasks.proofs.Scoped.{goal_valid}
+use Rattle.elaboration_laws.proofs.Scoped.{goal_valid}
 use Rattle.theories.specs.Files.{visible_theory, theories_of}
 use Rattle.theories.specs.Sources.{AreSoundIn}
 use Rattle.theories.proofs.SourceLists.{found_has, all_reversed}

@@ -2,32 +2,32 @@
 use Rattle.std.proofs.Common.{ℕ, ◌+◌, suc, true, List, [], ◌∷◌, ◌++◌, All, refl, sym, subst, arith}
 use Rattle.std.proofs.lemmas.List.Elements.{All-nil, All-cons, All-push}
 use Rattle.tasks.specs.Vocabulary.{of_signature}
-use Rattle.valid_tasks.specs.names_space.Names.{with_scope}
-use Rattle.syntax_why.specs.tokens_why.declared.terminal.Terminal.TheVariants as t
+use Rattle.elaboration_laws.specs.scopes.Names.{with_scope}
+use Rattle.surface.specs.tokens_why.declared.terminal.Terminal.TheVariants as t
 use Rattle.theory_states.specs.declared.moves.Move.TheVariants.{Opens, Closes}
 use Rattle.theory_states.specs.Moves.{left}
-use Rattle.syntax_why.specs.Lexeme.{Lexeme, mark, lx}
-use Rattle.syntax_why.specs.declared.names.Name.{Name}
-use Rattle.syntax_why.specs.declared.names.Path.{Path}
-use Rattle.syntax_why.specs.declared.declarations.Link.{Link}
-use Rattle.syntax_why.specs.Declarations.{Element, SyntaxDeclaration, SyntaxDeclarations, type_decl, algebraic_decl, function_decl, predicate_decl, constant_decl, inductive_decl, prop_decl, use_decl, clone_decl, scope_decl, no_decls, more_decls, write_decl, write_decls}
-use Rattle.syntax_why.specs.DeclarationRules.{IsLevelDecl, AreLevelDecls}
+use Rattle.surface.specs.Lexeme.{Lexeme, mark, lx}
+use Rattle.surface.specs.declared.names.Name.{Name}
+use Rattle.surface.specs.declared.names.Path.{Path}
+use Rattle.surface.specs.declared.declarations.Link.{Link}
+use Rattle.surface.specs.Declarations.{Element, SyntaxDeclaration, SyntaxDeclarations, type_decl, algebraic_decl, function_decl, predicate_decl, constant_decl, inductive_decl, prop_decl, use_decl, clone_decl, scope_decl, no_decls, more_decls, write_decl, write_decls}
+use Rattle.surface.specs.DeclarationRules.{IsLevelDecl, AreLevelDecls}
 use Rattle.std.specs.Prelude.{Option, codes}
-use Rattle.valid_tasks.specs.Lists.{after}
-use Rattle.valid_tasks.specs.Moves.{IsTypedMove}
-use Rattle.valid_tasks.proofs.MovedScopes.{opened_typed, left_typed}
-use Rattle.valid_tasks.specs.Quoted.{IsQuotedLexeme}
-use Rattle.valid_tasks.proofs.Quoted.{whole_in}
-use Rattle.valid_tasks.specs.Placed.{ArePlaced}
+use Rattle.elaboration_laws.specs.Lists.{after}
+use Rattle.elaboration_laws.specs.Moves.{IsTypedMove}
+use Rattle.elaboration_laws.proofs.MovedScopes.{opened_typed, left_typed}
+use Rattle.elaboration_laws.specs.Quoted.{IsQuotedLexeme}
+use Rattle.elaboration_laws.proofs.Quoted.{whole_in}
+use Rattle.elaboration_laws.specs.Placed.{ArePlaced}
 use Rattle.theory_states.specs.States.{OpenedTree, StateTree, visible_now}
 use Rattle.theory_states.specs.Uses.{IsTheoryUsed}
-use Rattle.valid_tasks.specs.Unaliased.{IsPlainMove}
-use Rattle.valid_tasks.specs.TypedStates.{IsTypedState}
-use Rattle.valid_tasks.proofs.Keeping.{renamed_typed, used_typed}
-use Rattle.valid_tasks.specs.Sound.{IsSoundState}
-use Rattle.valid_tasks.proofs.Scoped.{uses_kept, scopes_kept}
-use Rattle.clone_theories.specs.Cloned.{IsCloned}
-use Rattle.clone_theories.proofs.TypedClone.{cloned_typed, cloned_placed}
+use Rattle.elaboration_laws.specs.Unaliased.{IsPlainMove}
+use Rattle.elaboration_laws.specs.TypedStates.{IsTypedState}
+use Rattle.elaboration_laws.proofs.Keeping.{renamed_typed, used_typed}
+use Rattle.elaboration_laws.specs.Sound.{IsSoundState}
+use Rattle.elaboration_laws.proofs.Scoped.{uses_kept, scopes_kept}
+use Rattle.theories.specs.cloning.Cloned.{IsCloned}
+use Rattle.theories.proofs.cloning.TypedClone.{cloned_typed, cloned_placed}
 use Rattle.theories.specs.Plain.{IsPlainState}
 use Rattle.theories.proofs.Plain.{declared_plain, uses_plain, scopes_plain}
 use Rattle.theories.proofs.Cloned.{cloned_plain, cloned_sound}

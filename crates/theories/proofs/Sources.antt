@@ -5,26 +5,26 @@ use Rattle.std.specs.Str.{bytes_eq}
 use Rattle.std.specs.Option.{is_some}
 use Rattle.std.proofs.lemmas.List.Elements.{All-nil}
 use Rattle.tasks.specs.trees.Tree.{Tree}
-use Rattle.syntax_why.specs.tokens_why.declared.token.Token.{Token}
-use Rattle.syntax_why.specs.tokens_why.Tokens.{AreTokens}
-use Rattle.syntax_why.specs.tokens_why.declared.terminal.Terminal.TheVariants as t
+use Rattle.surface.specs.tokens_why.declared.token.Token.{Token}
+use Rattle.surface.specs.tokens_why.Tokens.{AreTokens}
+use Rattle.surface.specs.tokens_why.declared.terminal.Terminal.TheVariants as t
 use Rattle.tasks.specs.Vocabulary.{is_empty}
-use Rattle.syntax_why.specs.Lexeme.{mark, lx, rest}
-use Rattle.syntax_why.specs.Declarations.{SyntaxDeclarations, SyntaxTheory, heading, write_decls, write_theory, write_file}
-use Rattle.syntax_why.specs.DeclarationRules.{AreLevelDecls, IsLevelFile}
-use Rattle.syntax_why.specs.declared.declarations.File.{File}
-use Rattle.syntax_why.specs.SurfaceDeclarations.{file_of}
-use Rattle.std_theories.specs.recognise_why.Sources.{IsOnlyFile}
-use Rattle.std_theories.specs.Library.{LibraryEntry, AreFilesOf, library}
-use Rattle.valid_tasks.specs.elab_parts.Entries.{builtin}
-use Rattle.valid_tasks.proofs.QuotedTokens.{tokens_quoted}
-use Rattle.valid_tasks.specs.goal_tasks.Theories.{TheoriesTree}
-use Rattle.valid_tasks.specs.Placed.{ArePlaced}
+use Rattle.surface.specs.Lexeme.{mark, lx, rest}
+use Rattle.surface.specs.Declarations.{SyntaxDeclarations, SyntaxTheory, heading, write_decls, write_theory, write_file}
+use Rattle.surface.specs.DeclarationRules.{AreLevelDecls, IsLevelFile}
+use Rattle.surface.specs.declared.declarations.File.{File}
+use Rattle.surface.specs.SurfaceDeclarations.{file_of}
+use Rattle.parser.specs.grammar.recognise.Sources.{IsOnlyFile}
+use Rattle.parser.specs.std_theories.Library.{LibraryEntry, AreFilesOf, library}
+use Rattle.elaboration_laws.specs.elab_groups.parts.Entries.{builtin}
+use Rattle.elaboration_laws.proofs.QuotedTokens.{tokens_quoted}
+use Rattle.elaboration_laws.specs.theory_states.goal_tasks.Theories.{TheoriesTree}
+use Rattle.elaboration_laws.specs.Placed.{ArePlaced}
 use Rattle.theory_states.specs.States.{KnownTree, StateTree, known_named, opened_empty}
-use Rattle.valid_tasks.specs.TypedStates.{AreTypedTheories}
-use Rattle.valid_tasks.proofs.Keeping.{theories_same, begun_typed, ended_typed}
-use Rattle.valid_tasks.specs.Sound.{AreSoundTheories}
-use Rattle.valid_tasks.proofs.Begun.{begins, ends, nothing_sound}
+use Rattle.elaboration_laws.specs.TypedStates.{AreTypedTheories}
+use Rattle.elaboration_laws.proofs.Keeping.{theories_same, begun_typed, ended_typed}
+use Rattle.elaboration_laws.specs.Sound.{AreSoundTheories}
+use Rattle.elaboration_laws.proofs.Begun.{begins, ends, nothing_sound}
 use Rattle.theories.specs.Plain.{IsPlainKnown, ArePlainTheories}
 use Rattle.theories.proofs.Plain.{begins_plain, ends_plain}
 use Rattle.theories.specs.Files.{IsTheoryBegun, IsEnded, is_path_taken, IsNewTheoryBy, AreTypedInBy, IsRestarted, AreEmbeddedInBy, AreEmbeddedBy, nothing_known}

@@ -2,24 +2,24 @@
 use Rattle.std.proofs.Common.{◌≡◌, ℕ, ◌<◌, not, if◌then◌else◌, cond, Bool, true, false, List, [], ◌∷◌, ◌++◌, length, get_or, slice_get, All, Option, Some, None, option_to_list, append_assoc, refl, sym, ap, ◌∙◌}
 use Rattle.std.proofs.lemmas.List.Elements.{All-head, All-tail, All-append, Contains-get_or}
 use Rattle.tasks.specs.Task.{SymbolTree, DeclarationTree, made_by}
-use Rattle.valid_tasks.specs.clones.Mapped.{Map}
-use Rattle.syntax_why.specs.Lexeme.{Word}
-use Rattle.syntax_why.specs.declared.declarations.PropKind.{PropKind}
-use Rattle.syntax_why.specs.declared.declarations.PropKind.TheVariants as kind
+use Rattle.elaboration_laws.specs.clones.Mapped.{Map}
+use Rattle.surface.specs.Lexeme.{Word}
+use Rattle.surface.specs.declared.declarations.PropKind.{PropKind}
+use Rattle.surface.specs.declared.declarations.PropKind.TheVariants as kind
 use Rattle.theory_states.specs.States.{at_places}
-use Rattle.valid_tasks.specs.Sound.{others}
-use Rattle.valid_tasks.specs.Cloning.{IsMadeRight, AreMadeRight}
-use Rattle.valid_tasks.specs.Steps.{CopyStep, leaves, joins, declaration_of, declarations_of, taken_of, made_of, made_from, IsClone}
-use Rattle.valid_tasks.proofs.Vocabularies.{made_below}
-use Rattle.valid_tasks.proofs.ClonedGoals.{right_more}
-use Rattle.valid_tasks.proofs.StateOthers.{made_right_of}
-use Rattle.valid_tasks.specs.clone_elements.Left.{no_declaration, decl_or}
-use Rattle.valid_tasks.specs.clone_elements.Plans.{is_replaced, kind_or}
-use Rattle.valid_tasks.specs.clone_copies.Origins.{is_own}
-use Rattle.valid_tasks.specs.clone_copies.Places.{Copying}
-use Rattle.valid_tasks.specs.PlaceSteps.{step_as, step_of, copy_step_at, copy_steps_at}
+use Rattle.elaboration_laws.specs.Sound.{others}
+use Rattle.elaboration_laws.specs.Cloning.{IsMadeRight, AreMadeRight}
+use Rattle.elaboration_laws.specs.Steps.{CopyStep, leaves, joins, declaration_of, declarations_of, taken_of, made_of, made_from, IsClone}
+use Rattle.elaboration_laws.proofs.Vocabularies.{made_below}
+use Rattle.elaboration_laws.proofs.ClonedGoals.{right_more}
+use Rattle.elaboration_laws.proofs.StateOthers.{made_right_of}
+use Rattle.elaboration_laws.specs.clones.clone_elements.Left.{no_declaration, decl_or}
+use Rattle.elaboration_laws.specs.clones.clone_elements.Plans.{is_replaced, kind_or}
+use Rattle.elaboration_laws.specs.clones.clone_copies.Origins.{is_own}
+use Rattle.elaboration_laws.specs.clones.clone_copies.Places.{Copying}
+use Rattle.elaboration_laws.specs.PlaceSteps.{step_as, step_of, copy_step_at, copy_steps_at}
 use Rattle.std.proofs.lemmas.Option.{slice_get-get_or as some_at}
-use Rattle.valid_tasks.proofs.Joined.{into_made}
+use Rattle.elaboration_laws.proofs.Joined.{into_made}
 
 module _ (x : Copying) (ds : List DeclarationTree) where
   of_kind : (k : PropKind) (d : DeclarationTree) → declaration_of (step_as k d) ≡ d

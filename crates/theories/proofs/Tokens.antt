@@ -4,19 +4,19 @@ use Rattle.std.specs.List.{list_all}
 use Rattle.std.proofs.lemmas.Bool.{eqb-true, and_from as joins}
 use Rattle.std.proofs.lemmas.Bool.Decides.{nat_tests}
 use Rattle.std.proofs.lemmas.List.Elements.{All-nil, All-cons, All-map, All-drop}
-use Rattle.syntax_why.specs.tokens_why.declared.token.Token.{Token}
-use Rattle.syntax_why.specs.tokens_why.declared.token.TokenKind.{TokenKind}
-use Rattle.syntax_why.specs.tokens_why.declared.token.TokenKind.TheVariants as k
-use Rattle.syntax_why.specs.tokens_why.declared.terminal.Terminal.{Terminal}
-use Rattle.syntax_why.specs.tokens_why.declared.terminal.Terminal.TheVariants as t
-use Rattle.syntax_why.specs.tokens_why.declared.longest.Lead.{Lead}
-use Rattle.syntax_why.specs.tokens_why.declared.longest.Lead.TheVariants.{Letter, Quote, Digit, Sign, Mark}
-use Rattle.syntax_why.specs.tokens_why.Bytes.{is_digit, is_letter, is_lower, is_word_byte, is_operator_byte, is_one_of}
-use Rattle.syntax_why.specs.tokens_why.Literal.{is_literal}
-use Rattle.syntax_why.specs.tokens_why.Strings.{word_kind, run_kind, mark_kind, marks_kind, is_variable_name, only, lead_of, string_kind_by, kind_of}
-use Rattle.syntax_why.specs.tokens_why.Terminals.{terminal_of}
-use Rattle.syntax_why.specs.tokens_why.Tokens.{text_of, Stop, whole, Reads, AreTokens}
-use Rattle.syntax_why.specs.Lexeme.{Word, said, lexeme, rest}
+use Rattle.surface.specs.tokens_why.declared.token.Token.{Token}
+use Rattle.surface.specs.tokens_why.declared.token.TokenKind.{TokenKind}
+use Rattle.surface.specs.tokens_why.declared.token.TokenKind.TheVariants as k
+use Rattle.surface.specs.tokens_why.declared.terminal.Terminal.{Terminal}
+use Rattle.surface.specs.tokens_why.declared.terminal.Terminal.TheVariants as t
+use Rattle.surface.specs.tokens_why.declared.longest.Lead.{Lead}
+use Rattle.surface.specs.tokens_why.declared.longest.Lead.TheVariants.{Letter, Quote, Digit, Sign, Mark}
+use Rattle.surface.specs.tokens_why.Bytes.{is_digit, is_letter, is_lower, is_word_byte, is_operator_byte, is_one_of}
+use Rattle.surface.specs.tokens_why.Literal.{is_literal}
+use Rattle.surface.specs.tokens_why.Strings.{word_kind, run_kind, mark_kind, marks_kind, is_variable_name, only, lead_of, string_kind_by, kind_of}
+use Rattle.surface.specs.tokens_why.Terminals.{terminal_of}
+use Rattle.surface.specs.tokens_why.Tokens.{text_of, Stop, whole, Reads, AreTokens}
+use Rattle.surface.specs.Lexeme.{Word, said, lexeme, rest}
 use Rattle.tasks.specs.Words.{IsScopedName}
 use Rattle.theories.specs.Lexemes.{SaysWord, IsWordLexeme, AreWordLexemes}
 use Rattle.theories.proofs.Words.{all_to, implied, is_number_byte, is_part_byte, empty_name, part}

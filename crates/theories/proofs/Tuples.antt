@@ -8,8 +8,8 @@ use Rattle.tasks.specs.declared.signature.SymbolKind.TheVariants.{Constructor, P
 use Rattle.tasks.specs.Task.{SymbolTree, symbol_or}
 use Rattle.tasks.specs.Equations.{type_variables}
 use Rattle.tasks.specs.Valid.{own_type}
-use Rattle.syntax_why.specs.Lexeme.{Word}
-use Rattle.valid_tasks.specs.elab_parts.Entries.{builtin, type_entry, projection_name, projections, constructor_entries, tuple_entries, tuple_in, wanting_tuple, wanting_tuples}
+use Rattle.surface.specs.Lexeme.{Word}
+use Rattle.elaboration_laws.specs.elab_groups.parts.Entries.{builtin, type_entry, projection_name, projections, constructor_entries, tuple_entries, tuple_in, wanting_tuple, wanting_tuples}
 use Rattle.tasks.specs.Words.{IsScopedName}
 use Rattle.theories.specs.Names.{HaveWords}
 use Rattle.theories.proofs.Words.{written_name, joined, number_after, numbered}

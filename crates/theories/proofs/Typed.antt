@@ -2,12 +2,12 @@
 use Rattle.std.proofs.Common.{ℕ, ◌-◌, zero, suc, codes, List, [], ◌∷◌, ◌++◌, length, All, Option, Some, None, slice_get, refl, sym, subst, arith}
 use Rattle.std.specs.Option.{IfSome, unwrap_or}
 use Rattle.std.proofs.lemmas.List.Elements.{All-nil, All-cons}
-use Rattle.syntax_why.specs.tokens_why.declared.terminal.Terminal.TheVariants as t
-use Rattle.syntax_why.specs.Lexeme.{Word, Lexeme, mark, lx}
-use Rattle.syntax_why.specs.declared.names.Name.{Name}
-use Rattle.syntax_why.specs.declared.names.Path.{Path}
-use Rattle.syntax_why.specs.declared.declarations.Link.{Link}
-use Rattle.syntax_why.specs.Declarations.{SyntaxDeclaration, SyntaxDeclarations, use_decl, clone_decl, scope_decl, no_decls, more_decls, link_words, path_from, write_path, renamed, substitution, write_decl, write_decls}
+use Rattle.surface.specs.tokens_why.declared.terminal.Terminal.TheVariants as t
+use Rattle.surface.specs.Lexeme.{Word, Lexeme, mark, lx}
+use Rattle.surface.specs.declared.names.Name.{Name}
+use Rattle.surface.specs.declared.names.Path.{Path}
+use Rattle.surface.specs.declared.declarations.Link.{Link}
+use Rattle.surface.specs.Declarations.{SyntaxDeclaration, SyntaxDeclarations, use_decl, clone_decl, scope_decl, no_decls, more_decls, link_words, path_from, write_path, renamed, substitution, write_decl, write_decls}
 use Rattle.theory_states.specs.States.{StateTree}
 use Rattle.theory_states.specs.Uses.{last_part, alias_text, IsTheoryUsed}
 use Rattle.theories.specs.Typing.{IsPassed, IsOpened, IsDeclarationTyped, AreDeclarationsTyped}
@@ -15,7 +15,7 @@ use Rattle.tasks.specs.Words.{IsScopedName}
 use Rattle.theories.specs.Lexemes.{IsWordLexeme, AreWordLexemes}
 use Rattle.theories.specs.Names.{HasWordNames}
 use Rattle.theories.proofs.Words.{written_name, joined}
-use Rattle.valid_tasks.proofs.Variables.{tail_of, front_of, back_of}
+use Rattle.elaboration_laws.proofs.Variables.{tail_of, front_of, back_of}
 use Rattle.theories.proofs.Declared.{declared_words}
 use Rattle.theories.proofs.WordCloned.{cloned_words}
 

@@ -1,19 +1,19 @@
 -- A walk over declarations: what is typed so far, and what the rest leaves to say.
 use Rattle.std.proofs.Common.{◌≡◌, ℕ, zero, suc, ◌<◌, ◌≤◌, ◌+◌, List, [], ◌∷◌, map, length, get_or, drop, refl, sym, ap, subst, ◌∙◌, inl, inr, arith, add-one, Result, Ok, Err, IfErr}
 use Rattle.std.proofs.lemmas.List.{drop_all}
-use Rattle.syntax_why.specs.declared.declarations.DeclTree.{DeclTree}
-use Rattle.syntax_why.specs.Declarations.{SyntaxDeclaration, SyntaxDeclarations, type_decl, algebraic_decl, function_decl, predicate_decl, constant_decl, inductive_decl, prop_decl, use_decl, clone_decl, scope_decl, more_decls}
-use Rattle.syntax_why.specs.SurfaceDeclarations.{decl_of, decls}
-use Rattle.valid_tasks.specs.elab_terms.Outcomes.{IsLogical}
+use Rattle.surface.specs.declared.declarations.DeclTree.{DeclTree}
+use Rattle.surface.specs.Declarations.{SyntaxDeclaration, SyntaxDeclarations, type_decl, algebraic_decl, function_decl, predicate_decl, constant_decl, inductive_decl, prop_decl, use_decl, clone_decl, scope_decl, more_decls}
+use Rattle.surface.specs.SurfaceDeclarations.{decl_of, decls}
+use Rattle.elaboration_laws.specs.elab_declarations.Outcomes.{IsLogical}
 use Rattle.theory_states.specs.declared.fault.SourceFault.{SourceFault}
 use Rattle.theory_states.specs.declared.fault.SourceFault.TheVariants.{Memory, Unknown, Duplicate, WrongKind, Arity, Clash, Undetermined, NotExhaustive, BadClause, NotPositive, NotStructural, GroupTooWide, Uninhabited, BadSubstitution}
 use Rattle.theory_states.specs.States.{StateTree}
 use Rattle.theory_states.specs.Uses.{OrMemory}
-use Rattle.theory_declarations.specs.Declared.{IsDeclaredFault}
+use Rattle.theories.specs.declaring.Declared.{IsDeclaredFault}
 use Rattle.theories.specs.Typing.{ThenStep, IsPassed, IsDeclarationFault, AreFaulty}
 use Rattle.theories.specs.Sound.{IsSoundlyDeclared, IsSoundlyTyped, AreSoundlyTyped}
 use Rattle.theories.proofs.Forgetting.{decl_forgotten}
-use Rattle.clone_theories.proofs.Faults.{or_weaker as or_memory}
+use Rattle.theories.proofs.cloning.Faults.{or_weaker as or_memory}
 
 -- what is typed from the start of all declarations, where the rest is typed from here, and so their faults
 pub record Walk (c0 c : StateTree) (rest all : SyntaxDeclarations) : Type 0 where

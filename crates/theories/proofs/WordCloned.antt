@@ -5,36 +5,36 @@ use Rattle.std.specs.Option.{IfSome}
 use Rattle.std.proofs.lemmas.List.Elements.{All-nil, All-cons, All-append, All-push, All-head, All-tail}
 use Rattle.tasks.specs.Task.{SymbolTree, BodyTree, MakesType, Makes, Defines, Induces, Constructs, Says, DeclarationTree, symbol_or}
 use Rattle.tasks.specs.Rigid.{rigid_symbol}
-use Rattle.syntax_why.specs.Lexeme.{Word}
-use Rattle.syntax_why.specs.Declarations.{Element, type_element, symbol_element, prop_element, all_axioms}
-use Rattle.syntax_why.specs.declared.names.Name.{Name}
-use Rattle.syntax_why.specs.declared.names.Path.{Path}
-use Rattle.syntax_why.specs.declared.declarations.Link.{Link}
-use Rattle.syntax_why.specs.declared.declarations.Link.TheVariants as link
-use Rattle.syntax_why.specs.declared.declarations.PropKind.{PropKind}
-use Rattle.syntax_why.specs.declared.declarations.PropKind.TheVariants as kind
+use Rattle.surface.specs.Lexeme.{Word}
+use Rattle.surface.specs.Declarations.{Element, type_element, symbol_element, prop_element, all_axioms}
+use Rattle.surface.specs.declared.names.Name.{Name}
+use Rattle.surface.specs.declared.names.Path.{Path}
+use Rattle.surface.specs.declared.declarations.Link.{Link}
+use Rattle.surface.specs.declared.declarations.Link.TheVariants as link
+use Rattle.surface.specs.declared.declarations.PropKind.{PropKind}
+use Rattle.surface.specs.declared.declarations.PropKind.TheVariants as kind
 use Rattle.theory_states.specs.Moves.{name_or}
-use Rattle.valid_tasks.specs.clones.Mapped.{Map}
-use Rattle.valid_tasks.specs.clones.Copies.{entry_copied}
-use Rattle.valid_tasks.specs.elab_names.Abstract.{type_expression}
-use Rattle.valid_tasks.specs.elab_variables.Seen.{form_seen}
-use Rattle.valid_tasks.specs.elab_parts.Elaborated.{unseen}
-use Rattle.valid_tasks.specs.clone_elements.Rights.{right_tuples, rights_tuples}
-use Rattle.valid_tasks.specs.clone_elements.Plans.{fates_of, kept, kind_or, is_replaced}
+use Rattle.elaboration_laws.specs.clones.Mapped.{Map}
+use Rattle.elaboration_laws.specs.clones.Copies.{entry_copied}
+use Rattle.elaboration_laws.specs.name_resolution.Abstract.{type_expression}
+use Rattle.elaboration_laws.specs.name_resolution.variables.Seen.{form_seen}
+use Rattle.elaboration_laws.specs.elab_groups.parts.Elaborated.{unseen}
+use Rattle.elaboration_laws.specs.clones.clone_elements.Rights.{right_tuples, rights_tuples}
+use Rattle.elaboration_laws.specs.clones.clone_elements.Plans.{fates_of, kept, kind_or, is_replaced}
 use Rattle.theory_states.specs.declared.states.AxiomAt.{AxiomAt}
 use Rattle.theory_states.specs.States.{KnownTree, StateTree, known_has_path, with_declaration}
 use Rattle.theory_states.specs.Uses.{path_text, last_part, alias_text}
-use Rattle.valid_tasks.specs.clone_copies.Origins.{Axioms, no_axioms, with_axioms, origin_of, is_own}
-use Rattle.valid_tasks.specs.clone_copies.Entries.{entries_copied}
-use Rattle.valid_tasks.specs.clone_copies.Places.{Copying, goal_with, with_copied_goal, with_kind, with_copy, copy_of, with_joined, with_own, with_place, with_places}
-use Rattle.clone_theories.specs.Cloned.{symbols_tupled, sides_in, map_in, within_of, copying_in, with_copied_entries, IsCloned}
+use Rattle.elaboration_laws.specs.clones.clone_copies.Origins.{Axioms, no_axioms, with_axioms, origin_of, is_own}
+use Rattle.elaboration_laws.specs.clones.clone_copies.Entries.{entries_copied}
+use Rattle.elaboration_laws.specs.clones.clone_copies.Places.{Copying, goal_with, with_copied_goal, with_kind, with_copy, copy_of, with_joined, with_own, with_place, with_places}
+use Rattle.theories.specs.cloning.Cloned.{symbols_tupled, sides_in, map_in, within_of, copying_in, with_copied_entries, IsCloned}
 use Rattle.tasks.specs.Words.{IsScopedName}
 use Rattle.theories.specs.Names.{HaveWords, HaveWordVariables, HasWordNames}
 use Rattle.theories.proofs.Words.{written_name, joined}
 use Rattle.theories.proofs.Tuples.{HasWord, tuples_words, symbol_word}
 use Rattle.theories.proofs.Outcomes.{rigid_words}
 use Rattle.theories.proofs.Declared.{HasWordVariables}
-use Rattle.clone_theories.proofs.TypedClone.{found_has}
+use Rattle.theories.proofs.cloning.TypedClone.{found_has}
 
 -- ---- the theory
 

@@ -2,18 +2,18 @@
 use Rattle.std.proofs.Common.{◌≡◌, ℕ, ◌+◌, codes, List, [], ◌∷◌, ◌++◌, Option, Some, None, IsSomeAnd, refl, sym, subst, ap}
 use Rattle.std.proofs.lemmas.List.Elements.{All-nil, All-cons, All-push, All-weaker}
 use Rattle.tasks.specs.trees.Tree.{Tree}
-use Rattle.syntax_why.specs.tokens_why.declared.token.Token.{Token}
-use Rattle.syntax_why.specs.tokens_why.declared.terminal.Terminal.TheVariants as t
-use Rattle.syntax_why.specs.tokens_why.Tokens.{AreTokens}
+use Rattle.surface.specs.tokens_why.declared.token.Token.{Token}
+use Rattle.surface.specs.tokens_why.declared.terminal.Terminal.TheVariants as t
+use Rattle.surface.specs.tokens_why.Tokens.{AreTokens}
 use Rattle.tasks.specs.Task.{SymbolTree, TaskTree, int_symbol}
-use Rattle.syntax_why.specs.Lexeme.{Lexeme, mark, lx, rest}
-use Rattle.syntax_why.specs.Declarations.{SyntaxDeclarations, SyntaxTheory, heading, write_decls, write_theory, write_file}
-use Rattle.syntax_why.specs.declared.declarations.File.{File}
-use Rattle.syntax_why.specs.SurfaceDeclarations.{file_of}
-use Rattle.std_theories.specs.recognise_why.Sources.{IsOnlyFile}
-use Rattle.std_theories.specs.Library.{LibraryEntry, AreFilesOf, library}
-use Rattle.valid_tasks.specs.goal_tasks.Theories.{GoalTree, KnownTheoryTree, TheoriesTree, theory_named, goal_named}
-use Rattle.valid_tasks.specs.goal_tasks.Tasks.{task_for, IsTaskOf}
+use Rattle.surface.specs.Lexeme.{Lexeme, mark, lx, rest}
+use Rattle.surface.specs.Declarations.{SyntaxDeclarations, SyntaxTheory, heading, write_decls, write_theory, write_file}
+use Rattle.surface.specs.declared.declarations.File.{File}
+use Rattle.surface.specs.SurfaceDeclarations.{file_of}
+use Rattle.parser.specs.grammar.recognise.Sources.{IsOnlyFile}
+use Rattle.parser.specs.std_theories.Library.{LibraryEntry, AreFilesOf, library}
+use Rattle.elaboration_laws.specs.theory_states.goal_tasks.Theories.{GoalTree, KnownTheoryTree, TheoriesTree, theory_named, goal_named}
+use Rattle.elaboration_laws.specs.theory_states.goal_tasks.Tasks.{task_for, IsTaskOf}
 use Rattle.theory_states.specs.States.{KnownTree, StateTree, known_as, opened_empty}
 use Rattle.theories.specs.Typing.{AreDeclarationsTyped}
 use Rattle.theories.specs.Files.{IsNewTheory, AreTypedIn, AreEmbeddedIn, AreEmbeddedBy, nothing_known, TheoriesOf}
@@ -22,7 +22,7 @@ use Rattle.theories.specs.Lexemes.{IsWordLexeme, AreWordLexemes}
 use Rattle.theories.specs.Names.{HaveWords, HaveWordVariables, HasWordNames}
 use Rattle.theories.proofs.Words.{written_name, line_word}
 use Rattle.theories.proofs.Tokens.{tokens_words}
-use Rattle.valid_tasks.proofs.Variables.{tail_of, front_of, back_of}
+use Rattle.elaboration_laws.proofs.Variables.{tail_of, front_of, back_of}
 use Rattle.theories.proofs.Tuples.{HasWord}
 use Rattle.theories.proofs.Declared.{HasWordVariables}
 use Rattle.theories.proofs.Typed.{all_typed_words}

@@ -3,22 +3,22 @@ use Rattle.std.proofs.Common.{codes, List, [], ◌∷◌, ◌++◌, map, All, So
 use Rattle.std.specs.Option.{IfSome}
 use Rattle.std.specs.List.{AllByRecursion}
 use Rattle.std.proofs.lemmas.List.Elements.{All-weaker}
-use Rattle.syntax_why.specs.tokens_why.declared.terminal.Terminal.{Terminal}
-use Rattle.syntax_why.specs.tokens_why.declared.terminal.Terminal.TheVariants as t
-use Rattle.syntax_why.specs.Lexeme.{Word, Lexeme, mark, lx}
-use Rattle.syntax_why.specs.Forms.{Own, lower, upper, infix_op, prefix_op, star, scoped, write_own, write_called, write_form}
-use Rattle.syntax_why.specs.Forms as surface
-use Rattle.syntax_why.specs.Trees.{SyntaxTree, write, bar_before, type_part}
-use Rattle.syntax_why.specs.Declarations.{variable_row, param_row, definition, write_member, other_members, write_constructor, constructor_tail, constructor_list, write_algebraic, algebraic_tail, clause_list, write_inductive, inductive_tail, prop_word, write_decl}
-use Rattle.syntax_why.specs.Declarations as source
-use Rattle.valid_tasks.specs.elab_names.Abstract.{expression, spelled, prefix_name, infix_name, text_of_own}
-use Rattle.valid_tasks.specs.elab_parts.Declarations.{GroupMember, AlgebraicConstructor, AlgebraicType, Declaration, abstract_type, alias, algebraic, member_group, inductive, proposition_declaration, declaration, symbol, group_member, constructor, algebraic_type, inductive_predicate}
-use Rattle.valid_tasks.specs.elab_inductives.Inductives.{as_members}
-use Rattle.valid_tasks.specs.elab_terms.Outcomes.{proposition_seen}
+use Rattle.surface.specs.tokens_why.declared.terminal.Terminal.{Terminal}
+use Rattle.surface.specs.tokens_why.declared.terminal.Terminal.TheVariants as t
+use Rattle.surface.specs.Lexeme.{Word, Lexeme, mark, lx}
+use Rattle.surface.specs.Forms.{Own, lower, upper, infix_op, prefix_op, star, scoped, write_own, write_called, write_form}
+use Rattle.surface.specs.Forms as surface
+use Rattle.surface.specs.Trees.{SyntaxTree, write, bar_before, type_part}
+use Rattle.surface.specs.Declarations.{variable_row, param_row, definition, write_member, other_members, write_constructor, constructor_tail, constructor_list, write_algebraic, algebraic_tail, clause_list, write_inductive, inductive_tail, prop_word, write_decl}
+use Rattle.surface.specs.Declarations as source
+use Rattle.elaboration_laws.specs.name_resolution.Abstract.{expression, spelled, prefix_name, infix_name, text_of_own}
+use Rattle.elaboration_laws.specs.elab_groups.parts.Declarations.{GroupMember, AlgebraicConstructor, AlgebraicType, Declaration, abstract_type, alias, algebraic, member_group, inductive, proposition_declaration, declaration, symbol, group_member, constructor, algebraic_type, inductive_predicate}
+use Rattle.elaboration_laws.specs.elab_declarations.inductive_declarations.Inductives.{as_members}
+use Rattle.elaboration_laws.specs.elab_declarations.Outcomes.{proposition_seen}
 use Rattle.tasks.specs.Words.{IsScopedName}
 use Rattle.theories.specs.Lexemes.{SaysWord, IsWordLexeme, AreWordLexemes}
 use Rattle.theories.proofs.Words.{written_name, joined}
-use Rattle.valid_tasks.proofs.Variables.{VariableAs, IsVariable, tail_of, front_of, back_of, variables_told}
+use Rattle.elaboration_laws.proofs.Variables.{VariableAs, IsVariable, tail_of, front_of, back_of, variables_told}
 
 -- ---- what is named
 abbrev pub ConstructorsNamed : List AlgebraicConstructor → Type 0

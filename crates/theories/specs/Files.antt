@@ -5,12 +5,12 @@ use Rattle.std.specs.Str.{bytes_eq}
 use Rattle.tasks.specs.trees.Tree.{Tree}
 use Rattle.tasks.specs.Task.{int_symbol}
 use Rattle.tasks.specs.Vocabulary.{is_empty}
-use Rattle.syntax_why.specs.Declarations.{SyntaxDeclarations, SyntaxTheory}
-use Rattle.syntax_why.specs.declared.declarations.File.{File}
-use Rattle.syntax_why.specs.SurfaceDeclarations.{file_of}
-use Rattle.std_theories.specs.Library.{AreFilesOf, library}
-use Rattle.valid_tasks.specs.elab_parts.Entries.{builtin}
-use Rattle.valid_tasks.specs.goal_tasks.Theories.{KnownTheoryTree, TheoriesTree}
+use Rattle.surface.specs.Declarations.{SyntaxDeclarations, SyntaxTheory}
+use Rattle.surface.specs.declared.declarations.File.{File}
+use Rattle.surface.specs.SurfaceDeclarations.{file_of}
+use Rattle.parser.specs.std_theories.Library.{AreFilesOf, library}
+use Rattle.elaboration_laws.specs.elab_groups.parts.Entries.{builtin}
+use Rattle.elaboration_laws.specs.theory_states.goal_tasks.Theories.{KnownTheoryTree, TheoriesTree}
 use Rattle.theory_states.specs.declared.fault.SourceFault.{SourceFault}
 use Rattle.theory_states.specs.declared.fault.SourceFault.TheVariants.{Duplicate}
 use Rattle.theory_states.specs.States.{KnownTree, StateTree, at_places, known_named, known_as, opened_empty}

@@ -1,8 +1,8 @@
 -- Texts of tokens that are names.
 use Rattle.std.specs.Prelude.{List, All}
-use Rattle.syntax_why.specs.tokens_why.declared.terminal.Terminal.{Terminal}
-use Rattle.syntax_why.specs.tokens_why.declared.terminal.Terminal.TheVariants as t
-use Rattle.syntax_why.specs.Lexeme.{Word, Lexeme}
+use Rattle.surface.specs.tokens_why.declared.terminal.Terminal.{Terminal}
+use Rattle.surface.specs.tokens_why.declared.terminal.Terminal.TheVariants as t
+use Rattle.surface.specs.Lexeme.{Word, Lexeme}
 use Rattle.tasks.specs.Words.{IsScopedName}
 
 -- the text of a name or an operator, and of what has none; that of an integer is its value, and no text

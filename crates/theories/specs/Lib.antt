@@ -1,7 +1,12 @@
-pub use Rattle.valid_tasks.specs.goal_tasks as goal_tasks
+pub use Rattle.checks.specs as checks
+pub use Rattle.elab_declarations.specs as elab_declarations
+pub use Rattle.elaboration_laws.specs.theory_states as theory_states
 pub use Rattle.theory_states.specs as theory_states
-pub use Rattle.valid_tasks.specs.match_cover as match_cover
-pub use Rattle.valid_tasks.specs.decl_checks as decl_checks
+pub use Rattle.elaboration_laws.specs.checks as checks
+pub mod cloning
+pub mod declaring
+pub mod plain_theories
+pub mod side_conditions
 pub mod Ints
 pub mod Typing
 pub mod Files

@@ -4,7 +4,7 @@ use Rattle.tasks.specs.Task.{BodyTree, Says, DeclarationTree}
 use Rattle.theory_states.specs.declared.moves.Move.{Move}
 use Rattle.theory_states.specs.declared.states.AxiomAt.{AxiomAt}
 use Rattle.theory_states.specs.States.{KnownTree, StateTree}
-use Rattle.valid_tasks.specs.Unaliased.{IsPlainMove}
+use Rattle.elaboration_laws.specs.Unaliased.{IsPlainMove}
 
 abbrev pub IsSaid : BodyTree → Type 0
 IsSaid (Says e) = Unit {0}

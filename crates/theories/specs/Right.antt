@@ -4,13 +4,13 @@ use Rattle.std.specs.Str.{bytes_eq}
 use Rattle.tasks.specs.trees.Tree.{Tree}
 use Rattle.tasks.specs.Meaning.{symbols_at, declarations_at}
 use Rattle.tasks.specs.Vocabulary.{is_empty}
-use Rattle.valid_tasks.specs.elab_parts.Entries.{builtin}
+use Rattle.elaboration_laws.specs.elab_groups.parts.Entries.{builtin}
 use Rattle.theory_states.specs.declared.states.Opened.{Opened}
 use Rattle.theory_states.specs.declared.states.Typed.{Typed}
 use Rattle.theory_states.specs.States.{StateTree, opened_empty}
 use Rattle.theory_states.specs.Meaning.{known_at, state_at, TypedHeld, StateHeld}
-use Rattle.valid_tasks.specs.Placed.{ArePlaced}
-use Rattle.valid_tasks.specs.TypedStates.{AreTypedTheories, IsTypedState}
+use Rattle.elaboration_laws.specs.Placed.{ArePlaced}
+use Rattle.elaboration_laws.specs.TypedStates.{AreTypedTheories, IsTypedState}
 
 pub record IsStateRight (s : List Tree) (t : Typed) (o : Opened) : Type 0 where
   pub held : StateHeld s t o

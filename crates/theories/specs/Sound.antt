@@ -1,14 +1,14 @@
 -- The theories of a source, typed so that what is known stays sound: for the laws, which know of one declaration what its typing ensures.
 use Rattle.std.specs.Prelude.{List, All}
 use Rattle.tasks.specs.trees.Tree.{Tree}
-use Rattle.syntax_why.specs.Declarations.{SyntaxDeclaration, SyntaxDeclarations, SyntaxTheory, write_decl}
-use Rattle.valid_tasks.specs.Lists.{IsGroupWhole}
-use Rattle.valid_tasks.specs.Quoted.{IsQuotedLexeme}
-use Rattle.valid_tasks.specs.goal_tasks.Theories.{TheoriesTree}
+use Rattle.surface.specs.Declarations.{SyntaxDeclaration, SyntaxDeclarations, SyntaxTheory, write_decl}
+use Rattle.elaboration_laws.specs.Lists.{IsGroupWhole}
+use Rattle.elaboration_laws.specs.Quoted.{IsQuotedLexeme}
+use Rattle.elaboration_laws.specs.theory_states.goal_tasks.Theories.{TheoriesTree}
 use Rattle.theory_states.specs.States.{StateTree}
-use Rattle.valid_tasks.specs.TypedStates.{IsTypedState}
-use Rattle.valid_tasks.specs.Sound.{IsSoundState}
-use Rattle.theory_declarations.specs.Declared.{IsDeclared}
+use Rattle.elaboration_laws.specs.TypedStates.{IsTypedState}
+use Rattle.elaboration_laws.specs.Sound.{IsSoundState}
+use Rattle.theories.specs.declaring.Declared.{IsDeclared}
 use Rattle.theories.specs.Typing.{IsTypedBy, AreTypedBy}
 use Rattle.theories.specs.Files.{TheoriesBy}
 

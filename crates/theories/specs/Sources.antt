@@ -1,9 +1,9 @@
 -- Theories over one signature that are sound.
 use Rattle.std.specs.Prelude.{◌≡◌, ℕ}
 use Rattle.tasks.specs.Valid.{AreInts}
-use Rattle.valid_tasks.specs.goal_tasks.Theories.{TheoriesTree}
+use Rattle.elaboration_laws.specs.theory_states.goal_tasks.Theories.{TheoriesTree}
 use Rattle.theory_states.specs.States.{StateTree}
-use Rattle.valid_tasks.specs.Sound.{AreSoundTheories}
+use Rattle.elaboration_laws.specs.Sound.{AreSoundTheories}
 use Rattle.theories.specs.Ints.{int_entries}
 use Rattle.theories.specs.Files.{theories_of}
 

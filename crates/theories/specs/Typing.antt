@@ -1,17 +1,17 @@
 -- The typing of a theory's declarations, one after another, and their first fault (Why3 manual, "theories").
 use Rattle.std.specs.Prelude.{◌≡◌, ◌⊎◌, ℕ, ◌+◌, true, false, codes, List, [], ◌∷◌, ◌++◌}
-use Rattle.valid_tasks.specs.names_space.Names.{with_scope, is_declared, entries_of, innermost}
-use Rattle.valid_tasks.specs.names_space.declared.Table.TheVariants.{Scopes}
+use Rattle.elaboration_laws.specs.scopes.Names.{with_scope, is_declared, entries_of, innermost}
+use Rattle.elaboration_laws.specs.scopes.declared.Table.TheVariants.{Scopes}
 use Rattle.theory_states.specs.declared.moves.Move.TheVariants.{Opens, Closes}
 use Rattle.theory_states.specs.Moves.{left}
-use Rattle.syntax_why.specs.declared.names.Name.{Name}
-use Rattle.syntax_why.specs.Declarations.{SyntaxDeclaration, SyntaxDeclarations, use_decl, clone_decl, scope_decl, no_decls, more_decls}
+use Rattle.surface.specs.declared.names.Name.{Name}
+use Rattle.surface.specs.Declarations.{SyntaxDeclaration, SyntaxDeclarations, use_decl, clone_decl, scope_decl, no_decls, more_decls}
 use Rattle.theory_states.specs.declared.fault.SourceFault.{SourceFault}
 use Rattle.theory_states.specs.declared.fault.SourceFault.TheVariants.{Duplicate}
 use Rattle.theory_states.specs.States.{StateTree}
 use Rattle.theory_states.specs.Uses.{IsTheoryUsed, IsUnknownTheory}
-use Rattle.theory_declarations.specs.Declared.{IsDeclared, IsDeclaredFault}
-use Rattle.clone_theories.specs.Cloned.{IsCloned, IsCloneFault}
+use Rattle.theories.specs.declaring.Declared.{IsDeclared, IsDeclaredFault}
+use Rattle.theories.specs.cloning.Cloned.{IsCloned, IsCloneFault}
 
 -- one step after another, and a fault after a step
 pub record ThenStep (R S : StateTree → StateTree → Type 0) (c c' : StateTree) : Type 0 where

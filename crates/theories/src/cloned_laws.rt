@@ -2,20 +2,20 @@
 ghost use Rattle.std.specs.Prelude.{ℕ, List, [], ◌∷◌, ◌++◌, All, Option};
 ghost use Rattle.tasks.specs.trees.Tree.{Tree};
 ghost use Rattle.tasks.specs.Task.{SymbolTree, DeclarationTree};
-ghost use Rattle.valid_tasks.specs.names_space.Names.{ScopeNames};
+ghost use Rattle.elaboration_laws.specs.scopes.Names.{ScopeNames};
 ghost use Rattle.theory_states.specs.declared.moves.Move.{Move};
-ghost use Rattle.syntax_why.specs.Declarations.{SyntaxDeclaration, Element};
-ghost use Rattle.syntax_why.specs.declared.names.Name.{Name};
-ghost use Rattle.syntax_why.specs.declared.names.Path.{Path};
-ghost use Rattle.syntax_why.specs.declared.declarations.Link.{Link};
+ghost use Rattle.surface.specs.Declarations.{SyntaxDeclaration, Element};
+ghost use Rattle.surface.specs.declared.names.Name.{Name};
+ghost use Rattle.surface.specs.declared.names.Path.{Path};
+ghost use Rattle.surface.specs.declared.declarations.Link.{Link};
 ghost use Rattle.theory_states.specs.States.{KnownTree, StateTree, opened_empty, known_as};
 ghost use Rattle.theory_states.specs.Uses.{IsTheoryUsed};
-ghost use Rattle.valid_tasks.specs.TypedStates.{IsTypedState};
-ghost use Rattle.valid_tasks.specs.Sound.{IsSoundState};
-ghost use Rattle.theory_declarations.specs.Declared.{IsDeclared};
-ghost use Rattle.valid_tasks.specs.Placed.{ArePlaced};
-ghost use Rattle.clone_theories.specs.Cloned.{IsCloned};
-ghost use Rattle.valid_tasks.specs.Unaliased.{IsPlainMove};
+ghost use Rattle.elaboration_laws.specs.TypedStates.{IsTypedState};
+ghost use Rattle.elaboration_laws.specs.Sound.{IsSoundState};
+ghost use Rattle.theories.specs.declaring.Declared.{IsDeclared};
+ghost use Rattle.elaboration_laws.specs.Placed.{ArePlaced};
+ghost use Rattle.theories.specs.cloning.Cloned.{IsCloned};
+ghost use Rattle.elaboration_laws.specs.Unaliased.{IsPlainMove};
 ghost use Rattle.theories.specs.Plain.{ArePlainTheories, IsPlainState};
 
 /// A law: a typed state that is sound stays so where a theory is cloned, if entries without a theory are

@@ -2,24 +2,24 @@
 // They depend on the typing of one declaration, on use and on clone; theories are typed by them.
 ghost use Rattle.std.specs.Prelude.{◌≡◌, ◌+◌, map, IfErr, OnOk};
 ghost use Rattle.tasks.specs.trees.Node.{Grows};
-ghost use Rattle.syntax_why.specs.SurfaceDeclarations.{decl_of, decls, element_of};
-ghost use Rattle.valid_tasks.specs.elab_terms.Outcomes.{IsLogical};
+ghost use Rattle.surface.specs.SurfaceDeclarations.{decl_of, decls, element_of};
+ghost use Rattle.elaboration_laws.specs.elab_declarations.Outcomes.{IsLogical};
 ghost use Rattle.theory_states.specs.declared.fault.SourceFault.TheVariants.{Memory};
 ghost use Rattle.theory_states.specs.Meaning.{known_at, state_at};
 ghost use Rattle.theory_states.specs.Uses.{OrMemory, IsTheoryUsed, IsUnknownTheory};
-ghost use Rattle.theory_declarations.specs.Declared.{IsDeclaredFault};
-ghost use Rattle.clone_theories.specs.Cloned.{IsCloned, IsCloneFault};
+ghost use Rattle.theories.specs.declaring.Declared.{IsDeclaredFault};
+ghost use Rattle.theories.specs.cloning.Cloned.{IsCloned, IsCloneFault};
 ghost use Rattle.theories.specs.Typing.{ThenStep, IsPassed, IsOpened, IsTwice, IsLeft, IsDeclarationFault, AreFaulty};
 ghost use Rattle.theories.specs.Sound.{IsSoundlyDeclared, IsSoundlyTyped, AreSoundlyTyped};
 ghost use Rattle.theories.specs.Right.{IsStateRight};
 
-use clone_theories::clone_theory;
+use crate::cloning::clone_theory;
+use crate::declaring::{is_logical, type_declaration};
+use elaboration_laws::NameFault;
 use std::alloc::Global;
-use syntax_why::{DeclNode, DeclTree, ElemTree, Link, Name, Path};
+use surface::{DeclNode, DeclTree, ElemTree, Link, Name, Path};
 use tasks::Store;
-use theory_declarations::{is_logical, type_declaration};
 use theory_states::{Move, Opened, SourceFault, Typed, leave, use_theory};
-use valid_tasks::NameFault;
 
 // The next declaration has the next number.
 fn pass(open: &mut Opened) -> Result<(), SourceFault>

@@ -4,8 +4,8 @@ ghost use Rattle.std.specs.Prelude.{◌≡◌, ℕ, List, map, IfErr, IfOk, OnOk
 ghost use Rattle.tasks.specs.trees.Tree.{Tree};
 ghost use Rattle.tasks.specs.trees.Node.{Grows};
 ghost use Rattle.tasks.specs.Meaning.{symbols_at};
-ghost use Rattle.syntax_why.specs.SurfaceDeclarations.{theory_of as source_of, file_of};
-ghost use Rattle.valid_tasks.specs.goal_tasks.Meaning.{theories_at, AllTheoriesHeld, AreTuples};
+ghost use Rattle.surface.specs.SurfaceDeclarations.{theory_of as source_of, file_of};
+ghost use Rattle.elaboration_laws.specs.theory_states.goal_tasks.Meaning.{theories_at, AllTheoriesHeld, AreTuples};
 ghost use Rattle.theory_states.specs.declared.fault.SourceFault.TheVariants.{Memory};
 ghost use Rattle.theory_states.specs.declared.states.KnownTheory.{KnownTheory as KnownCode};
 ghost use Rattle.theory_states.specs.Meaning.{known_at, state_at};
@@ -15,15 +15,15 @@ ghost use Rattle.theories.specs.Sound.{AreSoundlyTyped, SoundTheoriesOf};
 ghost use Rattle.theories.specs.Right.{IsStateRight, between_at, AreTheoriesRight, IsPath};
 
 use crate::declarations::type_decls;
+use crate::declaring::begin;
 use crate::ints::int_entries;
+use elaboration_laws::{Theories, Theory};
+use parser::std_theories::{drop_files, library_files};
 use std::alloc::{AllocError, Global};
 use std::rc::Rc;
-use std_theories::{drop_files, library_files};
-use syntax_why::{File, TheoryTree};
+use surface::{File, TheoryTree};
 use tasks::{Seq, Signature, Store, Text};
-use theory_declarations::begin;
 use theory_states::{KnownTheory, Opened, SourceFault, Typed};
-use valid_tasks::{Theories, Theory};
 
 // A theory begins, whose header has this number.
 fn begin_theory(

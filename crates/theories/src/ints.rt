@@ -3,8 +3,8 @@
 ghost use Rattle.std.specs.Prelude.{◌≡◌, List};
 ghost use Rattle.tasks.specs.trees.Tree.{Tree};
 ghost use Rattle.tasks.specs.Valid.{AreInts};
-ghost use Rattle.syntax_why.specs.Declarations.{SyntaxTheory};
-ghost use Rattle.valid_tasks.specs.goal_tasks.Theories.{TheoriesTree};
+ghost use Rattle.surface.specs.Declarations.{SyntaxTheory};
+ghost use Rattle.elaboration_laws.specs.theory_states.goal_tasks.Theories.{TheoriesTree};
 ghost use Rattle.theory_states.specs.States.{StateTree};
 ghost use Rattle.theories.specs.Ints.{int_entries};
 ghost use Rattle.theories.specs.Files.{IsLibraryTyped, TheoriesOf};

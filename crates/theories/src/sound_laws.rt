@@ -1,15 +1,15 @@
 // The theories of a source that is read from a text are sound, so the task of each of its goals is valid.
 ghost use Rattle.std.specs.Prelude.{ℕ, List};
 ghost use Rattle.tasks.specs.trees.Tree.{Tree};
-ghost use Rattle.syntax_why.specs.tokens_why.declared.token.Token.{Token};
-ghost use Rattle.syntax_why.specs.tokens_why.Tokens.{AreTokens};
+ghost use Rattle.surface.specs.tokens_why.declared.token.Token.{Token};
+ghost use Rattle.surface.specs.tokens_why.Tokens.{AreTokens};
 ghost use Rattle.tasks.specs.Task.{TaskTree};
 ghost use Rattle.tasks.specs.Valid.{IsValid};
-ghost use Rattle.syntax_why.specs.Lexeme.{rest};
-ghost use Rattle.syntax_why.specs.Declarations.{SyntaxTheory};
-ghost use Rattle.std_theories.specs.recognise_why.Sources.{IsOnlyFile};
-ghost use Rattle.valid_tasks.specs.goal_tasks.Theories.{TheoriesTree};
-ghost use Rattle.valid_tasks.specs.goal_tasks.Tasks.{IsTaskOf};
+ghost use Rattle.surface.specs.Lexeme.{rest};
+ghost use Rattle.surface.specs.Declarations.{SyntaxTheory};
+ghost use Rattle.parser.specs.grammar.recognise.Sources.{IsOnlyFile};
+ghost use Rattle.elaboration_laws.specs.theory_states.goal_tasks.Theories.{TheoriesTree};
+ghost use Rattle.elaboration_laws.specs.theory_states.goal_tasks.Tasks.{IsTaskOf};
 ghost use Rattle.theories.specs.Sound.{SoundTheoriesOf};
 ghost use Rattle.theories.specs.Sources.{AreSoundIn};
 

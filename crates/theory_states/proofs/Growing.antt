@@ -5,10 +5,10 @@ use Rattle.trees.specs.Node.{Grows}
 use Rattle.tasks.specs.Task.{SymbolTree, DeclarationTree}
 use Rattle.tasks.specs.Meaning.{symbols_at, declarations_at}
 use Rattle.tasks.proofs.Growth.{map_agree, held_later, tree_later, decl_held_later, declarations_later}
-use Rattle.elab_parts.proofs.Entering.{entries_stay, signature_grows}
-use Rattle.goal_tasks.specs.declared.theories.GoalAt.{GoalAt}
-use Rattle.goal_tasks.specs.Theories.{GoalTree}
-use Rattle.goal_tasks.specs.Meaning.{goal_at, GoalHeld}
+use Rattle.elab_groups.proofs.parts.Entering.{entries_stay, signature_grows}
+use Rattle.theory_states.specs.declared.goal_tasks.theories.GoalAt.{GoalAt}
+use Rattle.theory_states.specs.goal_tasks.Theories.{GoalTree}
+use Rattle.theory_states.specs.goal_tasks.Meaning.{goal_at, GoalHeld}
 use Rattle.theory_states.specs.declared.states.KnownTheory.{KnownTheory}
 use Rattle.theory_states.specs.declared.states.Opened.{Opened}
 use Rattle.theory_states.specs.declared.states.Typed.{Typed}

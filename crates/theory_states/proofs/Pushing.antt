@@ -7,8 +7,8 @@ use Rattle.trees.specs.Tree.{Tree}
 use Rattle.tasks.specs.declared.declaration.Decl.{Decl}
 use Rattle.tasks.specs.Task.{DeclarationTree}
 use Rattle.tasks.specs.Meaning.{symbols_at, declaration_at, declarations_at, DeclHeld}
-use Rattle.goal_tasks.specs.Meaning.{GoalHeld}
-use Rattle.elab_parts.specs.Entries.{IsSignature}
+use Rattle.theory_states.specs.goal_tasks.Meaning.{GoalHeld}
+use Rattle.elab_groups.specs.parts.Entries.{IsSignature}
 use Rattle.theory_states.specs.declared.states.KnownTheory.{KnownTheory}
 use Rattle.theory_states.specs.declared.states.Opened.{Opened}
 use Rattle.theory_states.specs.declared.states.Typed.{Typed}

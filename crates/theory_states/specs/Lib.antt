@@ -1,3 +1,4 @@
+pub mod goal_tasks
 pub mod States
 pub mod Uses
 pub mod Meaning

@@ -2,8 +2,8 @@
 use Rattle.std.specs.Prelude.{ℕ, ◌<◌, List, map, length, All}
 use Rattle.trees.specs.Tree.{Tree}
 use Rattle.tasks.specs.Meaning.{symbols_at, declarations_at, DeclHeld}
-use Rattle.goal_tasks.specs.Meaning.{goal_at, GoalHeld}
-use Rattle.elab_parts.specs.Entries.{IsSignature}
+use Rattle.theory_states.specs.goal_tasks.Meaning.{goal_at, GoalHeld}
+use Rattle.elab_groups.specs.parts.Entries.{IsSignature}
 use Rattle.theory_states.specs.declared.states.KnownTheory.{KnownTheory}
 use Rattle.theory_states.specs.declared.states.Opened.{Opened}
 use Rattle.theory_states.specs.declared.states.Typed.{Typed}

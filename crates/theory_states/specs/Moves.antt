@@ -1,9 +1,9 @@
 -- The names that a theory passes on, as moves in a scope: a name is brought in, or a scope is opened or left (Why3 manual, "use and
 -- clone").
 use Rattle.std.specs.Prelude.{ℕ, false, nat_lt, if◌then◌else◌, List, [], ◌∷◌, length, Option, Some, None}
-use Rattle.names_space.specs.Names.{ScopeNames, with_name, with_scope, closed}
-use Rattle.syntax_why.specs.declared.declarations.Link.{Link}
-use Rattle.syntax_why.specs.declared.declarations.Link.TheVariants.{Bare, Import, Export}
+use Rattle.scopes.specs.Names.{ScopeNames, with_name, with_scope, closed}
+use Rattle.surface.specs.declared.declarations.Link.{Link}
+use Rattle.surface.specs.declared.declarations.Link.TheVariants.{Bare, Import, Export}
 use Rattle.theory_states.specs.declared.moves.Move.{Move}
 use Rattle.theory_states.specs.declared.moves.Move.TheVariants.{Brings, Opens, Closes}
 

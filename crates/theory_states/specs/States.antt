@@ -5,9 +5,9 @@ use Rattle.std.specs.Str.{bytes_eq}
 use Rattle.indexmap.specs.IndexSet.{insert_all}
 use Rattle.trees.specs.Tree.{Tree}
 use Rattle.tasks.specs.Task.{SymbolTree, DeclarationTree}
-use Rattle.names_space.specs.Names.{ScopeNames, empty_names}
+use Rattle.scopes.specs.Names.{ScopeNames, empty_names}
 use Rattle.theory_states.specs.declared.moves.Move.{Move}
-use Rattle.goal_tasks.specs.Theories.{GoalTree}
+use Rattle.theory_states.specs.goal_tasks.Theories.{GoalTree}
 use Rattle.theory_states.specs.declared.states.AxiomAt.{AxiomAt}
 
 -- a theory: the places of the declarations that are visible at its end, goals left out; its axioms; its goals, and its lemmas that

@@ -1,9 +1,9 @@
 -- A theory that is used: its declarations are joined, and its names come into scopes (Why3 manual, "use").
 use Rattle.std.specs.Prelude.{◌≡◌, ℕ, ◌-◌, List, [], ◌∷◌, ◌++◌, length, slice_get, unwrap_or, Option, Some, None, option_map, codes}
 use Rattle.theory_states.specs.Moves.{brought, handed}
-use Rattle.syntax_why.specs.declared.names.Name.{Name}
-use Rattle.syntax_why.specs.declared.names.Path.{Path}
-use Rattle.syntax_why.specs.declared.declarations.Link.{Link}
+use Rattle.surface.specs.declared.names.Name.{Name}
+use Rattle.surface.specs.declared.names.Path.{Path}
+use Rattle.surface.specs.declared.declarations.Link.{Link}
 use Rattle.theory_states.specs.declared.fault.SourceFault.{SourceFault}
 use Rattle.theory_states.specs.declared.fault.SourceFault.TheVariants.{Memory, Unknown}
 use Rattle.theory_states.specs.States.{KnownTree, OpenedTree, StateTree, joined_places, known_named}

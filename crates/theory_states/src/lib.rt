@@ -1,12 +1,13 @@
-//! What is known while theories are typed: the theories before, the open one, and one list of all declarations, of which
-//! each theory has the places of those that are visible; the names that a theory passes on, as moves in a scope; a theory
-//! is used, and each form of `use` brings its names in.
+//! What is known while theories are typed: the theories before, the open one, and one list of all declarations, of
+//! which each theory has the places of those that are visible; the names that a theory passes on, as moves in a scope;
+//! the task of a goal.
 //!
-//! Contract: exactly the state after a theory is used, a declaration is put in, a theory is opened; the theory of a path;
-//! the scopes after a `use`, and what is passed on.
+//! Contract: exactly the state after a theory is used, a declaration is put in, a theory is opened; the theory of a
+//! path; the scopes after a `use`; the task of a goal.
 #![tactic(auto)]
 
 mod fault;
+pub mod goal_tasks;
 mod moves;
 mod states;
 mod uses;

@@ -4,10 +4,10 @@ ghost use Rattle.std.specs.Prelude.{◌≡◌, ◌++◌, OnOk};
 ghost use Rattle.std.specs.Option.{option_copied};
 ghost use Rattle.theory_states.specs.Moves.{left, moved, replayed, in_scope, brought, handed, name_or};
 
-use names_space::{Scope, Table, TypeName};
-use outside::Text;
+use scopes::{Scope, Table, TypeName};
 use std::alloc::AllocError;
-use syntax_why::Link;
+use surface::Link;
+use tasks::Text;
 
 /// A move in a scope.
 #[derive(Drop)]

@@ -6,13 +6,12 @@ ghost use Rattle.tasks.specs.Meaning.{declaration_at, DeclHeld};
 ghost use Rattle.theory_states.specs.States.{known_has_path, known_named, opened_empty, joined_places, with_declaration};
 ghost use Rattle.theory_states.specs.Meaning.{known_at, opened_at, state_at, OpenedHeld, StateHeld};
 
+use crate::goal_tasks::{GoalAt, Theory};
 use crate::moves::Move;
-use goal_tasks::{GoalAt, Theory};
 use indexmap::IndexSet;
-use names_space::Scope;
-use outside::{Seq, Text};
+use scopes::Scope;
 use std::alloc::{AllocError, Global};
-use tasks::{Decl, Signature};
+use tasks::{Decl, Seq, Signature, Text};
 
 /// An axiom of a theory, by its declaration's place, with the names of its type variables.
 #[derive(Drop)]

@@ -11,9 +11,9 @@ ghost use Rattle.theory_states.specs.Uses.{path_text, last_part, alias_text, OrM
 use crate::fault::SourceFault;
 use crate::moves::{Move, bring_theory, hand_on};
 use crate::states::{Opened, Typed};
-use outside::Text;
 use std::alloc::{AllocError, Global};
-use syntax_why::{Link, Name, Path};
+use surface::{Link, Name, Path};
+use tasks::Text;
 
 /// The parts of a path, joined by dots. Only want of memory refuses.
 pub fn path_text(alloc: Global, parts: &[Text]) -> Result<Text, AllocError>

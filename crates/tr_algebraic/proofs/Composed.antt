@@ -9,11 +9,11 @@ use Rattle.tasks.specs.Valid.{IsValid}
 use Rattle.evidence.specs.declared.stage.StageFault.{StageFault}
 use Rattle.evidence.specs.declared.stage.StageFault.TheVariants as fault
 use Rattle.evidence.specs.Stages.{Misplaced, TooLarge, Gives, IsStageFault, stage_answer, stage_equation, limited_gives}
-use Rattle.rule_rewriting.specs.rewriting.changed_tasks.stage_limits.Limits.{limited, are_small}
+use Rattle.walking.specs.evidence.stage_limits.Limits.{limited, are_small}
 use Rattle.tr_match.specs.Kept.{matches_equation, matches_keep}
-use Rattle.algebraic_tasks.specs.Plain.{task_with_laws}
-use Rattle.algebraic_tasks.specs.Refused.{refused_from}
-use Rattle.algebraic_tasks.specs.Kept.{large_after}
+use Rattle.tr_algebraic.specs.algebraic_tasks.Plain.{task_with_laws}
+use Rattle.tr_algebraic.specs.algebraic_tasks.Refused.{refused_from}
+use Rattle.tr_algebraic.specs.algebraic_tasks.Kept.{large_after}
 use Rattle.tr_algebraic.specs.Equation.{plain_task, algebraic_task, unless_refused, algebraic_equation}
 
 -- what is limited is not misplaced

@@ -13,18 +13,18 @@ use Rattle.tasks.specs.Valid.{IsTypeOver, IsValid}
 use Rattle.evidence.specs.Drafts.{DraftTree}
 use Rattle.evidence.specs.Facts.{IsFact}
 use Rattle.evidence.specs.Stages.{Gives, IsAmong, IsOwnTask}
-use Rattle.draft_images.proofs.task_parts.One.{among_one}
-use Rattle.draft_images.proofs.rewriting.Facts.{own_proposition}
-use Rattle.rule_rewriting.specs.rewriting.Facts.{IsImageAt}
+use Rattle.evidence.proofs.task_parts.One.{among_one}
+use Rattle.walking.proofs.rewriting.Facts.{own_proposition}
+use Rattle.walking.specs.rewriting.Facts.{IsImageAt}
 use Rattle.match_forms.specs.Forms.{without_matches}
-use Rattle.algebraic_tasks.specs.algebraic_forms.declared.origins.LawKind.{LawKind}
-use Rattle.algebraic_tasks.specs.declared.origins.PropositionOrigin.{PropositionOrigin}
-use Rattle.algebraic_tasks.specs.declared.origins.PropositionOrigin.TheVariants.{Proposition, Law}
-use Rattle.algebraic_tasks.specs.Origins.{placed_from, origins, IsLawThere, ComesFrom}
-use Rattle.algebraic_tasks.proofs.Named.{fact_before}
-use Rattle.algebraic_tasks.proofs.Placed.{proposition_from, proposition_listed}
-use Rattle.law_evidence.specs.Laws.{IsLawOf}
-use Rattle.law_evidence.proofs.GroupLaws.{group_laws_are_laws}
+use Rattle.algebraic_forms.specs.declared.origins.LawKind.{LawKind}
+use Rattle.tr_algebraic.specs.declared.algebraic_tasks.origins.PropositionOrigin.{PropositionOrigin}
+use Rattle.tr_algebraic.specs.declared.algebraic_tasks.origins.PropositionOrigin.TheVariants.{Proposition, Law}
+use Rattle.tr_algebraic.specs.algebraic_tasks.Origins.{placed_from, origins, IsLawThere, ComesFrom}
+use Rattle.tr_algebraic.proofs.algebraic_tasks.Named.{fact_before}
+use Rattle.tr_algebraic.proofs.algebraic_tasks.Placed.{proposition_from, proposition_listed}
+use Rattle.tr_algebraic.specs.law_evidence.Laws.{IsLawOf}
+use Rattle.tr_algebraic.proofs.law_evidence.GroupLaws.{group_laws_are_laws}
 use Rattle.tr_algebraic.specs.Equation.{algebraic_task, algebraic_equation}
 use Rattle.tr_algebraic.specs.Kept.{algebraic_one, algebraic_kept}
 use Rattle.tr_algebraic.proofs.Parameters.{no_parameters_at}

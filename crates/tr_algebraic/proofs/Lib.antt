@@ -1,3 +1,5 @@
+pub use Rattle.evidence.proofs as evidence
+pub use Rattle.walking.proofs as walking
 pub mod Composed
 pub mod Facts
 pub mod Parameters

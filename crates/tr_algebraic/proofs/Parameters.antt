@@ -8,7 +8,7 @@ use Rattle.tasks.specs.Task.{TaskTree}
 use Rattle.tasks.specs.Vocabulary.{of_task}
 use Rattle.tasks.specs.Valid.{OneOf, ParametersOf, IsTypeOver}
 use Rattle.tasks.proofs.Closing.{typed_sorted}
-use Rattle.rule_rewriting.proofs.images.TypesAt.{types_above}
+use Rattle.walking.proofs.images.TypesAt.{types_above}
 
 type_has_none : (t : TaskTree) (x : Tree) → IsTypeOver t 0 x → above_params x ≤ 0
 type_has_none t x o = omega (arith, types_above x (only_types x (typed_sorted (of_task t) [] x o.typed) (inl o.sort)))

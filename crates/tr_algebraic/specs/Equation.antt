@@ -3,9 +3,9 @@
 use Rattle.std.specs.Prelude.{ℕ, List, [], ◌∷◌, Option, Some, None, Result, Ok, Err}
 use Rattle.tasks.specs.Task.{TaskTree}
 use Rattle.match_forms.specs.Forms.{without_matches}
-use Rattle.rule_rewriting.specs.rewriting.changed_tasks.Changed.{changed_task}
-use Rattle.algebraic_tasks.specs.Plain.{task_with_laws}
-use Rattle.algebraic_tasks.specs.Refused.{refused_from}
+use Rattle.walking.specs.evidence.changed_tasks.Changed.{changed_task}
+use Rattle.tr_algebraic.specs.algebraic_tasks.Plain.{task_with_laws}
+use Rattle.tr_algebraic.specs.algebraic_tasks.Refused.{refused_from}
 
 -- the task without its `match`es
 abbrev pub plain_task : TaskTree → TaskTree

@@ -7,14 +7,14 @@ use Rattle.tasks.specs.Task.{BodyTree, MakesType, Makes, Defines, Induces, Const
 use Rattle.tasks.specs.Valid.{IsValid}
 use Rattle.evidence.specs.Stages.{IsGrouped, Keeps, Gives, stage_answer, limited_gives}
 use Rattle.evidence.specs.Bounded.{gives_small}
-use Rattle.rule_rewriting.specs.rewriting.changed_tasks.stage_limits.Limits.{are_small}
-use Rattle.rule_rewriting.specs.rewriting.changed_tasks.Changed.{with_formula, changed_declarations}
+use Rattle.walking.specs.evidence.stage_limits.Limits.{are_small}
+use Rattle.walking.specs.evidence.changed_tasks.Changed.{with_formula, changed_declarations}
 use Rattle.match_forms.specs.Forms.{without_matches}
 use Rattle.tr_match.specs.Kept.{matches_equation, matches_keep}
-use Rattle.algebraic_tasks.specs.algebraic_forms.NoMatch.{HasNoMatch}
-use Rattle.algebraic_tasks.specs.Plain.{IsBodyWithoutMatches, AreDeclsWithoutMatches, IsTaskWithoutMatches}
-use Rattle.algebraic_tasks.specs.Refused.{refused_by, refused_from}
-use Rattle.algebraic_tasks.specs.Kept.{small_limited, small_before, laws_keep}
+use Rattle.algebraic_forms.specs.NoMatch.{HasNoMatch}
+use Rattle.tr_algebraic.specs.algebraic_tasks.Plain.{IsBodyWithoutMatches, AreDeclsWithoutMatches, IsTaskWithoutMatches}
+use Rattle.tr_algebraic.specs.algebraic_tasks.Refused.{refused_by, refused_from}
+use Rattle.tr_algebraic.specs.algebraic_tasks.Kept.{small_limited, small_before, laws_keep}
 use Rattle.tr_algebraic.specs.Equation.{plain_task, algebraic_task, unless_refused, algebraic_equation}
 use Rattle.tr_algebraic.specs.Images.{image_none}
 

@@ -3,13 +3,13 @@ ghost use Rattle.tr_algebraic.specs.Equation.{algebraic_equation};
 ghost use Rattle.tr_algebraic.specs.Kept.{algebraic_task_keeps};
 
 use crate::citing::cite_fact;
+use crate::draft_images::changed_tasks;
 use crate::making::algebraic_tasks;
-use draft_images::changed_tasks;
 use evidence::{Draft, StageFault, Transform};
-use rule_rewriting::{FormulaScope, glue_rewritten};
 use std::alloc::{AllocError, Global};
 use tasks::{Fact, Store, Task, TermId};
 use tr_match::Matches;
+use walking::rule_rewriting::{FormulaScope, glue_rewritten};
 
 /// The transformation that makes each `match` its `if` form and then, in the place of each group of algebraic types, puts type by type
 /// the type, and for each constructor its symbol and its projections, and after all types their laws: each projection gives its field,

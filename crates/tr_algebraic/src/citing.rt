@@ -10,10 +10,10 @@ ghost use Rattle.evidence.specs.Facts.{IsFact};
 ghost use Rattle.evidence.specs.Stages.{InStage};
 ghost use Rattle.tr_algebraic.specs.Equation.{algebraic_equation};
 
-use algebraic_tasks::{PropositionOrigin, origin_of};
-use draft_images::cite_image;
+use crate::algebraic_tasks::{PropositionOrigin, origin_of};
+use crate::draft_images::cite_image;
+use crate::law_evidence::refute_law;
 use evidence::{Draft, fact_lemma};
-use law_evidence::refute_law;
 use std::alloc::AllocError;
 use tasks::{Fact, Grow, Task, TermId};
 use tr_match::Matches;

@@ -6,10 +6,10 @@ ghost use Rattle.tasks.specs.Task.{TaskTree};
 ghost use Rattle.tasks.specs.Meaning.{task_at, tasks_at, TaskHeld, TasksHeld};
 ghost use Rattle.tasks.specs.Valid.{IsValid};
 ghost use Rattle.evidence.specs.Stages.{IsStageFault, stage_equation};
-ghost use Rattle.algebraic_tasks.specs.Plain.{task_with_laws};
+ghost use Rattle.tr_algebraic.specs.algebraic_tasks.Plain.{task_with_laws};
 ghost use Rattle.tr_algebraic.specs.Equation.{algebraic_equation};
 
-use algebraic_tasks::{refused_place, tasks_with_laws};
+use crate::algebraic_tasks::{refused_place, tasks_with_laws};
 use evidence::{StageFault, Transform};
 use std::alloc::{AllocError, Global};
 use tasks::{Store, Task};

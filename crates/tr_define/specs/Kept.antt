@@ -10,10 +10,10 @@ use Rattle.tasks.specs.Task.{TaskTree, DeclarationTree, BodyTree, MakesType, Mak
 use Rattle.tasks.specs.Vocabulary.{of_task}
 use Rattle.tasks.specs.Valid.{IsValid}
 use Rattle.tasks.proofs.Declared.{matched_made, made_usable, contains_step}
-use Rattle.stage_limits.specs.Limits.{is_small, are_small, task_height}
+use Rattle.evidence.specs.stage_limits.Limits.{is_small, are_small, task_height}
 use Rattle.evidence.specs.Bounded.{gives_small}
 use Rattle.evidence.specs.Stages.{Gives, Keeps}
-use Rattle.task_parts.specs.Kept.{one_keeps}
+use Rattle.evidence.specs.task_parts.Kept.{one_keeps}
 use Rattle.declarations.specs.Rewritten.{rewritten_decls, rewritten_task}
 use Rattle.declarations.specs.Equation.{rewrite_equation}
 use Rattle.declarations.proofs.Rewritten.{rewritten_kept}

@@ -9,7 +9,7 @@ use Rattle.wanted_instances.specs.name_tables.Occurrences.{Occurrence}
 use Rattle.wanted_instances.specs.Discriminated.{last_set, discriminated_at, discriminated_task, misplaced_from}
 use Rattle.wanted_instances.specs.Growing.{GoesOn}
 use Rattle.wanted_instances.proofs.Nodes.{task_more}
-use Rattle.instance_sets.specs.Sets.{IsLargeAtSet}
+use Rattle.tr_discriminate.specs.instance_sets.Sets.{IsLargeAtSet}
 use Rattle.tr_discriminate.specs.Equation.{unless_misplaced, discriminate_equation}
 
 false_than : (n m : ℕ) → m < n → nat_le n m ≡ false

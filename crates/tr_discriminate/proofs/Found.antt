@@ -12,7 +12,7 @@ use Rattle.tasks.specs.Vocabulary.{Vocabulary}
 use Rattle.tasks.specs.Typing.{bound_types, TypedUnder}
 use Rattle.tasks.specs.Valid.{VariablesBelow, IsTypeIn}
 use Rattle.wanted_instances.proofs.Typed.{kind_good}
-use Rattle.instance_sets.specs.Made.{IsTypeTree}
+use Rattle.tr_discriminate.specs.instance_sets.Made.{IsTypeTree}
 use Rattle.tr_discriminate.specs.Found.{is_type_sort, leaf_found, types_found, ints}
 
 -- ---- as many types stay

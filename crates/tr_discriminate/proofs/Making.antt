@@ -10,8 +10,8 @@ use Rattle.tasks.specs.Meaning.{trees_at, declarations_at, task_at, DeclHeld, Ta
 use Rattle.tasks.proofs.Growth.{task_held_later}
 use Rattle.evidence.specs.Drafts.{DraftTree, Refutes}
 use Rattle.evidence.specs.Stages.{Gives, EndIn}
-use Rattle.task_parts.specs.Parts.{task_with, ArePartsHeld}
-use Rattle.task_parts.proofs.One.{end_there, end_of_one}
+use Rattle.evidence.specs.task_parts.Parts.{task_with, ArePartsHeld}
+use Rattle.evidence.proofs.task_parts.One.{end_there, end_of_one}
 use Rattle.wanted_instances.specs.Discriminated.{last_set, discriminated_decls, discriminated_task}
 use Rattle.declarations.proofs.Stored.{own_parts, task_is}
 use Rattle.tr_discriminate.specs.Equation.{discriminate_rule, discriminate_equation}

@@ -11,7 +11,7 @@ use Rattle.tasks.specs.Vocabulary.{of_task}
 use Rattle.tasks.specs.Valid.{IsTypeIn, IsTypeOver, IsValidBody, IsValidDecl, IsValid}
 use Rattle.evidence.specs.Facts.{IsFact}
 use Rattle.evidence.specs.Stages.{Gives, IsAmong}
-use Rattle.task_parts.proofs.One.{among_one}
+use Rattle.evidence.proofs.task_parts.One.{among_one}
 use Rattle.wanted_instances.specs.name_tables.Occurrences.{Occurrence}
 use Rattle.wanted_instances.specs.Wanted.{wanted_types, wanted_formulas}
 use Rattle.wanted_instances.specs.Discriminated.{is_monomorphic, last_set, said_at, proposition_of, put_in_place, discriminated_decls, discriminated_task}
@@ -22,7 +22,7 @@ use Rattle.declarations.proofs.Names.{fact_there}
 use Rattle.declarations.proofs.Rewritten.{roles_rewritten}
 use Rattle.tr_discriminate.specs.Equation.{discriminate_rule, discriminate_equation}
 use Rattle.tr_discriminate.specs.Kept.{discriminate_rule_keeps, discriminated_one}
-use Rattle.instance_sets.specs.Made.{IsTypeTree}
+use Rattle.tr_discriminate.specs.instance_sets.Made.{IsTypeTree}
 use Rattle.tr_discriminate.specs.Origins.{IsSaidInstance, HasOrigin}
 
 -- ---- no types change nothing

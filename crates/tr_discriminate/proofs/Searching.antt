@@ -26,8 +26,8 @@ use Rattle.evidence.specs.Drafts.{DraftTree, IsFormulaAt}
 use Rattle.evidence.specs.Facts.{IsFact}
 use Rattle.evidence.specs.Stages.{IsOwnTask}
 use Rattle.wanted_instances.proofs.Kept.{int_good}
-use Rattle.binders.specs.Visits.{HoldTypes}
-use Rattle.instance_sets.specs.Made.{IsTypeTree}
+use Rattle.trees.specs.binders.Visits.{HoldTypes}
+use Rattle.tr_discriminate.specs.instance_sets.Made.{IsTypeTree}
 use Rattle.tr_discriminate.specs.Found.{is_type_sort, type_noted, tree_noted, types_found, ints}
 use Rattle.tr_discriminate.specs.Origins.{IsTypeInstance, IsSaidInstance, HasOrigin, IsInstanceThere, AreFrom}
 use Rattle.tr_discriminate.proofs.Found.{instance_again, found_long, ints_long, ints_good, found_good}

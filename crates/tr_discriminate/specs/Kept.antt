@@ -6,7 +6,7 @@ use Rattle.tasks.specs.Task.{BodyTree, MakesType, Makes, Defines, Induces, Const
 use Rattle.tasks.specs.Roles.{maker, role_by, role_in, is_made_by, is_constructor}
 use Rattle.tasks.specs.Valid.{IsValid}
 use Rattle.evidence.specs.Stages.{Gives, Keeps, stage_answer, limited_gives}
-use Rattle.task_parts.specs.Kept.{one_keeps}
+use Rattle.evidence.specs.task_parts.Kept.{one_keeps}
 use Rattle.wanted_instances.specs.name_tables.Occurrences.{Occurrence}
 use Rattle.wanted_instances.specs.Wanted.{wanted_formulas}
 use Rattle.wanted_instances.specs.Discriminated.{is_monomorphic, said_at, proposition_of, put_in_place, last_set, discriminated_task, misplaced_from}

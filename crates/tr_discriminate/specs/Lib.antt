@@ -1,4 +1,8 @@
+pub use Rattle.name_tables.specs as name_tables
 pub use Rattle.wanted_instances.specs as wanted_instances
+pub mod instance_search
+pub mod instance_sets
+pub mod wanted_search
 pub mod Equation
 pub mod Kept
 pub mod Found

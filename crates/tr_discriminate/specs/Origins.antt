@@ -4,7 +4,7 @@ use Rattle.tasks.specs.trees.Tree.{Tree}
 use Rattle.tasks.specs.trees.Binding.{inst_types}
 use Rattle.tasks.specs.Task.{BodyTree, Says, DeclarationTree, PropositionTree}
 use Rattle.tasks.specs.Valid.{VariablesBelow}
-use Rattle.instance_sets.specs.Made.{IsTypeTree}
+use Rattle.tr_discriminate.specs.instance_sets.Made.{IsTypeTree}
 
 -- a formula is an instance of another one at types, as many as it has type variables
 pub record IsTypeInstance (vars : ℕ) (a e : Tree) : Type 0 where

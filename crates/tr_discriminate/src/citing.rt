@@ -13,10 +13,10 @@ ghost use Rattle.evidence.specs.Stages.{IsOwnTask};
 ghost use Rattle.tr_discriminate.specs.Origins.{AreFrom, HasOrigin, IsInstanceThere};
 
 use crate::types::types_along;
-use binders::is_inst_types;
 use evidence::{Draft, fact_lemma};
 use std::alloc::{AllocError, Global};
 use tasks::{Body, Decl, Fact, Grow, Store, Task, TermId};
+use trees::binders::is_inst_types;
 
 /// A proposition by its place among those of a task, and types for its type variables.
 #[derive(Drop)]

@@ -5,15 +5,15 @@ ghost use Rattle.trees.specs.Node.{Grows};
 ghost use Rattle.tasks.specs.Meaning.{body_at, declarations_at, task_at, TaskHeld};
 ghost use Rattle.tasks.specs.Valid.{IsValid};
 ghost use Rattle.wanted_instances.specs.Discriminated.{is_misplaced, misplaced_from, discriminated_task};
-ghost use Rattle.instance_sets.specs.Sets.{IsLargeAtSet};
+ghost use Rattle.tr_discriminate.specs.instance_sets.Sets.{IsLargeAtSet};
 ghost use Rattle.tr_discriminate.specs.Equation.{discriminate_equation};
 ghost use Rattle.tr_discriminate.specs.Kept.{discriminate_keeps};
 
 use crate::citing::cite_origin;
+use crate::instance_sets::discriminated_declarations;
+use evidence::task_parts::{one_task, with_parts};
 use evidence::{Draft, StageFault, Transform, fact_lemma};
-use instance_sets::discriminated_declarations;
 use std::alloc::{AllocError, Global};
-use task_parts::{one_task, with_parts};
 use tasks::{Body, Decl, Fact, Store, Task, TermId};
 
 /// The transformation that replaces each polymorphic proposition by its instances that are wanted. It gives one task, and doesn't take

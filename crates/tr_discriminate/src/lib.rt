@@ -1,11 +1,14 @@
-//! The transformation `discriminate`, which replaces polymorphic propositions by their wanted instances. Evidence is the old proposition
-//! at the types that an instance of it shows.
+//! The transformation `discriminate`, which replaces polymorphic propositions by their wanted instances, and the
+//! search for these. Evidence is the old proposition at the types that an instance of it shows.
 //!
 //! Contract: the task of the equation, and the laws of a transformation.
 #![tactic(auto)]
 
 mod citing;
 mod discriminate;
+pub mod instance_search;
+pub mod instance_sets;
 mod types;
+pub mod wanted_search;
 
 pub use discriminate::Discriminate;

@@ -2,7 +2,7 @@
 // It depends on the store; the evidence cites old propositions at them.
 ghost use Rattle.std.specs.Prelude.{◌≡◌, set, IfOk};
 ghost use Rattle.trees.specs.Node.{tree_at, trees_at, Holds};
-ghost use Rattle.binders.specs.Visits.{HoldTypes};
+ghost use Rattle.trees.specs.binders.Visits.{HoldTypes};
 ghost use Rattle.tr_discriminate.specs.Found.{type_noted, tree_noted, types_found, ints};
 
 use std::alloc::{AllocError, Global};

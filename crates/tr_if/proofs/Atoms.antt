@@ -17,8 +17,8 @@ use Rattle.conditionals.specs.images.Open.{IsEnvironment, IsOpenUnder}
 use Rattle.conditionals.specs.images.Templates.{IsClosedType}
 use Rattle.conditionals.proofs.images.Environments.{loose_for}
 use Rattle.conditionals.proofs.images.Templates.{type_is_kind, term_has_type, hole_typed}
-use Rattle.congruence.proofs.instances.Typed.{many_sort, many_type, many_typed, kind_typed}
-use Rattle.congruence.proofs.instances.Kept.{variables_at}
+use Rattle.congruence.proofs.tasks.typed_trees.instances.Typed.{many_sort, many_type, many_typed, kind_typed}
+use Rattle.congruence.proofs.tasks.KeptInstances.{variables_at}
 use Rattle.congruence.proofs.HoleTemplates.{int_kind, type_ground}
 use Rattle.conditionals.specs.Conditionals.{first_if, replace_first}
 use Rattle.conditionals.specs.Laws.{is_atom_head}

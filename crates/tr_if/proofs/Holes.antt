@@ -7,7 +7,7 @@ use Rattle.tasks.specs.trees.Node.{tree_at, trees_at, Holds}
 use Rattle.tasks.specs.trees.Binding.{inst, inst_many, Bound}
 use Rattle.tasks.specs.trees.Facts.{IndicesFit}
 use Rattle.tasks.specs.trees.Sorts.{Fits, WellSorted, sort_of, type_of}
-use Rattle.binders.specs.Visits.{HoldTerms}
+use Rattle.trees.specs.binders.Visits.{HoldTerms}
 use Rattle.tasks.specs.Task.{TaskTree}
 use Rattle.tasks.specs.Vocabulary.{of_task}
 use Rattle.tasks.specs.Typing.{TypedUnder}
@@ -15,7 +15,7 @@ use Rattle.tasks.specs.Valid.{IsGround, IsValid}
 use Rattle.tasks.proofs.Closing.{typed_sorted}
 use Rattle.evidence.specs.Drafts.{DraftTree, Extends}
 use Rattle.evidence.specs.Laws.{Extends_trans}
-use Rattle.congruence.specs.instances.Instances.{AreFor}
+use Rattle.congruence.specs.tasks.typed_trees.instances.Instances.{AreFor}
 use Rattle.congruence.proofs.Later.{held_later, tree_later}
 use Rattle.conditionals.specs.Conditionals.{first_if, replace_first}
 use Rattle.conditionals.specs.Held.{CanPlace}

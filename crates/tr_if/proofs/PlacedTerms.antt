@@ -5,12 +5,12 @@ use Rattle.tasks.specs.trees.Tree.{Tree}
 use Rattle.tasks.specs.trees.Node.{tree_at, Holds}
 use Rattle.tasks.specs.trees.Sorts.{sort_of}
 use Rattle.tasks.specs.Task.{neg}
-use Rattle.congruence.specs.kernel.rule_rows.Forms.{alike, equal}
+use Rattle.congruence.specs.kernel.rules.Forms.{alike, equal}
 use Rattle.evidence.specs.Drafts.{DraftTree, Extends, Refutes, IsFormulaAt}
 use Rattle.evidence.specs.Laws.{Extends_trans}
 use Rattle.evidence.proofs.Rules.{refutes_later}
 use Rattle.evidence.proofs.Formulas.{formula_later}
-use Rattle.proof_scripts.specs.Scripts.{Follows}
+use Rattle.evidence.specs.proof_scripts.Scripts.{Follows}
 use Rattle.congruence.proofs.Later.{held_later, tree_later, pair_later}
 use Rattle.congruence.proofs.CaseParts.{denied}
 use Rattle.congruence.proofs.HoleTemplates.{hole_later, formula_template, not_template}

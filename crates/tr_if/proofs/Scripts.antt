@@ -7,12 +7,12 @@ use Rattle.tasks.specs.trees.Tree.{Tree, Two, HJoin}
 use Rattle.tasks.specs.trees.Binding.{inst}
 use Rattle.tasks.specs.trees.Sorts.{sort_of, type_of}
 use Rattle.tasks.specs.Task.{TaskTree, neg}
-use Rattle.congruence.specs.kernel.rule_rows.Trees.{RClash, RReplace}
-use Rattle.congruence.specs.kernel.rule_rows.Forms.{equal, alike, alike_by}
-use Rattle.congruence.specs.kernel.rule_rows.Rows.{IsTemplate}
+use Rattle.congruence.specs.kernel.rules.Trees.{RClash, RReplace}
+use Rattle.congruence.specs.kernel.rules.Forms.{equal, alike, alike_by}
+use Rattle.congruence.specs.kernel.rules.Rows.{IsTemplate}
 use Rattle.evidence.specs.Drafts.{DraftTree, Refutes, RefutesAt}
-use Rattle.proof_scripts.specs.Scripts.{LineTree, KeptLine, HoldingLine, FailingLine, CutLine, TailLine, Follows}
-use Rattle.proof_scripts.proofs.Lines.{clash_line, replace_line}
+use Rattle.evidence.specs.proof_scripts.Scripts.{LineTree, KeptLine, HoldingLine, FailingLine, CutLine, TailLine, Follows}
+use Rattle.evidence.proofs.proof_scripts.Lines.{clash_line, replace_line}
 use Rattle.congruence.specs.Alike.{TemplateFor}
 use Rattle.conditionals.specs.Conditionals.{implications}
 

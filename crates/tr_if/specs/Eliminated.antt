@@ -4,8 +4,8 @@ use Rattle.std.specs.List.{list_any}
 use Rattle.tasks.specs.trees.Tree.{Tree}
 use Rattle.tasks.specs.Task.{BodyTree, Says, DeclarationTree, TaskTree}
 use Rattle.evidence.specs.Stages.{TaskEquation}
-use Rattle.rewriting.specs.declared.formulas.FormulaScope.TheVariants as scope
-use Rattle.rewriting.specs.Rewritten.{formulas_equation}
+use Rattle.walking.specs.declared.rewriting.formulas.FormulaScope.TheVariants as scope
+use Rattle.walking.specs.rewriting.Rewritten.{formulas_equation}
 use Rattle.conditionals.specs.Conditionals.{without_ifs, has_let_or_match}
 
 -- ---- what isn't taken

@@ -5,11 +5,11 @@ use Rattle.tasks.specs.Task.{TaskTree}
 use Rattle.tasks.specs.Vocabulary.{of_task}
 use Rattle.tasks.specs.Valid.{IsValid}
 use Rattle.evidence.specs.Stages.{Misplaced, Gives, Keeps, stage_answer, stage_equation}
-use Rattle.rewriting.specs.changed_tasks.Changed.{KeepsFormulas}
-use Rattle.rewriting.specs.declared.formulas.FormulaScope.TheVariants as scope
-use Rattle.rewriting.specs.Formulas.{CommutesWithTypes}
-use Rattle.rewriting.specs.Rewritten.{formulas_equation}
-use Rattle.rewriting.specs.Kept.{rewritten_keeps}
+use Rattle.walking.specs.evidence.changed_tasks.Changed.{KeepsFormulas}
+use Rattle.walking.specs.declared.rewriting.formulas.FormulaScope.TheVariants as scope
+use Rattle.walking.specs.rewriting.Formulas.{CommutesWithTypes}
+use Rattle.walking.specs.rewriting.Rewritten.{formulas_equation}
+use Rattle.walking.specs.rewriting.Kept.{rewritten_keeps}
 use Rattle.conditionals.proofs.Typed.{ifs_keep_typing}
 use Rattle.conditionals.proofs.AtTypes.{ifs_at_types}
 use Rattle.tr_if.specs.Eliminated.{eliminated_formula, taken_or_refused, refused_place, if_equation}

@@ -6,12 +6,12 @@ use crate::refused::refused_place;
 use crate::rule::IfRule;
 use conditionals::{GrowthFault, eliminate_ifs};
 use evidence::{Draft, StageFault, Transform};
-use rewriting::{
-    FormulaImage, FormulaScope, RewriteFormulas, cite_rewritten, glue_rewritten, scoped_tasks,
-};
 use std::alloc::{AllocError, Global};
 use tasks::{Fact, Store, Task, TermId};
 use walking::rewrite_formula;
+use walking::rewriting::{
+    FormulaImage, FormulaScope, RewriteFormulas, cite_rewritten, glue_rewritten, scoped_tasks,
+};
 
 /// The transformation that brings conditionals out of propositions, locals and goal: a conditional formula becomes two
 /// implications, and an atom with conditional terms becomes implications under their conditions, one conditional at a time, the

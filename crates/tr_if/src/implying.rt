@@ -1,7 +1,7 @@
 // Two implications under a condition and its negation: `(c -> a) /\ (not c -> b)` is equivalent to `a` where `c` holds, and to `b`
 // where it doesn't.
 ghost use Rattle.std.specs.Prelude.{[], ◌∷◌, IfOk};
-ghost use Rattle.congruence.specs.kernel.rule_rows.Forms.{alike};
+ghost use Rattle.congruence.specs.kernel.rules.Forms.{alike};
 ghost use Rattle.tasks.specs.trees.Node.{tree_at};
 ghost use Rattle.tasks.specs.Task.{neg};
 ghost use Rattle.evidence.specs.Drafts.{Extends, Refutes};
@@ -10,8 +10,8 @@ ghost use Rattle.tr_if.specs.Implying.{AreImplications};
 
 use crate::values::denial_of;
 use congruence::{CaseValues, Conditional};
+use evidence::proof_scripts::{Line, Word, derive};
 use evidence::{Draft, negation};
-use proof_scripts::{Line, Word, derive};
 use std::alloc::AllocError;
 use tasks::Op;
 

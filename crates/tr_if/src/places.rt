@@ -9,12 +9,12 @@ ghost use Rattle.conditionals.specs.Conditionals.{replace_first};
 ghost use Rattle.walking.specs.Places.{IsInstanceAt};
 ghost use Rattle.tr_if.specs.Firsts.{IsAtomAt, IsFirstOf, IsOpenAt, IsPartFor, IsHoleOf};
 
-use binders::inst_many;
 use conditionals::{if_parts, replace_first};
 use congruence::Conditional;
 use evidence::Draft;
 use std::alloc::AllocError;
 use tasks::{Grow, Node, TermId};
+use trees::binders::inst_many;
 
 /// An open atom, and its instance at an environment.
 #[derive(Clone, Copy)]

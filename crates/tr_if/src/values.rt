@@ -2,12 +2,12 @@
 ghost use Rattle.std.specs.Prelude.{◌≡◌, [], ◌∷◌, IfOk};
 ghost use Rattle.tasks.specs.trees.Node.{tree_at};
 ghost use Rattle.tasks.specs.Task.{neg};
-ghost use Rattle.congruence.specs.kernel.rule_rows.Forms.{alike, equal};
+ghost use Rattle.congruence.specs.kernel.rules.Forms.{alike, equal};
 ghost use Rattle.evidence.specs.Drafts.{AddsTrees, Extends, Refutes, IsFormulaAt};
 ghost use Rattle.tr_if.specs.Values.{IsPlacedTerm};
 
+use evidence::proof_scripts::{Line, Places, Word, derive};
 use evidence::{Draft, negation};
-use proof_scripts::{Line, Places, Word, derive};
 use std::alloc::AllocError;
 use tasks::{Grow, Node, Op, TermId};
 

@@ -14,9 +14,9 @@ use Rattle.tasks.specs.Valid.{IsValid}
 use Rattle.tasks.proofs.Growth.{task_later}
 use Rattle.tasks.proofs.TypeInstances.{sound_task}
 use Rattle.evidence.specs.declared.stage.StageFault.{StageFault}
-use Rattle.rewriting.specs.Faults.{IsLimitFault}
-use Rattle.rewriting.specs.Formulas.{CanRewrite, IsFormulaIn}
-use Rattle.rewriting.specs.changed_tasks.Limits.{IsLarge}
+use Rattle.walking.specs.rewriting.Faults.{IsLimitFault}
+use Rattle.walking.specs.rewriting.Formulas.{CanRewrite, IsFormulaIn}
+use Rattle.walking.specs.evidence.changed_tasks.Limits.{IsLarge}
 use Rattle.full_bodies.specs.inlining.declared.modes.InlineMode.{InlineMode}
 use Rattle.full_bodies.specs.inlining.Inlining.{inlined_definitions}
 use Rattle.full_bodies.specs.inlining.FullBodies.{full_rule}
@@ -25,7 +25,7 @@ use Rattle.full_bodies.specs.declared.uses.FullBody.{FullBody}
 use Rattle.full_bodies.specs.FullBodies.{rule_after, AreReady}
 use Rattle.full_bodies.proofs.inlining.Inlined.{inlined_defined}
 use Rattle.full_bodies.proofs.inlining.SinglePass.{single_pass}
-use Rattle.full_bodies.proofs.inlining.typing_laws.Sorted.{typed_has}
+use Rattle.full_bodies.proofs.inlining.images.typing_laws.Sorted.{typed_has}
 use Rattle.tr_inline.specs.Inlined.{inline_formula, AreBodiesOf, AreReadyBodies}
 
 -- a formula under the rule of the full bodies

@@ -13,12 +13,12 @@ use Rattle.tasks.specs.Valid.{IsGroundFormula}
 use Rattle.tasks.specs.declared.facts.Fact.TheVariants as fact
 use Rattle.tasks.proofs.Closing.{typed_sorted}
 use Rattle.congruence.specs.Alike.{IsClosedAt}
-use Rattle.congruence.specs.kernel.rule_rows.Forms.{alike}
+use Rattle.congruence.specs.kernel.rules.Forms.{alike}
 use Rattle.congruence.proofs.Later.{tree_later}
 use Rattle.evidence.specs.Drafts.{DraftTree, Extends, Refutes, IsFormulaAt}
 use Rattle.evidence.specs.Facts.{IsFact}
 use Rattle.evidence.proofs.Formulas.{formula_later}
-use Rattle.full_bodies.specs.binders.Visits.{HoldTypes}
+use Rattle.full_bodies.specs.trees.binders.Visits.{HoldTypes}
 use Rattle.walking.proofs.PlacesLater.{all_later, trees_later}
 use Rattle.full_bodies.specs.inlining.images.Instances.{for_all_at}
 use Rattle.full_bodies.specs.inlining.Inlining.{use_body}

@@ -20,9 +20,9 @@ use Rattle.tasks.specs.Valid.{IsGround, IsGroundFormula, IsTypeIn, IsTypeOver, I
 use Rattle.tasks.proofs.Closing.{typed_closed}
 use Rattle.tasks.proofs.TypeInstances.{sound_task, typed_types, formula_at_types}
 use Rattle.congruence.specs.kernel.Right.{IsGroundExpression}
-use Rattle.congruence.specs.kernel.rule_rows.Forms.{alike}
+use Rattle.congruence.specs.kernel.rules.Forms.{alike}
 use Rattle.evidence.specs.Facts.{at_symbol, fact_named, IsFact}
-use Rattle.full_bodies.specs.recursive_groups.decl_checks.Structure.{defining_body}
+use Rattle.full_bodies.specs.checks.decl_checks.Structure.{defining_body}
 use Rattle.full_bodies.specs.inlining.Inlining.{use_body}
 use Rattle.full_bodies.specs.inlining.images.Instances.{AreTypesClosed, for_all_at}
 use Rattle.full_bodies.proofs.inlining.images.OpenInstances.{for_all_opens}

@@ -9,4 +9,4 @@ pub mod Limits
 pub mod PartlyInlined
 pub mod ClosedUses
 pub use Rattle.full_bodies.proofs as full_bodies
-pub use Rattle.proof_scripts.proofs as proof_scripts
+pub use Rattle.evidence.proofs as evidence

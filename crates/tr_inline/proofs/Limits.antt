@@ -5,9 +5,9 @@ use Rattle.tasks.specs.Task.{TaskTree}
 use Rattle.evidence.specs.declared.stage.StageFault.{StageFault}
 use Rattle.evidence.specs.Stages.{Refusal, IsStageFault, stage_answer, stage_equation, IsAmong, InStage, Gives}
 use Rattle.evidence.specs.Drafts.{DraftTree}
-use Rattle.rewriting.specs.Rewritten.{formulas_equation}
-use Rattle.rewriting.specs.Faults.{IsLimitFault}
-use Rattle.rewriting.specs.declared.formulas.FormulaScope.{FormulaScope}
+use Rattle.walking.specs.rewriting.Rewritten.{formulas_equation}
+use Rattle.walking.specs.rewriting.Faults.{IsLimitFault}
+use Rattle.walking.specs.declared.rewriting.formulas.FormulaScope.{FormulaScope}
 use Rattle.full_bodies.specs.inlining.declared.modes.InlineMode.{InlineMode}
 use Rattle.full_bodies.specs.inlining.Inlining.{inline_equation}
 use Rattle.tr_inline.specs.Inlined.{inline_formula, mode_scope}

@@ -7,7 +7,7 @@ use Rattle.trees.specs.Tree.{Tree, Leaf, One, Two, Three, Head, HEnd, HCell, HFo
 use Rattle.trees.specs.Binding.{inst, inst_many, instantiating_many, change, AreClosed}
 use Rattle.trees.specs.Sorts.{Fits, WellSorted, sort_of, type_of, IsList}
 use Rattle.trees.proofs.Many.{inst_many_closed}
-use Rattle.trees.proofs.Sorts.{term_no_vars}
+use Rattle.trees.specs.laws.Sorts.{term_no_vars}
 use Rattle.tasks.specs.Task.{TaskTree}
 use Rattle.tasks.specs.Equations.{cells, for_all}
 use Rattle.tasks.specs.Vocabulary.{of_task}

@@ -17,8 +17,8 @@ use Rattle.evidence.specs.Facts.{fact_named, at_symbol, IsFoundByName}
 use Rattle.evidence.specs.Stages.{IsOwnTask}
 use Rattle.evidence.proofs.FactNames.{all_named}
 use Rattle.full_bodies.specs.Listed.{AreDefsHeld}
-use Rattle.full_bodies.specs.recursive_groups.Groups.{is_recursive}
-use Rattle.full_bodies.specs.recursive_groups.decl_checks.Structure.{defining_body}
+use Rattle.full_bodies.specs.checks.recursive_groups.Groups.{is_recursive}
+use Rattle.full_bodies.specs.checks.decl_checks.Structure.{defining_body}
 use Rattle.full_bodies.specs.inlining.declared.modes.InlineMode.{InlineMode}
 use Rattle.full_bodies.specs.inlining.declared.modes.InlineMode.TheVariants as mode
 use Rattle.full_bodies.specs.inlining.Inlining.{is_trivial, plain_definitions, all_definitions, trivial_definitions, inlined_definitions}

@@ -12,16 +12,16 @@ use Rattle.tasks.specs.Typing.{members}
 use Rattle.tasks.specs.Vocabulary.{of_task}
 use Rattle.tasks.specs.Valid.{IsGroundFormula}
 use Rattle.tasks.proofs.Closing.{typed_closed}
-use Rattle.congruence.specs.instances.Instances.{IsTermOf, IsClosedTerm, IsInstance}
+use Rattle.congruence.specs.tasks.typed_trees.instances.Instances.{IsTermOf, IsClosedTerm, IsInstance}
 use Rattle.congruence.specs.kernel.Right.{IsGroundExpression}
-use Rattle.congruence.specs.kernel.rule_rows.Trees.{RForall, RClash}
+use Rattle.congruence.specs.kernel.rules.Trees.{RForall, RClash}
 use Rattle.congruence.proofs.Later.{tree_later}
 use Rattle.evidence.specs.Drafts.{DraftTree, Extends, Refutes, IsFormulaAt}
 use Rattle.evidence.proofs.Formulas.{formula_later}
 use Rattle.evidence.proofs.Rules.{refutes_later}
 use Rattle.full_bodies.specs.inlining.images.Instances.{for_all_at}
-use Rattle.proof_scripts.specs.Scripts.{KeptLine, CutLine, TailLine, Follows}
-use Rattle.proof_scripts.proofs.Lines.{clash_line, forall_line}
+use Rattle.evidence.specs.proof_scripts.Scripts.{KeptLine, CutLine, TailLine, Follows}
+use Rattle.evidence.proofs.proof_scripts.Lines.{clash_line, forall_line}
 use Rattle.tr_inline.specs.declared.lemmas.Lemma.{Lemma}
 use Rattle.tr_inline.specs.Lemmas.{IsLemma, TakesTerm, TakesTerms}
 

@@ -18,13 +18,13 @@ use Rattle.congruence.specs.declared.alike.AlikeBy.{AlikeBy}
 use Rattle.congruence.specs.declared.alike.AlikeBy.TheVariants as alike
 use Rattle.congruence.specs.Alike.{ArePair, Shows}
 use Rattle.congruence.proofs.Later.{tree_later, held_later, closed_later, pair_later}
-use Rattle.congruence.proofs.instances.Typed.{many_type}
-use Rattle.full_bodies.specs.recursive_groups.decl_checks.Structure.{defining_body}
+use Rattle.congruence.proofs.tasks.typed_trees.instances.Typed.{many_type}
+use Rattle.full_bodies.specs.checks.decl_checks.Structure.{defining_body}
 use Rattle.full_bodies.specs.inlining.Inlining.{use_body, unfold_rule}
 use Rattle.full_bodies.specs.inlining.images.Images.{KeepsTree}
 use Rattle.full_bodies.specs.inlining.images.Open.{IsOpenUnder}
 use Rattle.full_bodies.proofs.inlining.images.Environments.{closed_for}
-use Rattle.full_bodies.proofs.inlining.typing_laws.Sorted.{typed_has}
+use Rattle.full_bodies.proofs.inlining.images.typing_laws.Sorted.{typed_has}
 use Rattle.full_bodies.proofs.inlining.Bodies.{IsBody, defined_body}
 use Rattle.full_bodies.proofs.inlining.Uses.{unfold_node_rule}
 use Rattle.full_bodies.proofs.inlining.OpenInstances.{many_natural}

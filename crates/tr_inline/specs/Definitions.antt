@@ -11,7 +11,7 @@ use Rattle.tasks.specs.Vocabulary.{of_task}
 use Rattle.tasks.specs.Valid.{IsDefinition, IsValid}
 use Rattle.evidence.specs.Drafts.{DraftTree, Extends}
 use Rattle.evidence.specs.Facts.{fact_named, at_symbol}
-use Rattle.full_bodies.specs.recursive_groups.decl_checks.Structure.{defining_body}
+use Rattle.full_bodies.specs.checks.decl_checks.Structure.{defining_body}
 use Rattle.full_bodies.specs.inlining.Inlining.{unfold_rule}
 use Rattle.full_bodies.specs.inlining.images.Images.{IsOtherHead}
 

@@ -7,9 +7,9 @@ use Rattle.trees.specs.Node.{tree_at, Grows}
 use Rattle.tasks.specs.Task.{TaskTree, neg}
 use Rattle.tasks.specs.Vocabulary.{of_task}
 use Rattle.evidence.specs.Drafts.{DraftTree, Refutes, IsFormulaAt}
-use Rattle.rewriting.specs.declared.formulas.FormulaImage.{FormulaImage}
-use Rattle.rewriting.specs.declared.formulas.FormulaScope.{FormulaScope}
-use Rattle.rewriting.specs.declared.formulas.FormulaScope.TheVariants as scope
+use Rattle.walking.specs.declared.rewriting.formulas.FormulaImage.{FormulaImage}
+use Rattle.walking.specs.declared.rewriting.formulas.FormulaScope.{FormulaScope}
+use Rattle.walking.specs.declared.rewriting.formulas.FormulaScope.TheVariants as scope
 use Rattle.full_bodies.specs.inlining.declared.modes.InlineMode.{InlineMode}
 use Rattle.full_bodies.specs.inlining.declared.modes.InlineMode.TheVariants as mode
 use Rattle.full_bodies.specs.inlining.Inlining.{inlined, inlined_definitions}

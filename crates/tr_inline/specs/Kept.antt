@@ -4,13 +4,13 @@ use Rattle.std.proofs.Common.{sym, ap, ◌∙◌}
 use Rattle.tasks.specs.Task.{TaskTree}
 use Rattle.tasks.specs.Valid.{IsValid}
 use Rattle.tasks.specs.Vocabulary.{of_task}
-use Rattle.rewriting.specs.changed_tasks.Changed.{KeepsFormulas}
+use Rattle.walking.specs.evidence.changed_tasks.Changed.{KeepsFormulas}
 use Rattle.evidence.specs.Stages.{TaskEquation, Gives, Keeps, stage_answer}
-use Rattle.rewriting.specs.Rewritten.{formulas_equation}
-use Rattle.rewriting.specs.Kept.{rewritten_keeps}
+use Rattle.walking.specs.rewriting.Rewritten.{formulas_equation}
+use Rattle.walking.specs.rewriting.Kept.{rewritten_keeps}
 use Rattle.full_bodies.specs.inlining.declared.modes.InlineMode.{InlineMode}
 use Rattle.full_bodies.specs.inlining.declared.modes.InlineMode.TheVariants as mode
-use Rattle.rewriting.specs.Formulas.{CommutesWithTypes}
+use Rattle.walking.specs.rewriting.Formulas.{CommutesWithTypes}
 use Rattle.full_bodies.specs.inlining.Inlining.{inline_equation}
 use Rattle.full_bodies.specs.Kept.{formula_keeps, formula_commutes}
 use Rattle.tr_inline.specs.Inlined.{inline_formula, mode_scope}

@@ -6,4 +6,4 @@ pub mod Inlined
 pub mod Passed
 pub mod Kept
 pub use Rattle.full_bodies.specs as full_bodies
-pub use Rattle.proof_scripts.specs as proof_scripts
+pub use Rattle.evidence.specs as evidence

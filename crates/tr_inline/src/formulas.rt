@@ -2,9 +2,9 @@
 ghost use Rattle.std.specs.Prelude.{◌≡◌, IfOk, IfErr};
 ghost use Rattle.trees.specs.Node.{tree_at, Holds, Grows};
 ghost use Rattle.tasks.specs.Meaning.{task_at};
-ghost use Rattle.rewriting.specs.changed_tasks.Limits.{IsLarge};
-ghost use Rattle.rewriting.specs.Faults.{IsLimitFault};
-ghost use Rattle.rewriting.specs.Formulas.{CanRewrite, IsFormulaIn};
+ghost use Rattle.walking.specs.evidence.changed_tasks.Limits.{IsLarge};
+ghost use Rattle.walking.specs.rewriting.Faults.{IsLimitFault};
+ghost use Rattle.walking.specs.rewriting.Formulas.{CanRewrite, IsFormulaIn};
 ghost use Rattle.full_bodies.specs.FullBodies.{AreReady};
 ghost use Rattle.tr_inline.specs.Inlined.{inline_formula, AreBodiesOf, AreReadyBodies, bodies_later};
 ghost use Rattle.tr_inline.specs.Kept.{formulas_keep, formulas_commute};
@@ -14,9 +14,9 @@ use evidence::{Draft, StageFault};
 use full_bodies::{
     FullBody, InlineFault, InlineMode, definitions_inlined, full_bodies, inline_formula,
 };
-use rewriting::{FormulaImage, RewriteFormulas};
 use std::alloc::{AllocError, Global};
 use tasks::{Grow, Store, Task, TermId};
+use walking::rewriting::{FormulaImage, RewriteFormulas};
 
 /// What formulas become in a mode, with the full bodies where they are made already.
 #[derive(Clone, Copy)]

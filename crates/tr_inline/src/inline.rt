@@ -7,9 +7,9 @@ ghost use Rattle.full_bodies.specs.inlining.Inlining.{inline_equation};
 use crate::formulas::InlinedFormulas;
 use evidence::{Draft, StageFault, Transform};
 use full_bodies::{InlineMode, full_bodies};
-use rewriting::{FormulaScope, cite_rewritten, glue_rewritten, scoped_tasks};
 use std::alloc::{AllocError, Global};
 use tasks::{Fact, Store, Task, TermId};
+use walking::rewriting::{FormulaScope, cite_rewritten, glue_rewritten, scoped_tasks};
 
 /// The transformation that inlines definitions that aren't recursive, from the last to the first: each use of the symbol becomes
 /// the body of its definition, at the types and arguments of the use. It gives one task; the definitions stay.

@@ -10,8 +10,8 @@ ghost use Rattle.full_bodies.specs.inlining.images.Instances.{for_all_at};
 ghost use Rattle.tr_inline.specs.Lemmas.{IsLemma, TakesTerm, TakesTerms};
 
 use congruence::instance;
+use evidence::proof_scripts::{Line, Places, Word, derive};
 use evidence::{Draft, negation};
-use proof_scripts::{Line, Places, Word, derive};
 use std::alloc::AllocError;
 use tasks::{Grow, TermId};
 use trees::Node;

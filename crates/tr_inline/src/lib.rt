@@ -13,6 +13,6 @@ mod unfolding;
 mod uses;
 
 pub use closed_uses::{UnfoldedUse, unfold_closed};
+pub use evidence::proof_scripts::{Line, Word, derive};
 pub use full_bodies::InlineMode;
 pub use inline::Inline;
-pub use proof_scripts::{Line, Word, derive};

@@ -12,9 +12,9 @@ ghost use Rattle.tr_inline.specs.Inlined.{IsImageOf};
 use crate::unfolding::Unfold;
 use congruence::{AlikeBy, chain, make_halves};
 use evidence::Draft;
-use rewriting::FormulaImage;
 use std::alloc::AllocError;
 use tasks::{Def, TermId};
+use walking::rewriting::FormulaImage;
 use walking::{Linked, walk};
 
 // How many parameters the task has.

@@ -6,7 +6,7 @@ ghost use Rattle.trees.specs.Node.{tree_at, trees_at, Holds};
 ghost use Rattle.tasks.specs.Task.{symbol_or};
 ghost use Rattle.tasks.specs.Typing.{members};
 ghost use Rattle.evidence.specs.Drafts.{Extends};
-ghost use Rattle.full_bodies.specs.binders.Visits.{HoldTypes};
+ghost use Rattle.full_bodies.specs.trees.binders.Visits.{HoldTypes};
 ghost use Rattle.congruence.specs.Alike.{Shows, ArePair};
 ghost use Rattle.tr_inline.specs.Uses.{IsUseOf, IsFoundUse, IsClosedUse};
 ghost use Rattle.tr_inline.specs.Lemmas.{IsLemma};

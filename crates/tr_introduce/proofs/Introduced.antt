@@ -8,7 +8,7 @@ use Rattle.trees.specs.declared.TermId.{TermId}
 use Rattle.trees.specs.Tree.{Tree, Leaf, One, Two, Three, Head, HTyVar, HBound, HParam, HForall, HJoin}
 use Rattle.trees.specs.Binding.{change, leaf_by, one_by, inst, instantiating, Param}
 use Rattle.trees.specs.Node.{tree_at, Holds, Grows}
-use Rattle.trees.proofs.Indices.{inst_below, inst_at, inst_above}
+use Rattle.trees.specs.laws.Indices.{inst_below, inst_at, inst_above}
 use Rattle.tasks.specs.Meaning.{trees_at}
 use Rattle.tasks.proofs.Growth.{trees_later, all_held_later}
 use Rattle.tr_introduce.specs.Introduce.{Judgement, introduced_from, introduced_once, introduced_by, introduced, prefix, judgement_at}

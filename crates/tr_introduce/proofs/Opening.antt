@@ -10,15 +10,15 @@ use Rattle.trees.specs.Binding.{inst, Param}
 use Rattle.tasks.specs.Task.{TaskTree, neg}
 use Rattle.tasks.specs.Valid.{IsTypeOver}
 use Rattle.tasks.specs.Meaning.{trees_at}
-use Rattle.rule_rows.specs.Trees.{RuleTree, RNotForall, RNotImp}
-use Rattle.rule_rows.specs.Rows.{IsRuleRow}
+use Rattle.rules.specs.Trees.{RuleTree, RNotForall, RNotImp}
+use Rattle.rules.specs.Rows.{IsRuleRow}
 use Rattle.evidence.specs.Drafts.{DraftTree, Extends, Refutes, AreFormulas}
 use Rattle.evidence.specs.Rules.{NamesOwn, RefuteAdded}
 use Rattle.evidence.specs.Laws.{Extends_trans}
 use Rattle.evidence.proofs.Rules.{failing_row, notforall_row, refutes_later}
 use Rattle.evidence.proofs.Formulas.{same}
 use Rattle.evidence.proofs.Ends.{regroup}
-use Rattle.task_parts.proofs.Opened.{new_below, premise_below}
+use Rattle.evidence.proofs.task_parts.Opened.{new_below, premise_below}
 use Rattle.tr_introduce.specs.declared.refuting.Opening.{Opening}
 use Rattle.tr_introduce.specs.declared.refuting.Opening.TheVariants as opens_at
 use Rattle.tr_introduce.specs.Introduce.{Judgement, introduced, judgement_sequent, prefix}

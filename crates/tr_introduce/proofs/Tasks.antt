@@ -9,9 +9,9 @@ use Rattle.tasks.specs.Meaning.{trees_at}
 use Rattle.evidence.specs.Drafts.{DraftTree, Refutes}
 use Rattle.evidence.specs.Facts.{IsFact}
 use Rattle.evidence.specs.Stages.{Gives, IsAmong, IsOwnTask, EndIn, limited_gives}
-use Rattle.task_parts.proofs.One.{among_one, end_of_one}
-use Rattle.task_parts.proofs.Facts.{fact_renamed, named_kept}
-use Rattle.task_parts.proofs.Own.{own_count}
+use Rattle.evidence.proofs.task_parts.One.{among_one, end_of_one}
+use Rattle.evidence.proofs.task_parts.Facts.{fact_renamed, named_kept}
+use Rattle.evidence.proofs.task_parts.Own.{own_count}
 use Rattle.tr_introduce.specs.Introduce.{Judgement, introduced, judgement_of, introduced_task, introduce_equation, judgement_sequent}
 use Rattle.tr_introduce.specs.Steps.{EndsDraftAt}
 

@@ -11,10 +11,10 @@ use Rattle.tasks.specs.Vocabulary.{of_task}
 use Rattle.tasks.specs.Valid.{IsFormula, IsTypeOver, IsValid}
 use Rattle.tasks.proofs.Closing.{typed_sorted}
 use Rattle.evidence.specs.Stages.{Gives, Keeps, limited_gives}
-use Rattle.task_parts.specs.Kept.{judgement_keeps, one_keeps}
-use Rattle.instances.specs.Instances.{IsInstance}
-use Rattle.instances.proofs.Laws.{is_instance, param_closed, param_term}
-use Rattle.instances.proofs.Kept.{parameters_longer}
+use Rattle.evidence.specs.task_parts.Kept.{judgement_keeps, one_keeps}
+use Rattle.tasks.specs.typed_trees.instances.Instances.{IsInstance}
+use Rattle.tasks.proofs.InstanceLaws.{is_instance, param_closed, param_term}
+use Rattle.tasks.proofs.KeptInstances.{parameters_longer}
 use Rattle.tr_introduce.specs.Introduce.{Judgement, introduced_from, introduced_once, introduced_by, introduced, judgement_of, introduced_task, introduce_equation, prefix}
 
 -- a judgement over the symbols of a task

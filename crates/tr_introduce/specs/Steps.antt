@@ -7,15 +7,15 @@ use Rattle.trees.specs.declared.Sort.TheVariants.{Kind}
 use Rattle.trees.specs.Sorts.{sort_of}
 use Rattle.trees.specs.Node.{tree_at, Holds}
 use Rattle.tasks.specs.Task.{TaskTree, neg}
-use Rattle.rule_rows.specs.Trees.{RuleTree, RNotForall, RNotImp}
-use Rattle.rule_rows.specs.Rows.{IsRuleRow}
+use Rattle.rules.specs.Trees.{RuleTree, RNotForall, RNotImp}
+use Rattle.rules.specs.Rows.{IsRuleRow}
 use Rattle.evidence.specs.Drafts.{DraftTree, Refutes}
 use Rattle.tr_introduce.specs.declared.openings.Beginning.{Beginning}
 use Rattle.tr_introduce.specs.declared.openings.Beginning.TheVariants as begins
 use Rattle.tr_introduce.specs.declared.refuting.Opening.{Opening}
 use Rattle.tr_introduce.specs.declared.refuting.Opening.TheVariants as opens_at
 use Rattle.tr_introduce.specs.Introduce.{introduced, judgement_sequent, prefix}
-pub use Rattle.instances.specs.Instances.{AreParamsBelow}
+pub use Rattle.tasks.specs.typed_trees.instances.Instances.{AreParamsBelow}
 
 -- a step refutes what is introduced from the goal over these locals, where parameters count from this number
 pub record EndsDraftAt (d : DraftTree) (end : ℕ) (front : List Tree) (goal : Tree) (number : ℕ) : Type 0 where

@@ -12,7 +12,7 @@ use crate::openings::{Beginning, beginning_of};
 use crate::refuting::{Opening, refute_negated};
 use evidence::{Draft, join_lists, last_formula};
 use std::alloc::AllocError;
-use term_store::Grow;
+use trees::store::Grow;
 use trees::{Op, TermId};
 
 // From a step that refutes what is introduced from the goal over these formulas, where parameters have these types so far, one

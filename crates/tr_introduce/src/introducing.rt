@@ -7,12 +7,12 @@ ghost use Rattle.tr_introduce.specs.Kept.{introduce_keeps};
 
 use crate::gluing::glue_goal;
 use crate::introduction::introduced_task;
+use evidence::task_parts::one_task;
 use evidence::{Draft, StageFault, Transform, fact_lemma};
 use std::alloc::{AllocError, Global};
-use task_parts::one_task;
 use tasks::{Fact, Task};
-use term_store::Store;
 use trees::TermId;
+use trees::store::Store;
 
 /// The transformation that introduces parameters and premises as long as the goal begins with `forall` or `->`. It gives one
 /// task.

@@ -4,17 +4,17 @@ ghost use Rattle.trees.specs.Node.{tree_at, Holds, Grows};
 ghost use Rattle.trees.specs.Sorts.{sort_of};
 ghost use Rattle.trees.specs.Binding.{inst, Param};
 ghost use Rattle.tasks.specs.Meaning.{task_at, TaskHeld};
-ghost use Rattle.instances.specs.Instances.{IsInstance};
+ghost use Rattle.tasks.specs.typed_trees.instances.Instances.{IsInstance};
 ghost use Rattle.tr_introduce.specs.Introduce.{introduced, introduced_task, judgement_at, prefix};
 ghost use Rattle.tr_introduce.specs.Held.{IsHeld};
 
 use crate::openings::{Beginning, beginning_of};
-use instances::{instance, parameter};
+use evidence::task_parts::with_parts;
 use outside::Seq;
 use std::alloc::{AllocError, Global};
-use task_parts::with_parts;
 use tasks::Task;
-use term_store::{Grow, Store};
+use tasks::typed_trees::instances::{instance, parameter};
+use trees::store::{Grow, Store};
 use trees::{Sort, TermId};
 
 // Puts the types of new parameters and the premises of the goal after those that are there, and gives the goal that is left.

@@ -4,7 +4,7 @@ ghost use Rattle.trees.specs.Tree.{Two, HJoin};
 ghost use Rattle.trees.specs.Node.{tree_at, Holds};
 ghost use Rattle.tr_introduce.specs.Steps.{IsBeginning};
 
-use term_store::Store;
+use trees::store::Store;
 use trees::{Node, Op, TermId};
 
 // A quantifier with its type and body, an implication with its sides, or neither.

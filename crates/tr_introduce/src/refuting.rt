@@ -4,12 +4,12 @@ ghost use Rattle.trees.specs.Tree.{Tree};
 ghost use Rattle.trees.specs.Node.{tree_at};
 ghost use Rattle.tasks.specs.Task.{neg};
 ghost use Rattle.tasks.specs.Meaning.{trees_at};
-ghost use Rattle.rule_rows.specs.Meaning.{rule_at, RuleHeld};
+ghost use Rattle.rules.specs.Meaning.{rule_at, RuleHeld};
 ghost use Rattle.evidence.specs.Drafts.{Extends, Refutes, IsFormulaAt, AreFormulas};
 ghost use Rattle.tr_introduce.specs.Steps.{negation_rule, Opens};
 
 use evidence::{Draft, by_rule, keep_but, negation};
-use rule_rows::Rule;
+use rules::Rule;
 use std::alloc::AllocError;
 use trees::TermId;
 

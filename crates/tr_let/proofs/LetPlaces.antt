@@ -6,20 +6,20 @@ use Rattle.trees.specs.Tree.{Tree, Two, HLet, above_params}
 use Rattle.trees.specs.Node.{tree_at, trees_at, Holds}
 use Rattle.trees.specs.Binding.{change, instantiating_many, inst, inst_many}
 use Rattle.trees.specs.Sorts.{WellSorted, sort_of, type_of, IsExpression}
-use Rattle.trees.proofs.Sorts.{term_no_vars}
+use Rattle.trees.specs.laws.Sorts.{term_no_vars}
 use Rattle.trees.proofs.Many.{inst_under, inst_many_inst}
 use Rattle.tasks.specs.Task.{TaskTree}
 use Rattle.tasks.specs.Vocabulary.{of_task}
 use Rattle.tasks.specs.Typing.{TypedUnder, option_list}
 use Rattle.evidence.specs.Drafts.{DraftTree, Extends}
 use Rattle.evidence.specs.Laws.{Extends_trans}
-use Rattle.rule_rewriting.specs.images.Open.{IsOpenUnder, IsAt}
-use Rattle.rule_rewriting.proofs.images.Images.{expression_sort}
-use Rattle.rule_rewriting.proofs.images.Changes.{open_inst_typed, open_inst_sort, open_inst_variables, open_inst_above}
-use Rattle.rule_rewriting.proofs.images.Templates.{term_has_type}
-use Rattle.rule_rewriting.proofs.images.Environments.{closed_for, at_bound, body_is}
+use Rattle.walking.specs.images.Open.{IsOpenUnder, IsAt}
+use Rattle.walking.proofs.images.Images.{expression_sort}
+use Rattle.walking.proofs.images.Changes.{open_inst_typed, open_inst_sort, open_inst_variables, open_inst_above}
+use Rattle.walking.proofs.images.Templates.{term_has_type}
+use Rattle.walking.proofs.images.Environments.{closed_for, at_bound, body_is}
 use Rattle.congruence.specs.Alike.{ArePair}
-use Rattle.congruence.specs.instances.Instances.{IsClosedTerm}
+use Rattle.congruence.specs.tasks.typed_trees.instances.Instances.{IsClosedTerm}
 use Rattle.congruence.proofs.Later.{tree_later, closed_later, node_later}
 use Rattle.congruence.proofs.HoleTemplates.{closed_loose}
 use Rattle.walking.specs.Places.{types_for, IsInstanceAt}

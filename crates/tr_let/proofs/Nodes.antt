@@ -8,8 +8,8 @@ use Rattle.trees.specs.Node.{tree_at, node_tree}
 use Rattle.trees.specs.Sorts.{sort_of}
 use Rattle.trees.specs.declared.Sort.TheVariants.{Term}
 use Rattle.tasks.specs.Vocabulary.{Vocabulary}
-use Rattle.rule_rewriting.specs.Rules.{HasTypingSomewhere}
-use Rattle.rule_rewriting.specs.typing_laws.HasTyping.{HasTyping}
+use Rattle.walking.specs.rule_rewriting.Rules.{HasTypingSomewhere}
+use Rattle.walking.specs.images.typing_laws.HasTyping.{HasTyping}
 use Rattle.tr_let.specs.LetRule.{let_rule}
 
 node_stays : (s : List Tree) (n : Node) → ((a b : TermId) → n ≡ Let a b → ⊥) → node_tree s n ≡ let_rule (node_tree s n)

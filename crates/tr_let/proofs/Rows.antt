@@ -5,7 +5,7 @@ use Rattle.trees.specs.Tree.{Tree, Leaf, Two, Three, HEnd, HNum, HFun, HPred, HE
 use Rattle.trees.specs.Binding.{Bound}
 use Rattle.trees.specs.Sorts.{int_type}
 use Rattle.tasks.specs.Equations.{cells}
-use Rattle.rule_rewriting.specs.images.Images.{image}
+use Rattle.walking.specs.images.Images.{image}
 use Rattle.tr_let.specs.LetRule.{let_rule}
 
 abbrev bound : ℕ → Tree

@@ -8,12 +8,12 @@ use Rattle.trees.specs.Sorts.{sort_of, type_of, IsExpression}
 use Rattle.trees.proofs.Instances.{inst_two}
 use Rattle.trees.proofs.Laws.{inst_types_inst}
 use Rattle.trees.proofs.Many.{inst_is_many}
-use Rattle.trees.proofs.Sorts.{term_no_vars}
+use Rattle.trees.specs.laws.Sorts.{term_no_vars}
 use Rattle.tasks.specs.Vocabulary.{Vocabulary}
 use Rattle.tasks.specs.Typing.{option_list, bound_types}
 use Rattle.tasks.specs.Valid.{VariablesBelow, ParametersOf}
-use Rattle.rule_rewriting.specs.typing_laws.HasTyping.{HasSorts, HasTyping, IsTypeAt, KeepsTyping, IsTypedRule}
-use Rattle.rule_rewriting.proofs.OneTerm.{expression_sort, expression_type, has_sorts, bound_count, at_one, many_has, many_sort, many_type, many_variables, many_above_params, many_parameters, one_each, one_term, are_types, no_kind}
+use Rattle.walking.specs.images.typing_laws.HasTyping.{HasSorts, HasTyping, IsTypeAt, KeepsTyping, IsTypedRule}
+use Rattle.walking.proofs.OneTerm.{expression_sort, expression_type, has_sorts, bound_count, at_one, many_has, many_sort, many_type, many_variables, many_above_params, many_parameters, one_each, one_term, are_types, no_kind}
 use Rattle.tr_let.specs.LetRule.{let_rule, let_others}
 
 module _ (v : Vocabulary) where

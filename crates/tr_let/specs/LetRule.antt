@@ -2,7 +2,7 @@
 use Rattle.std.specs.Prelude.{◌≡◌, refl}
 use Rattle.trees.specs.Tree.{Tree, Two, HLet, head_of}
 use Rattle.trees.specs.Binding.{inst}
-use Rattle.rule_rewriting.specs.images.Images.{IsOtherHead}
+use Rattle.walking.specs.images.Images.{IsOtherHead}
 
 abbrev pub let_rule : Tree → Tree
 let_rule (Two HLet t b) = inst b t

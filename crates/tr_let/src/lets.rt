@@ -1,8 +1,8 @@
 // The transformation that puts out `let`: the rule at a node, its evidence, and the transformation by it.
 ghost use Rattle.std.specs.Prelude.{◌≡◌};
 ghost use Rattle.tasks.specs.Vocabulary.{of_task};
-ghost use Rattle.rule_rewriting.specs.Kept.{rule_keeps_formulas, rule_commutes};
-ghost use Rattle.rule_rewriting.specs.images.Images.{image};
+ghost use Rattle.walking.specs.rule_rewriting.Kept.{rule_keeps_formulas, rule_commutes};
+ghost use Rattle.walking.specs.images.Images.{image};
 ghost use Rattle.tr_let.specs.LetRule.{let_rule, let_others};
 ghost use Rattle.tr_let.specs.LetKept.{let_typed_rule, let_at_types};
 ghost use Rattle.tr_let.specs.Kept.{lets_equation, lets_keep};
@@ -11,13 +11,13 @@ use crate::linking::{LetParts, link_let};
 use crate::putting::put_value;
 use congruence::AlikeBy;
 use evidence::{Draft, StageFault, Transform};
-use rule_rewriting::{
-    FormulaImage, FormulaScope, RewriteFormulas, TaskRule, cite_rewritten, glue_rewritten,
-    image_by_rule, rewrite_by_rule, scoped_tasks,
-};
 use std::alloc::{AllocError, Global};
 use tasks::{Fact, Grow, Store, Task};
 use trees::{Node, TermId};
+use walking::rule_rewriting::{
+    FormulaImage, FormulaScope, RewriteFormulas, TaskRule, cite_rewritten, glue_rewritten,
+    image_by_rule, rewrite_by_rule, scoped_tasks,
+};
 use walking::{Linked, Rewrite};
 
 /// The transformation that puts out `let`: each becomes its body at its value, in propositions, locals and the goal. It gives one

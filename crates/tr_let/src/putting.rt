@@ -5,9 +5,9 @@ ghost use Rattle.trees.specs.Node.{tree_at, Holds};
 ghost use Rattle.trees.specs.Sorts.{WellSorted, sort_of};
 ghost use Rattle.tr_let.specs.LetRule.{let_rule};
 
-use index_bounds::put_terms;
 use std::alloc::{AllocError, Global};
 use tasks::Grow;
+use trees::binders::index_bounds::put_terms;
 use trees::{Sort, TermId};
 
 /// The body of a `let` with its value in the place of its variable.

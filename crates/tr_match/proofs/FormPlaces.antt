@@ -1,18 +1,18 @@
 -- The `if` form of an open `match`, and that of its instance at closed terms, by their numbers in a draft.
 use Rattle.std.proofs.Common.{◌≡◌, ℕ, List, [], length, sym, ap, subst, ◌∙◌}
-use Rattle.trees.specs.declared.TermId.{TermId}
-use Rattle.trees.specs.Tree.{Tree, Two, HCase}
-use Rattle.trees.specs.Node.{tree_at, trees_at, Holds}
-use Rattle.trees.specs.Binding.{inst_many}
-use Rattle.trees.specs.Sorts.{WellSorted, sort_of, type_of, IsExpression}
-use Rattle.trees.proofs.Sizes.{sorted_fits}
+use Rattle.tasks.specs.trees.declared.TermId.{TermId}
+use Rattle.tasks.specs.trees.Tree.{Tree, Two, HCase}
+use Rattle.tasks.specs.trees.Node.{tree_at, trees_at, Holds}
+use Rattle.tasks.specs.trees.Binding.{inst_many}
+use Rattle.tasks.specs.trees.Sorts.{WellSorted, sort_of, type_of, IsExpression}
+use Rattle.tasks.proofs.trees.Sizes.{sorted_fits}
 use Rattle.tasks.specs.Task.{TaskTree}
 use Rattle.tasks.specs.Vocabulary.{of_task}
 use Rattle.tasks.specs.Valid.{IsValid}
 use Rattle.evidence.specs.Drafts.{DraftTree, Extends}
 use Rattle.evidence.specs.Laws.{Extends_trans}
 use Rattle.match_forms.specs.images.Open.{IsOpenUnder, IsAt}
-use Rattle.match_forms.specs.typing_laws.HasTyping.{HasTyping, KeepsTyping}
+use Rattle.match_forms.specs.images.typing_laws.HasTyping.{HasTyping, KeepsTyping}
 use Rattle.congruence.specs.Alike.{IsClosedAt, ArePair}
 use Rattle.congruence.proofs.Later.{tree_later, closed_later}
 use Rattle.walking.specs.Places.{types_for, IsInstanceAt}
@@ -20,10 +20,10 @@ use Rattle.walking.proofs.PlacesLater.{trees_later}
 use Rattle.walking.proofs.Places.{place_closed}
 use Rattle.walking.proofs.Placed.{placed}
 use Rattle.match_forms.specs.Forms.{if_form, match_rule}
-use Rattle.match_forms.proofs.typing_laws.Sorted.{typed_has, has_typed}
+use Rattle.match_forms.proofs.images.typing_laws.Sorted.{typed_has, has_typed}
 use Rattle.match_forms.proofs.Rule.{match_typed_rule}
 use Rattle.match_forms.proofs.AtTerms.{match_at_terms}
-use Rattle.if_forms.specs.IfForms.{IsIfForm}
+use Rattle.tr_match.specs.if_forms.IfForms.{IsIfForm}
 
 -- an open tree at an environment is typed under the types of its terms
 pub place_typed : (d : DraftTree) (env : List TermId) (e left : TermId) (n : ℕ) → IsInstanceAt d env e left n → HasTyping (of_task d.task) (types_for (trees_at d.trees env)) (tree_at d.trees e)

@@ -1,18 +1,18 @@
 -- What `eliminate_match` makes of a task, which is valid and declares the same.
 use Rattle.std.specs.Prelude.{◌≡◌, ℕ, List, [], All, Result}
-use Rattle.trees.specs.Tree.{Tree, head_of}
+use Rattle.tasks.specs.trees.Tree.{Tree, head_of}
 use Rattle.tasks.specs.Task.{TaskTree}
 use Rattle.tasks.specs.Vocabulary.{of_task}
 use Rattle.tasks.specs.Valid.{IsValid}
 use Rattle.evidence.specs.Stages.{Gives, Keeps}
 use Rattle.match_forms.specs.images.Images.{IsOtherHead}
-use Rattle.match_forms.specs.typing_laws.HasTyping.{IsTypedRule}
-use Rattle.rule_rewriting.specs.rewriting.declared.formulas.FormulaScope.TheVariants as scope
-use Rattle.rule_rewriting.specs.rewriting.Rewritten.{formulas_equation}
-use Rattle.rule_rewriting.specs.rewriting.Kept.{rewritten_keeps}
-use Rattle.rule_rewriting.specs.rewriting.changed_tasks.Changed.{KeepsFormulas}
-use Rattle.rule_rewriting.specs.rewriting.Formulas.{CommutesWithTypes}
-use Rattle.rule_rewriting.specs.Rules.{CommutesAtNodes}
+use Rattle.match_forms.specs.images.typing_laws.HasTyping.{IsTypedRule}
+use Rattle.walking.specs.declared.rewriting.formulas.FormulaScope.TheVariants as scope
+use Rattle.walking.specs.rewriting.Rewritten.{formulas_equation}
+use Rattle.walking.specs.rewriting.Kept.{rewritten_keeps}
+use Rattle.walking.specs.evidence.changed_tasks.Changed.{KeepsFormulas}
+use Rattle.walking.specs.rewriting.Formulas.{CommutesWithTypes}
+use Rattle.walking.specs.rule_rewriting.Rules.{CommutesAtNodes}
 use Rattle.match_forms.specs.Forms.{match_rule, without_matches}
 use Rattle.match_forms.proofs.Rule.{match_others, match_typed_rule, without_keeps}
 use Rattle.match_forms.proofs.AtTypes.{match_at_types, without_at_types}

@@ -1,1 +1,2 @@
+pub mod if_forms
 pub mod Kept

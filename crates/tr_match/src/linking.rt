@@ -1,20 +1,19 @@
 // The link of a `match`: its `if` form, and evidence by the cases of the patterns.
 ghost use Rattle.std.specs.Prelude.{◌≡◌, List, IfOk};
-ghost use Rattle.trees.specs.Tree.{Tree, Two, HCase};
-ghost use Rattle.trees.specs.Node.{tree_at, Holds};
-ghost use Rattle.trees.specs.Sorts.{WellSorted};
+ghost use Rattle.tasks.specs.trees.Tree.{Tree, Two, HCase};
+ghost use Rattle.tasks.specs.trees.Node.{tree_at, Holds};
+ghost use Rattle.tasks.specs.trees.Sorts.{WellSorted};
 ghost use Rattle.tasks.specs.Vocabulary.{of_task};
 ghost use Rattle.evidence.specs.Drafts.{Extends, AddsTrees};
 ghost use Rattle.walking.specs.Places.{IsInstanceAt, IsLinkOf};
-ghost use Rattle.rule_rewriting.specs.Rules.{HasTypingSomewhere};
+ghost use Rattle.walking.specs.rule_rewriting.Rules.{HasTypingSomewhere};
 ghost use Rattle.match_forms.specs.Forms.{match_rule};
 
+use crate::if_forms::match_evidence;
 use evidence::Draft;
-use if_forms::match_evidence;
 use match_forms::match_node;
 use std::alloc::AllocError;
-use tasks::{Grow, Lookup};
-use trees::TermId;
+use tasks::{Grow, Lookup, TermId};
 use walking::Linked;
 
 // What a node of the draft's task becomes.

@@ -7,13 +7,12 @@ use crate::linking::link_match;
 use congruence::AlikeBy;
 use evidence::{Draft, StageFault, Transform};
 use match_forms::match_node;
-use rule_rewriting::{
+use std::alloc::{AllocError, Global};
+use tasks::{Fact, Grow, Lookup, Node, Store, Task, TermId};
+use walking::rule_rewriting::{
     FormulaImage, FormulaScope, RewriteFormulas, TaskRule, cite_rewritten, glue_rewritten,
     image_by_rule, rewrite_by_rule, scoped_tasks,
 };
-use std::alloc::{AllocError, Global};
-use tasks::{Fact, Grow, Lookup, Store, Task};
-use trees::{Node, TermId};
 use walking::{Linked, Rewrite};
 
 /// The transformation that makes each `match` its `if` form, in propositions, locals and the goal: its branches' bodies at the terms

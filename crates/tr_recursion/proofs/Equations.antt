@@ -21,10 +21,10 @@ use Rattle.tasks.specs.Valid.{IsTypeOver, IsDefinition, IsValid}
 use Rattle.evidence.specs.Drafts.{DraftTree}
 use Rattle.evidence.specs.Facts.{at_symbol, fact_named, IsFact}
 use Rattle.evidence.specs.Stages.{IsOwnTask}
-use Rattle.binders.specs.Visits.{HoldTypes}
-use Rattle.branch_steps.specs.Instances.{IsBranchAt}
-use Rattle.branch_steps.specs.congruence.kernel.rule_rows.Rows.{equation}
-use Rattle.branch_steps.specs.tr_inline.Definitions.{IsDefinedIn}
+use Rattle.trees.specs.binders.Visits.{HoldTypes}
+use Rattle.tr_recursion.specs.branch_steps.Instances.{IsBranchAt}
+use Rattle.congruence.specs.kernel.rules.Rows.{equation}
+use Rattle.tr_inline.specs.Definitions.{IsDefinedIn}
 use Rattle.tr_recursion.specs.Followed.{IsBranchFact, FollowsFrom, FollowsFromEquation}
 use Rattle.tr_recursion.proofs.Followed.{IsAtTypes}
 

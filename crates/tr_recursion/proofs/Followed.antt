@@ -26,9 +26,9 @@ use Rattle.tr_define.specs.spelled_groups.Kept.{spelling_keeps, spelling_props}
 use Rattle.tr_define.specs.spelled_groups.Inductives.{IsSmallTree}
 use Rattle.branch_equations.specs.Branches.{branch_fact, recursion_facts}
 use Rattle.branch_equations.proofs.Formulas.{recursions_spelling}
-use Rattle.branch_steps.specs.branch_instances.Origins.{IsBranchOf, IsOldFact}
-use Rattle.branch_steps.proofs.branch_instances.Origins.{old_fact_of, some_old}
-use Rattle.branch_steps.specs.congruence.kernel.rule_rows.Rows.{equation, clauses}
+use Rattle.tr_recursion.specs.branch_instances.Origins.{IsBranchOf, IsOldFact}
+use Rattle.tr_recursion.proofs.branch_instances.Origins.{old_fact_of, some_old}
+use Rattle.congruence.specs.kernel.rules.Rows.{equation, clauses}
 use Rattle.tr_recursion.specs.Kept.{recursions_equation}
 use Rattle.tr_recursion.specs.Followed.{IsBranchFact, FollowsFrom}
 

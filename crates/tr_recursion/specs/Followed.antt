@@ -7,7 +7,7 @@ use Rattle.tasks.specs.Task.{TaskTree, DefinitionTree}
 use Rattle.tasks.specs.Vocabulary.{of_task}
 use Rattle.tasks.specs.Valid.{IsDefinition}
 use Rattle.evidence.specs.Facts.{IsFact, at_symbol, fact_named}
-use Rattle.branch_steps.specs.Instances.{IsBranchAt}
+use Rattle.tr_recursion.specs.branch_steps.Instances.{IsBranchAt}
 
 -- a branch's equation at ground types, of a definition that has this name
 pub record IsBranchFact (t : TaskTree) (name : Fact) (types : List Tree) (formula : Tree) : Type 0 where

@@ -15,13 +15,13 @@ ghost use Rattle.tr_define.specs.spelled_groups.Spelled.{spelling_said};
 ghost use Rattle.branch_equations.specs.Branches.{recursion_facts};
 ghost use Rattle.tr_recursion.specs.Followed.{FollowsFrom, FollowsFromEquation};
 
-use binders::is_inst_types;
-use branch_steps::branch_step;
+use crate::branch_steps::branch_step;
+use crate::recursion_forms::recursions_origin;
 use declarations::FactSearch;
 use evidence::{Draft, fact_lemma};
-use recursion_forms::recursions_origin;
 use std::alloc::AllocError;
 use tasks::{Body, Decl, Def, Fact, Grow, Lookup, Role, Store, Task, TermId};
+use trees::binders::is_inst_types;
 
 // How many propositions a declaration says.
 fn said_in(store: &Store, body: &Body) -> usize

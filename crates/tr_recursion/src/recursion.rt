@@ -4,9 +4,9 @@ ghost use Rattle.branch_equations.specs.Branches.{recursion_facts};
 ghost use Rattle.tr_recursion.specs.Kept.{recursions_equation, recursions_keep};
 
 use crate::origins::{origin_of, origin_step};
+use crate::recursion_forms::{recursions_origin, recursions_said};
 use declarations::{FactSearch, RewriteDeclarations, only_end, rewritten_tasks};
 use evidence::{Draft, StageFault, Transform, fact_lemma};
-use recursion_forms::{recursions_origin, recursions_said};
 use std::alloc::{AllocError, Global};
 use tasks::{Decl, Fact, Grow, Signature, Store, Task, TermId};
 use tr_define::push_in_place;

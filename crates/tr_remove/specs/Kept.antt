@@ -12,7 +12,7 @@ use Rattle.evidence.specs.Stages.{Gives, Keeps}
 use Rattle.declarations.specs.Rewritten.{KeepsMade, KeepsConstructors}
 use Rattle.declarations.proofs.Rewritten.{alone_made, alone_role, rewritten_kept}
 use Rattle.declarations.proofs.Stage.{one_task}
-use Rattle.task_parts.specs.Kept.{one_keeps}
+use Rattle.evidence.specs.task_parts.Kept.{one_keeps}
 use Rattle.tr_remove.specs.Remove.{is_proposition, is_removed, removal_rule, removed_task, remove_equation}
 
 -- a proposition makes nothing

@@ -1,3 +1,3 @@
-pub use Rattle.stage_limits.specs as stage_limits
+pub use Rattle.evidence.specs as evidence
 pub mod Remove
 pub mod Kept

@@ -6,6 +6,6 @@
 mod removal;
 mod removing;
 
+pub use evidence::stage_limits::limit_tasks;
 pub use removal::is_removed;
 pub use removing::Remove;
-pub use stage_limits::limit_tasks;

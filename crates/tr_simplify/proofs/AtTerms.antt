@@ -7,15 +7,15 @@ use Rattle.trees.specs.Tree.{Tree, Leaf, One, Two, Three, Head, HTyVar, HBound, 
 use Rattle.trees.specs.Binding.{change, one_by, shift, inst, instantiating_many, inst_many, AreClosed}
 use Rattle.trees.specs.Facts.{one_open, is_open}
 use Rattle.trees.specs.Sorts.{sort_of}
-use Rattle.trees.proofs.Changes.{binders_over-change}
+use Rattle.trees.specs.laws.Changes.{binders_over-change}
 use Rattle.trees.proofs.Laws.{shift_closed}
 use Rattle.trees.proofs.Many.{many_below, many_at, many_above, cases_many, closed_terms, closed_at, puts_many}
 use Rattle.trees.proofs.Types.{loose_types}
 use Rattle.tasks.specs.Vocabulary.{Vocabulary}
 use Rattle.tasks.specs.Typing.{bound_types}
-use Rattle.rule_rewriting.specs.typing_laws.HasTyping.{HasTyping}
-use Rattle.rule_rewriting.proofs.OneTerm.{has_sorts, kinds_only}
-use Rattle.rule_rewriting.proofs.images.OpenInstances.{lowered}
+use Rattle.walking.specs.images.typing_laws.HasTyping.{HasTyping}
+use Rattle.walking.proofs.OneTerm.{has_sorts, kinds_only}
+use Rattle.walking.proofs.images.OpenInstances.{lowered}
 use Rattle.tr_simplify.specs.declared.laws.TruthValue.{TruthValue}
 use Rattle.tr_simplify.specs.declared.laws.TruthValue.TheVariants as side
 use Rattle.tr_simplify.specs.declared.laws.LawResult.{LawResult}

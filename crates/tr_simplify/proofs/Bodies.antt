@@ -7,12 +7,12 @@ use Rattle.trees.specs.Node.{tree_at, Holds}
 use Rattle.trees.specs.Binding.{Param}
 use Rattle.trees.specs.Facts.{is_open}
 use Rattle.tasks.specs.Task.{TaskTree, neg}
-use Rattle.rule_rows.specs.Trees.{RClash, RForall, RNotForall, RExists, RNotExists}
-use Rattle.rule_rows.specs.Forms.{alike}
+use Rattle.rules.specs.Trees.{RClash, RForall, RNotForall, RExists, RNotExists}
+use Rattle.rules.specs.Forms.{alike}
 use Rattle.congruence.specs.kernel.Right.{IsGroundExpression}
 use Rattle.evidence.specs.Drafts.{DraftTree, Extends, AddsTrees}
 use Rattle.evidence.specs.Laws.{Extends_trans, AddsTrees_extends}
-use Rattle.proof_scripts.specs.Scripts.{TailLine, FailingLine, Follows}
+use Rattle.evidence.specs.proof_scripts.Scripts.{TailLine, FailingLine, Follows}
 use Rattle.congruence.specs.Alike.{ArePair}
 use Rattle.congruence.specs.Quantifiers.{quantifier_head}
 use Rattle.congruence.proofs.Later.{tree_later}

@@ -11,15 +11,15 @@ use Rattle.trees.specs.Sorts.{sort_of, type_of}
 use Rattle.trees.proofs.Above.{no_param_above}
 use Rattle.trees.proofs.Many.{inst_not_open}
 use Rattle.tasks.specs.Task.{TaskTree, neg}
-use Rattle.rule_rewriting.proofs.images.Changes.{open_inst_above}
-use Rattle.rule_rows.specs.Trees.{RNotTrue, RFalse, RClash, RNotNot, RIfDef, RForall, RNotForall, RExists, RNotExists}
-use Rattle.rule_rows.specs.Forms.{alike, by_cases}
-use Rattle.rule_rows.specs.Rows.{IsNew}
+use Rattle.walking.proofs.images.Changes.{open_inst_above}
+use Rattle.rules.specs.Trees.{RNotTrue, RFalse, RClash, RNotNot, RIfDef, RForall, RNotForall, RExists, RNotExists}
+use Rattle.rules.specs.Forms.{alike, by_cases}
+use Rattle.rules.specs.Rows.{IsNew}
 use Rattle.congruence.specs.kernel.Right.{IsGroundExpression}
 use Rattle.evidence.specs.Drafts.{DraftTree}
-use Rattle.proof_scripts.specs.declared.line.Line.{Line}
-use Rattle.proof_scripts.specs.Scripts.{LineTree, TailLine, HoldingLine, FailingLine, LineHeld, LinesHeld, Follows, lines_at}
-use Rattle.proof_scripts.proofs.Lines.{clash_line, true_line, not_not_line, if_line, forall_line, not_forall_line, exists_line, not_exists_line}
+use Rattle.evidence.specs.declared.proof_scripts.line.Line.{Line}
+use Rattle.evidence.specs.proof_scripts.Scripts.{LineTree, TailLine, HoldingLine, FailingLine, LineHeld, LinesHeld, Follows, lines_at}
+use Rattle.evidence.proofs.proof_scripts.Lines.{clash_line, true_line, not_not_line, if_line, forall_line, not_forall_line, exists_line, not_exists_line}
 use Rattle.congruence.specs.Quantifiers.{quantifier_head}
 use Rattle.tr_simplify.specs.declared.laws.TruthValue.{TruthValue}
 use Rattle.tr_simplify.specs.declared.laws.TruthValue.TheVariants as side

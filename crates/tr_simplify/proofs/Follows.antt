@@ -6,10 +6,10 @@ use Rattle.trees.specs.declared.Op.TheVariants.{And, AndThen, Or, OrElse, Imp, I
 use Rattle.trees.specs.Tree.{Tree, Leaf, One, Two, HTrue, HFalse, HNot, HJoin}
 use Rattle.tasks.specs.Task.{TaskTree, neg}
 use Rattle.tasks.specs.Valid.{IsTypeOver}
-use Rattle.rule_rows.specs.Trees.{RFalse}
+use Rattle.rules.specs.Trees.{RFalse}
 use Rattle.evidence.specs.Drafts.{DraftTree}
-use Rattle.proof_scripts.specs.Scripts.{IsOfTail, Follows, lines_at}
-use Rattle.proof_scripts.proofs.Lines.{clash_line, true_line, not_not_line}
+use Rattle.evidence.specs.proof_scripts.Scripts.{IsOfTail, Follows, lines_at}
+use Rattle.evidence.proofs.proof_scripts.Lines.{clash_line, true_line, not_not_line}
 use Rattle.tr_simplify.specs.declared.laws.TruthValue.{TruthValue}
 use Rattle.tr_simplify.specs.declared.laws.TruthValue.TheVariants as side
 use Rattle.tr_simplify.specs.declared.laws.LawResult.TheVariants as outcome

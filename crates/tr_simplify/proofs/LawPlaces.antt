@@ -9,10 +9,10 @@ use Rattle.trees.proofs.Sizes.{sorted_fits}
 use Rattle.tasks.specs.Vocabulary.{of_task}
 use Rattle.evidence.specs.Drafts.{DraftTree, Extends}
 use Rattle.evidence.specs.Laws.{Extends_trans}
-use Rattle.rule_rewriting.specs.images.Open.{IsOpenUnder}
-use Rattle.rule_rewriting.specs.typing_laws.HasTyping.{HasTyping, KeepsTyping}
-use Rattle.rule_rewriting.proofs.images.Environments.{closed_for}
-use Rattle.rule_rewriting.proofs.OneTerm.{typed_has, has_typed}
+use Rattle.walking.specs.images.Open.{IsOpenUnder}
+use Rattle.walking.specs.images.typing_laws.HasTyping.{HasTyping, KeepsTyping}
+use Rattle.walking.proofs.images.Environments.{closed_for}
+use Rattle.walking.proofs.OneTerm.{typed_has, has_typed}
 use Rattle.congruence.specs.Alike.{ArePair}
 use Rattle.congruence.proofs.Later.{tree_later, closed_later}
 use Rattle.walking.specs.Places.{types_for, IsInstanceAt}

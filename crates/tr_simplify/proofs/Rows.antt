@@ -6,7 +6,7 @@ use Rattle.trees.specs.Tree.{Tree, Leaf, One, Two, Three, HEnd, HNum, HPred, HTr
 use Rattle.trees.specs.Binding.{Bound}
 use Rattle.trees.specs.Sorts.{int_type}
 use Rattle.tasks.specs.Equations.{cells}
-use Rattle.rule_rewriting.specs.images.Images.{image}
+use Rattle.walking.specs.images.Images.{image}
 use Rattle.tr_simplify.specs.Laws.{simplify_rule}
 
 abbrev simplified : Tree → Tree

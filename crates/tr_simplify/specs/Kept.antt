@@ -4,11 +4,11 @@ use Rattle.tasks.specs.Task.{TaskTree}
 use Rattle.tasks.specs.Vocabulary.{of_task}
 use Rattle.tasks.specs.Valid.{IsValid}
 use Rattle.evidence.specs.Stages.{Gives, Keeps}
-use Rattle.rule_rewriting.specs.images.Images.{image}
-use Rattle.rule_rewriting.specs.rewriting.declared.formulas.FormulaScope.TheVariants as scope
-use Rattle.rule_rewriting.specs.rewriting.Rewritten.{formulas_equation}
-use Rattle.rule_rewriting.specs.rewriting.Kept.{rewritten_keeps}
-use Rattle.rule_rewriting.specs.Kept.{rule_keeps_formulas}
+use Rattle.walking.specs.images.Images.{image}
+use Rattle.walking.specs.declared.rewriting.formulas.FormulaScope.TheVariants as scope
+use Rattle.walking.specs.rewriting.Rewritten.{formulas_equation}
+use Rattle.walking.specs.rewriting.Kept.{rewritten_keeps}
+use Rattle.walking.specs.rule_rewriting.Kept.{rule_keeps_formulas}
 use Rattle.tr_simplify.specs.Laws.{simplify_rule}
 use Rattle.tr_simplify.specs.SimplifyKept.{simplify_typed_rule}
 

@@ -7,7 +7,7 @@ use Rattle.trees.specs.declared.Op.TheVariants.{And, AndThen, Or, OrElse, Imp, I
 use Rattle.trees.specs.Tree.{Tree, Leaf, One, Two, Three, Head, HNum, HTrue, HFalse, HNot, HJoin, HForall, HExists, HIf, head_of}
 use Rattle.trees.specs.Binding.{inst}
 use Rattle.trees.specs.Facts.{is_open}
-use Rattle.rule_rewriting.specs.images.Images.{IsOtherHead}
+use Rattle.walking.specs.images.Images.{IsOtherHead}
 use Rattle.tr_simplify.specs.declared.laws.TruthValue.{TruthValue}
 use Rattle.tr_simplify.specs.declared.laws.TruthValue.TheVariants as side
 use Rattle.tr_simplify.specs.declared.laws.LawResult.{LawResult}

@@ -7,9 +7,9 @@ use Rattle.trees.specs.Tree.{Tree, Leaf, Two, HTrue, HFalse, HJoin}
 use Rattle.tasks.specs.Task.{neg}
 use Rattle.tr_simplify.specs.declared.laws.TruthValue.{TruthValue}
 use Rattle.tr_simplify.specs.declared.laws.TruthValue.TheVariants as side
-use Rattle.proof_scripts.specs.declared.line.Word.TheVariants as word
-use Rattle.proof_scripts.specs.declared.line.Line.{Line}
-use Rattle.proof_scripts.specs.declared.line.Line.TheVariants as line
+use Rattle.evidence.specs.declared.proof_scripts.line.Word.TheVariants as word
+use Rattle.evidence.specs.declared.proof_scripts.line.Line.{Line}
+use Rattle.evidence.specs.declared.proof_scripts.line.Line.TheVariants as line
 
 -- the negation of the equivalence of two formulas
 abbrev pub denied : Tree → Tree → Tree

@@ -8,12 +8,12 @@ use Rattle.trees.specs.Tree.{Tree, Leaf, One, Two, Three, Head, HTyVar, HBound, 
 use Rattle.trees.specs.Binding.{change, typing, one_by, inst, inst_types, TyVar}
 use Rattle.trees.specs.Facts.{one_open, is_open}
 use Rattle.trees.specs.Sorts.{sort_of}
-use Rattle.trees.proofs.Changes.{binders_over-change}
+use Rattle.trees.specs.laws.Changes.{binders_over-change}
 use Rattle.trees.proofs.Instances.{typing_any, inst_two}
 use Rattle.trees.proofs.Laws.{puts_typing, inst_types_inst}
 use Rattle.tasks.specs.Vocabulary.{Vocabulary}
-use Rattle.rule_rewriting.specs.typing_laws.HasTyping.{HasTyping, IsTypeAt}
-use Rattle.rule_rewriting.proofs.OneTerm.{expression_sort, at_one, are_types, no_kind}
+use Rattle.walking.specs.images.typing_laws.HasTyping.{HasTyping, IsTypeAt}
+use Rattle.walking.proofs.OneTerm.{expression_sort, at_one, are_types, no_kind}
 use Rattle.tr_simplify.specs.declared.laws.TruthValue.{TruthValue}
 use Rattle.tr_simplify.specs.declared.laws.TruthValue.TheVariants as side
 use Rattle.tr_simplify.specs.declared.laws.LawResult.{LawResult}

@@ -10,8 +10,8 @@ use Rattle.trees.specs.Sorts.{sort_of, type_of, IsExpression}
 use Rattle.trees.proofs.Many.{inst_is_many, inst_not_open}
 use Rattle.tasks.specs.Vocabulary.{Vocabulary}
 use Rattle.tasks.specs.Valid.{VariablesBelow, ParametersOf}
-use Rattle.rule_rewriting.specs.typing_laws.HasTyping.{HasSorts, HasTyping, AreTermsFor, KeepsTyping, IsTypedRule}
-use Rattle.rule_rewriting.proofs.OneTerm.{expression_sort, expression_type, has_sorts, formula_no_type, many_has, many_sort, many_variables, many_above_params, many_parameters, one_each, one_term}
+use Rattle.walking.specs.images.typing_laws.HasTyping.{HasSorts, HasTyping, AreTermsFor, KeepsTyping, IsTypedRule}
+use Rattle.walking.proofs.OneTerm.{expression_sort, expression_type, has_sorts, formula_no_type, many_has, many_sort, many_variables, many_above_params, many_parameters, one_each, one_term}
 use Rattle.tr_simplify.specs.declared.laws.TruthValue.{TruthValue}
 use Rattle.tr_simplify.specs.declared.laws.TruthValue.TheVariants as side
 use Rattle.tr_simplify.specs.declared.laws.LawResult.{LawResult}

@@ -3,7 +3,7 @@ ghost use Rattle.std.specs.Prelude.{◌≡◌, IfOk};
 ghost use Rattle.tr_simplify.specs.Scripts.{conjunction_lines, disjunction_lines, implication_lines, equivalence_lines, law_lines, not_lines};
 
 use crate::laws::TruthValue;
-use proof_scripts::{Line, Word};
+use evidence::proof_scripts::{Line, Word};
 use std::alloc::{AllocError, Global};
 use trees::Op;
 

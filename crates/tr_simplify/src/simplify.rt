@@ -1,8 +1,8 @@
 // The transformation that simplifies formulas by the laws: the rule at a node, its evidence, and the transformation by it.
 ghost use Rattle.std.specs.Prelude.{◌≡◌};
 ghost use Rattle.tasks.specs.Vocabulary.{of_task};
-ghost use Rattle.rule_rewriting.specs.Kept.{rule_keeps_formulas, rule_commutes};
-ghost use Rattle.rule_rewriting.specs.images.Images.{image};
+ghost use Rattle.walking.specs.rule_rewriting.Kept.{rule_keeps_formulas, rule_commutes};
+ghost use Rattle.walking.specs.images.Images.{image};
 ghost use Rattle.tr_simplify.specs.Laws.{simplify_rule, simplify_others};
 ghost use Rattle.tr_simplify.specs.SimplifyKept.{simplify_typed_rule};
 ghost use Rattle.tr_simplify.specs.SimplifyAtTypes.{simplify_at_types};
@@ -12,13 +12,13 @@ use crate::linking::{has_laws, link_law};
 use crate::simplifying::simplify_node;
 use congruence::AlikeBy;
 use evidence::{Draft, StageFault, Transform};
-use rule_rewriting::{
-    FormulaImage, FormulaScope, RewriteFormulas, TaskRule, cite_rewritten, glue_rewritten,
-    image_by_rule, rewrite_by_rule, scoped_tasks,
-};
 use std::alloc::{AllocError, Global};
 use tasks::{Fact, Grow, Store, Task};
 use trees::TermId;
+use walking::rule_rewriting::{
+    FormulaImage, FormulaScope, RewriteFormulas, TaskRule, cite_rewritten, glue_rewritten,
+    image_by_rule, rewrite_by_rule, scoped_tasks,
+};
 use walking::{Linked, Rewrite};
 
 /// The transformation that simplifies propositions, locals and the goal by the laws, from the leaves up. It gives one task.

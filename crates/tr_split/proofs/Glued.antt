@@ -12,8 +12,8 @@ use Rattle.evidence.specs.Drafts.{DraftTree, Extends, Refutes, AreFormulas, IsFo
 use Rattle.evidence.specs.Laws.{Extends_trans}
 use Rattle.evidence.proofs.Formulas.{same, formulas_later}
 use Rattle.evidence.proofs.Ends.{neg_back}
-use Rattle.proof_scripts.specs.declared.line.Line.{Line}
-use Rattle.proof_scripts.specs.Scripts.{LineHeld, LinesHeld}
+use Rattle.evidence.specs.declared.proof_scripts.line.Line.{Line}
+use Rattle.evidence.specs.proof_scripts.Scripts.{LineHeld, LinesHeld}
 use Rattle.tr_split.specs.Gluing.{CanGlue, RefutesGoal, IsGlued, IsGoalOpened}
 
 -- nothing was made

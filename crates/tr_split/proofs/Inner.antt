@@ -9,9 +9,9 @@ use Rattle.tasks.specs.Valid.{IsGroundFormula}
 use Rattle.tasks.specs.Vocabulary.{of_task}
 use Rattle.kernel.specs.Right.{IsGroundExpression}
 use Rattle.evidence.specs.Drafts.{DraftTree, IsFormulaAt}
-use Rattle.instances.specs.Instances.{IsInstance, IsClosedTerm}
+use Rattle.tasks.specs.typed_trees.instances.Instances.{IsInstance, IsClosedTerm}
 use Rattle.tr_split.specs.parts.Kept.{let_sentence}
-use Rattle.proof_scripts.specs.Added.{IsClosedTermAt}
+use Rattle.evidence.specs.proof_scripts.Added.{IsClosedTermAt}
 use Rattle.tr_split.specs.Over.{IsTypedTermAt, IsClosedIn, IsBinding}
 
 pub neg_same : (a b : Tree) → neg a ≡ neg b → a ≡ b

@@ -10,15 +10,15 @@ use Rattle.tasks.specs.Typing.{bound_types}
 use Rattle.tasks.specs.Meaning.{trees_at}
 use Rattle.tasks.proofs.Closing.{typed_sorted}
 use Rattle.evidence.specs.Drafts.{DraftTree, Extends, IsFormulaAt, AreFormulas}
-use Rattle.instances.specs.Instances.{IsTermOf, IsClosedTerm, IsInstance}
-use Rattle.instances.proofs.Laws.{param_term}
-use Rattle.task_parts.proofs.Opened.{whole, kind}
+use Rattle.tasks.specs.typed_trees.instances.Instances.{IsTermOf, IsClosedTerm, IsInstance}
+use Rattle.tasks.proofs.InstanceLaws.{param_term}
+use Rattle.evidence.proofs.task_parts.Opened.{whole, kind}
 use Rattle.tr_split.specs.parts.Split.{split}
 use Rattle.tr_split.specs.parts.Glue.{EndsOfParts}
 use Rattle.tr_split.specs.parts.Kept.{let_sentence}
 use Rattle.tr_split.proofs.parts.Pieces.{ends_later}
 use Rattle.tr_split.specs.Goals.{AreParamsBelow}
-use Rattle.proof_scripts.specs.Added.{IsClosedTermAt}
+use Rattle.evidence.specs.proof_scripts.Added.{IsClosedTermAt}
 use Rattle.tr_split.proofs.Instances.{split_inst}
 
 -- ---- a quantifier

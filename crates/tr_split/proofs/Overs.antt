@@ -13,12 +13,12 @@ use Rattle.evidence.specs.Drafts.{DraftTree, Extends, Refutes, AreFormulas}
 use Rattle.evidence.specs.Stages.{HaveSequents}
 use Rattle.evidence.proofs.Rules.{refutes_later}
 use Rattle.evidence.proofs.Formulas.{same, formula_later}
-use Rattle.instances.specs.Instances.{IsTermOf, IsClosedTerm}
+use Rattle.tasks.specs.typed_trees.instances.Instances.{IsTermOf, IsClosedTerm}
 use Rattle.tr_split.specs.parts.Split.{imp}
 use Rattle.tr_split.specs.parts.Glue.{EndsOfParts, sequent_of_part}
 use Rattle.tr_split.specs.declared.over.Over.{Over}
 use Rattle.tr_split.specs.declared.over.Over.TheVariants as stands
-use Rattle.proof_scripts.specs.Added.{IsClosedTermAt}
+use Rattle.evidence.specs.proof_scripts.Added.{IsClosedTermAt}
 use Rattle.tr_split.specs.Over.{OverHeld, whole_of, inner_of, extra_of}
 
 module _ (d d1 : DraftTree) (x : Extends d d1) where

@@ -9,13 +9,13 @@ use Rattle.tasks.specs.trees.Binding.{inst, Param}
 use Rattle.tasks.specs.trees.Facts.{has_param}
 use Rattle.tasks.specs.trees.Sorts.{sort_of, type_of}
 use Rattle.tasks.specs.Task.{neg}
-use Rattle.kernel.specs.rule_rows.Trees.{RNotTrue, RClash, RForall, RNotForall, RLetDef, RIfDef}
-use Rattle.kernel.specs.rule_rows.Forms.{join, alike, alike_by}
-use Rattle.kernel.specs.rule_rows.Rows.{IsNew}
+use Rattle.kernel.specs.rules.Trees.{RNotTrue, RClash, RForall, RNotForall, RLetDef, RIfDef}
+use Rattle.kernel.specs.rules.Forms.{join, alike, alike_by}
+use Rattle.kernel.specs.rules.Rows.{IsNew}
 use Rattle.kernel.specs.Right.{IsGroundExpression}
 use Rattle.evidence.specs.Drafts.{DraftTree, Refutes}
-use Rattle.proof_scripts.specs.Scripts.{LineTree, GivenLine, HoldingLine, FailingLine, CutLine, TailLine, IsGiven, IsOfTail, Follows}
-use Rattle.proof_scripts.proofs.Lines.{clash_line, true_line, forall_line, not_forall_line, let_line, if_line}
+use Rattle.evidence.specs.proof_scripts.Scripts.{LineTree, GivenLine, HoldingLine, FailingLine, CutLine, TailLine, IsGiven, IsOfTail, Follows}
+use Rattle.evidence.proofs.proof_scripts.Lines.{clash_line, true_line, forall_line, not_forall_line, let_line, if_line}
 
 module _ (d : DraftTree) (F : List Tree) where
   given : (before last : List Tree) (k : ℕ) → Refutes d k (F ++ last) → IsGiven d F (before ++ last) k (length last)

@@ -15,7 +15,7 @@ use Rattle.tasks.proofs.Closing.{typed_sorted}
 use Rattle.tasks.specs.trees.Binding.{inst}
 use Rattle.tasks.specs.Task.{neg}
 use Rattle.tr_split.specs.Goals.{AreParamsBelow, splits}
-use Rattle.proof_scripts.proofs.Expressions.{has_type}
+use Rattle.evidence.proofs.proof_scripts.Expressions.{has_type}
 use Rattle.tr_split.proofs.Instances.{splits_inst}
 use Rattle.tr_split.specs.declared.over.Over.TheVariants as stands
 use Rattle.tr_split.specs.Over.{IsTypedTermAt, inner_of}

@@ -4,7 +4,7 @@ use Rattle.tasks.specs.trees.declared.Op.TheVariants.{And, AndThen, Imp}
 use Rattle.tasks.specs.trees.Tree.{Tree, Two, Three, HJoin, HForall, HLet, HIf}
 use Rattle.tasks.specs.Task.{TaskTree}
 use Rattle.tr_split.specs.parts.Split.{split_task}
-pub use Rattle.instances.specs.Instances.{AreParamsBelow}
+pub use Rattle.tasks.specs.typed_trees.instances.Instances.{AreParamsBelow}
 
 -- a task for each part of the goal
 abbrev pub split_equation : TaskTree → Result (List TaskTree) ℕ

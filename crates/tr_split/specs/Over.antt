@@ -6,7 +6,7 @@ use Rattle.tasks.specs.trees.Node.{tree_at, Holds}
 use Rattle.tasks.specs.trees.Binding.{inst}
 use Rattle.tasks.specs.Task.{neg}
 use Rattle.evidence.specs.Drafts.{DraftTree, Refutes, IsFormulaAt}
-use Rattle.proof_scripts.specs.Added.{IsClosedTermAt}
+use Rattle.evidence.specs.proof_scripts.Added.{IsClosedTermAt}
 use Rattle.tr_split.specs.parts.Split.{imp, split}
 use Rattle.tr_split.specs.declared.over.Over.{Over}
 use Rattle.tr_split.specs.declared.over.Over.TheVariants as stands

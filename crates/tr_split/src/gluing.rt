@@ -13,8 +13,8 @@ ghost use Rattle.tr_split.specs.Gluing.{CanGlue, RefutesGoal, IsGlued};
 use crate::opening::{open_universal, open_valued};
 use crate::over::{Over, ends_over};
 use crate::refuting::refute_goal;
+use evidence::proof_scripts::{Line, Word};
 use evidence::{Draft, join_lists, negation};
-use proof_scripts::{Line, Word};
 use std::alloc::AllocError;
 use tasks::{Grow, Node, Op, Store, TermId};
 

@@ -8,9 +8,9 @@ ghost use Rattle.tr_split.specs.Gluing.{CanGlue, IsGoalOpened};
 
 use crate::over::{Over, ends_over};
 use evidence::Draft;
-use instances::{instance, parameter};
 use std::alloc::AllocError;
 use tasks::TermId;
+use tasks::typed_trees::instances::{instance, parameter};
 
 // The body of a quantifier at the parameter of this number, and steps that refute its parts.
 pub(crate) fn open_universal(

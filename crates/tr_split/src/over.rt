@@ -11,10 +11,10 @@ ghost use Rattle.tr_split.specs.parts.Glue.{EndsOfParts, IsNegation, IsImplicati
 ghost use Rattle.tr_split.specs.Over.{IsEnd, PartOf, IsBinding, IsClosedIn, IsUniversalEnd, IsTypedTermAt};
 ghost use Rattle.tr_split.specs.Over.{whole_of, inner_of, extra_of, wholes, inners, OverHeld};
 
+use evidence::proof_scripts::{Line, Word, derive};
 use evidence::{Draft, last_formula, negation};
-use instances::instance;
-use proof_scripts::{Line, Word, derive};
 use std::alloc::AllocError;
+use tasks::typed_trees::instances::instance;
 use tasks::{Grow, Node, Op, TermId};
 
 // A hypothesis; a quantifier's type, and the term at which it is opened; or the value of a `let`, which is opened there.

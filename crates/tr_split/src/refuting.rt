@@ -4,11 +4,11 @@ ghost use Rattle.tasks.specs.trees.Node.{tree_at};
 ghost use Rattle.tasks.specs.Task.{neg};
 ghost use Rattle.tasks.specs.Meaning.{trees_at};
 ghost use Rattle.evidence.specs.Drafts.{IsFormulaAt, AreFormulas};
-ghost use Rattle.proof_scripts.specs.Scripts.{lines_at, LinesHeld, Follows};
+ghost use Rattle.evidence.specs.proof_scripts.Scripts.{lines_at, LinesHeld, Follows};
 ghost use Rattle.tr_split.specs.Gluing.{IsGlued};
 
+use evidence::proof_scripts::{Line, derive};
 use evidence::{Draft, negation};
-use proof_scripts::{Line, derive};
 use std::alloc::AllocError;
 use tasks::TermId;
 

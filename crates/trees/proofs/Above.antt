@@ -6,8 +6,8 @@ use Rattle.trees.specs.Tree.{Tree, Leaf, One, Two, Three, Head, HBound, HParam, 
 use Rattle.trees.specs.Binding.{Change, change, leaf_by, one_by, Bound, Param, TyVar, shifting, instantiating, instantiating_many, typing, closing}
 use Rattle.trees.specs.Sorts.{WellSorted, sort_of}
 use Rattle.trees.specs.Facts.{has_param, is_param, TyVarsBelow, leaf_below}
-use Rattle.trees.proofs.Changes.{one_loose_le}
-use Rattle.trees.proofs.Indices.{inst_below, shift_below, close_below}
+use Rattle.trees.specs.laws.Changes.{one_loose_le}
+use Rattle.trees.specs.laws.Indices.{inst_below, shift_below, close_below}
 use Rattle.trees.proofs.Laws.{close_other}
 use Rattle.trees.proofs.Many.{many_below}
 use Rattle.trees.proofs.Types.{OnlyTypes, only_types}

@@ -5,7 +5,7 @@ use Rattle.std.proofs.lemmas.Bool.{cases_order}
 use Rattle.trees.specs.Tree.{Tree, Leaf, One, Two, Three, Head, HBound, HParam, HTyVar, binders_over, loose}
 use Rattle.trees.specs.Binding.{Change, change, leaf_by, one_by, TyVar, instantiating, inst, instantiating_many, inst_many, typing, inst_types, AreClosed}
 use Rattle.trees.specs.Facts.{IndicesFit, index_fits}
-use Rattle.trees.proofs.Indices.{inst_below, inst_at, inst_above}
+use Rattle.trees.specs.laws.Indices.{inst_below, inst_at, inst_above}
 use Rattle.trees.proofs.Laws.{shift_closed}
 use Rattle.trees.proofs.Many.{many_below, many_at, many_above, cases_many, closed_at}
 

@@ -6,13 +6,13 @@ ghost use Rattle.std.specs.Prelude.{◌≡◌, IsTrue};
 ghost use Rattle.trees.specs.declared.Sort.TheVariants.{Kind};
 ghost use Rattle.trees.specs.Node.{tree_at, Holds};
 ghost use Rattle.trees.specs.Sorts.{sort_of};
-ghost use Rattle.unify_types.specs.Pairs.{HoldsEquation, HoldEquations};
+ghost use Rattle.open_types.specs.unify_types.Pairs.{HoldsEquation, HoldEquations};
 
 use crate::printing::put_type;
+use open_types::unify_types::{Equation, Solution, UnifyFault, solve};
 use std::alloc::{AllocError, Global};
-use term_store::{Grow, Store};
+use trees::store::{Grow, Store};
 use trees::{Node, Sort, TermId};
-use unify_types::{Equation, Solution, UnifyFault, solve};
 
 // What was read of a line: types that wait, equations, how many type variables are rigid, and which unknowns are asked for.
 #[derive(Drop)]

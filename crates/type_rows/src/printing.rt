@@ -1,7 +1,7 @@
 // Types as words: a variable by `'` and its number, a symbol by `t`, its number, and its arguments in brackets.
 // It depends on the store; the answers depend on it.
 use std::alloc::{AllocError, Global};
-use term_store::Store;
+use trees::store::Store;
 use trees::{Node, TermId};
 
 // A letter with a number.

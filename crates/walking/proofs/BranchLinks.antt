@@ -9,7 +9,7 @@ use Rattle.tasks.specs.Task.{TaskTree}
 use Rattle.tasks.specs.Vocabulary.{Vocabulary, of_task}
 use Rattle.tasks.specs.Typing.{TypedUnder, BranchesFit, first_body, pattern_types}
 use Rattle.tasks.specs.MatchTests.{test, bind}
-use Rattle.congruence.specs.instances.Instances.{AreFor}
+use Rattle.congruence.specs.tasks.typed_trees.instances.Instances.{AreFor}
 use Rattle.images.specs.Open.{IsOpenUnder, IsAt}
 use Rattle.images.proofs.Images.{leaf_no_list}
 use Rattle.congruence.specs.Conditionals.{IsMatchCases, IsLastBranch}

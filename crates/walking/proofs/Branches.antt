@@ -15,8 +15,8 @@ use Rattle.tasks.specs.Typing.{TypedUnder, pattern_types, BranchesFit}
 use Rattle.tasks.specs.Valid.{IsGround}
 use Rattle.tasks.proofs.Closing.{typed_sorted}
 use Rattle.tasks.proofs.Counts.{bound_count}
-use Rattle.congruence.specs.instances.Instances.{IsTermOf, AreFor}
-use Rattle.congruence.proofs.instances.Typed.{present}
+use Rattle.congruence.specs.tasks.typed_trees.instances.Instances.{IsTermOf, AreFor}
+use Rattle.congruence.proofs.tasks.typed_trees.instances.Typed.{present}
 use Rattle.images.specs.Open.{IsEnvironment, IsOpenUnder, IsAt}
 use Rattle.images.proofs.Environments.{closed_for}
 use Rattle.images.proofs.Images.{expression_sort, expression_type}

@@ -8,7 +8,7 @@ use Rattle.trees.specs.Sorts.{sort_of}
 use Rattle.trees.proofs.Many.{inst_many_closed}
 use Rattle.tasks.specs.Vocabulary.{of_task}
 use Rattle.tasks.proofs.Closing.{typed_closed}
-use Rattle.congruence.specs.instances.Instances.{AreFor}
+use Rattle.congruence.specs.tasks.typed_trees.instances.Instances.{AreFor}
 use Rattle.evidence.specs.Drafts.{DraftTree, IsFormulaAt}
 use Rattle.walking.specs.declared.linked.Linked.{Linked}
 use Rattle.walking.specs.Places.{IsInstanceAt, IsLinkOf}

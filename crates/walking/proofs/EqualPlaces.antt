@@ -7,7 +7,7 @@ use Rattle.trees.specs.Node.{tree_at, trees_at, Holds}
 use Rattle.trees.specs.Binding.{inst_many}
 use Rattle.trees.specs.Sorts.{sort_of, type_of}
 use Rattle.tasks.specs.Vocabulary.{of_task}
-use Rattle.congruence.proofs.instances.Typed.{many_type}
+use Rattle.congruence.proofs.tasks.typed_trees.instances.Typed.{many_type}
 use Rattle.tasks.specs.Valid.{IsGroundFormula}
 use Rattle.evidence.specs.Drafts.{DraftTree, Extends, IsFormulaAt}
 use Rattle.evidence.specs.Laws.{Extends_trans}

@@ -9,10 +9,10 @@ use Rattle.trees.specs.Facts.{IndicesFit}
 use Rattle.trees.specs.Sorts.{WellSorted, sort_of}
 use Rattle.trees.proofs.RaisesNoIndex.{closed_many_fits}
 use Rattle.trees.proofs.Sizes.{sorted_fits}
-use Rattle.binders.specs.Visits.{HoldTerms}
+use Rattle.trees.specs.binders.Visits.{HoldTerms}
 use Rattle.tasks.specs.Vocabulary.{Vocabulary}
 use Rattle.tasks.proofs.Closing.{typed_sorted}
-use Rattle.congruence.specs.instances.Instances.{AreFor}
+use Rattle.congruence.specs.tasks.typed_trees.instances.Instances.{AreFor}
 use Rattle.images.proofs.Environments.{term_for, closed_for}
 
 hold_each : (s : List Tree) (ids : List TermId) → ((k : ℕ) (e : Tree) → k < length (trees_at s ids) → sort_of (get_or (trees_at s ids) k e) ≡ Term) → All (Holds s) ids → HoldTerms s ids

@@ -13,9 +13,9 @@ use Rattle.tasks.specs.Vocabulary.{of_task}
 use Rattle.tasks.specs.Typing.{TypedUnder, option_list}
 use Rattle.tasks.specs.Valid.{IsGround}
 use Rattle.congruence.specs.kernel.Right.{IsGroundExpression}
-use Rattle.congruence.specs.instances.Instances.{IsTermOf}
-use Rattle.congruence.proofs.instances.Typed.{inst_typed, inst_sort}
-use Rattle.congruence.proofs.instances.Kept.{inst_variables}
+use Rattle.congruence.specs.tasks.typed_trees.instances.Instances.{IsTermOf}
+use Rattle.congruence.proofs.tasks.typed_trees.instances.Typed.{inst_typed, inst_sort}
+use Rattle.congruence.proofs.tasks.KeptInstances.{inst_variables}
 use Rattle.evidence.specs.Drafts.{DraftTree, Extends}
 use Rattle.evidence.specs.Laws.{Extends_trans}
 use Rattle.images.specs.Open.{IsAt}

@@ -1,3 +1,5 @@
+pub use Rattle.images.proofs as images
+pub mod OneTerm
 pub mod PlacesLater
 pub mod Places
 pub mod Instances

@@ -8,7 +8,7 @@ use Rattle.trees.specs.Tree.{Tree, Two, HCase, HCell, HArm, above_params, pat_va
 use Rattle.trees.specs.Node.{tree_at, trees_at, Holds}
 use Rattle.trees.specs.Facts.{Each}
 use Rattle.trees.specs.Binding.{change, instantiating_many, inst_many}
-use Rattle.binders.specs.Visits.{HoldTerms}
+use Rattle.trees.specs.binders.Visits.{HoldTerms}
 use Rattle.trees.specs.Sorts.{WellSorted, sort_of, type_of}
 use Rattle.tasks.specs.Task.{TaskTree}
 use Rattle.tasks.specs.Vocabulary.{of_task}
@@ -17,7 +17,7 @@ use Rattle.tasks.specs.Valid.{IsGround, IsGroundFormula, IsValid}
 use Rattle.tasks.specs.MatchTests.{bind}
 use Rattle.tasks.specs.MatchTests.{test as match_test}
 use Rattle.tasks.proofs.Closing.{typed_sorted}
-use Rattle.congruence.specs.instances.Instances.{AreFor}
+use Rattle.congruence.specs.tasks.typed_trees.instances.Instances.{AreFor}
 use Rattle.evidence.specs.Drafts.{DraftTree, Extends, IsFormulaAt}
 use Rattle.images.specs.Open.{IsAt}
 use Rattle.images.specs.PatternTerms.{IsTypedPattern, HasPartsOf, HasOfBoth}

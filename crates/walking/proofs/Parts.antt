@@ -10,7 +10,7 @@ use Rattle.tasks.specs.Task.{TaskTree}
 use Rattle.tasks.specs.Vocabulary.{of_task}
 use Rattle.tasks.specs.Typing.{TypedUnder, option_list}
 use Rattle.tasks.specs.Valid.{IsGround}
-use Rattle.congruence.specs.instances.Instances.{IsTermOf}
+use Rattle.congruence.specs.tasks.typed_trees.instances.Instances.{IsTermOf}
 use Rattle.images.specs.Open.{IsOpenUnder, IsAt}
 use Rattle.images.proofs.Environments.{at_second, at_bound, at_body, closed_for}
 use Rattle.congruence.specs.declared.applications.SymbolAt.{SymbolAt}

@@ -8,7 +8,7 @@ use Rattle.trees.specs.Node.{tree_at, trees_at, Holds}
 use Rattle.trees.specs.Binding.{inst_many}
 use Rattle.trees.specs.Sorts.{sort_of, type_of, IsExpression}
 use Rattle.tasks.specs.Vocabulary.{of_task}
-use Rattle.congruence.proofs.instances.Typed.{many_sort}
+use Rattle.congruence.proofs.tasks.typed_trees.instances.Typed.{many_sort}
 use Rattle.congruence.specs.kernel.Right.{IsGroundExpression}
 use Rattle.tasks.specs.Valid.{IsGroundFormula}
 use Rattle.evidence.specs.Drafts.{DraftTree, Extends, IsFormulaAt}

@@ -18,8 +18,8 @@ use Rattle.images.specs.Images.{image}
 use Rattle.images.specs.Open.{IsAt}
 use Rattle.images.proofs.Environments.{term_for}
 use Rattle.images.specs.Templates.{listed}
-use Rattle.binders.specs.Known.{same_pair}
-use Rattle.binders.proofs.Rebuilt.{both_true}
+use Rattle.trees.specs.binders.Known.{same_pair}
+use Rattle.trees.proofs.binders.Rebuilt.{both_true}
 use Rattle.congruence.proofs.Later.{held_later, tree_later}
 use Rattle.walking.specs.declared.linked.Linked.{Linked}
 use Rattle.walking.specs.Places.{types_for, IsInstanceAt, IsLinkOf}

@@ -3,7 +3,7 @@
 use Rattle.std.proofs.Common.{◌≡◌, ℕ, suc, ◌+◌, ◌≤◌, List, [], ◌∷◌, ◌++◌, length, get_or, slice_get, All, Some, refl, sym, ap, subst, ◌∙◌, arith}
 use Rattle.trees.specs.Tree.{Tree, loose, above_params}
 use Rattle.trees.specs.Binding.{instantiating_many, inst_many, AreClosed}
-use Rattle.trees.proofs.Changes.{change_closed}
+use Rattle.trees.specs.laws.Changes.{change_closed}
 use Rattle.trees.proofs.Many.{right_at, length_joined, keeps_many, inst_many_under}
 use Rattle.tasks.specs.Task.{TaskTree}
 use Rattle.tasks.specs.Open.{VariablesHave}
@@ -12,8 +12,8 @@ use Rattle.tasks.specs.Typing.{TypedUnder}
 use Rattle.tasks.specs.Valid.{IsGround}
 use Rattle.tasks.proofs.Closing.{closed_typed, typed_closed, typed_has, typed_open}
 use Rattle.tasks.proofs.TypeInstances.{typed_further}
-use Rattle.congruence.specs.instances.Instances.{IsTermOf, AreFor}
-use Rattle.congruence.proofs.instances.Kept.{slot}
+use Rattle.congruence.specs.tasks.typed_trees.instances.Instances.{IsTermOf, AreFor}
+use Rattle.congruence.proofs.tasks.KeptInstances.{slot}
 use Rattle.images.specs.Open.{IsEnvironment, IsAt}
 use Rattle.images.proofs.Environments.{closed_for}
 use Rattle.images.proofs.Slices.{slice_front}

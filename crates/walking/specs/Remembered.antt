@@ -9,7 +9,7 @@ use Rattle.tasks.specs.Task.{TaskTree}
 use Rattle.evidence.specs.Drafts.{DraftTree}
 use Rattle.images.specs.Images.{image}
 use Rattle.images.specs.Templates.{listed}
-use Rattle.binders.specs.Known.{same_pair}
+use Rattle.trees.specs.binders.Known.{same_pair}
 use Rattle.walking.specs.declared.linked.Linked.{Linked}
 use Rattle.walking.specs.Places.{IsLinkOf}
 

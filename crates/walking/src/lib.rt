@@ -1,7 +1,9 @@
-//! The walk of an open tree at an environment of closed terms, generic in a rule for nodes: the image of the tree, its instance,
-//! and evidence that the two instances are alike. It goes through every form of terms and formulas.
+//! The walk of an open tree at an environment of closed terms, generic in a rule for nodes: the image of the tree, its
+//! instance, and evidence that the two instances are alike; tasks whose formulas are rewritten, by one function or by
+//! a rule.
 //!
-//! Contract: a formula of a task and its image under the rule are equivalent, by a step for each half.
+//! Contract: a formula of a task and its image under the rule are equivalent, by a step for each half; exactly the
+//! rewritten task, its facts and its start refuted in the old task.
 #![tactic(auto)]
 
 mod arguments;
@@ -12,6 +14,8 @@ mod linked;
 mod matching;
 mod quantified;
 mod remembered;
+pub mod rewriting;
+pub mod rule_rewriting;
 mod walking;
 
 pub use formulas::{Rewritten, rewrite_formula};

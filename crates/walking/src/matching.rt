@@ -10,21 +10,21 @@ ghost use Rattle.congruence.specs.Alike.{ArePair, Shows};
 ghost use Rattle.congruence.specs.Conditionals.{IsLastBranch};
 ghost use Rattle.walking.specs.Places.{types_for, IsInstanceAt, IsLinkOf};
 ghost use Rattle.walking.specs.Opened.{IsOpenedBranch};
-ghost use Rattle.binders.specs.Visits.{HoldTerms};
+ghost use Rattle.trees.specs.binders.Visits.{HoldTerms};
 ghost use Rattle.tasks.specs.MatchTests.{test, bind};
 ghost use Rattle.images.specs.Open.{IsEnvironment, IsOpenUnder};
 ghost use Rattle.images.specs.PatternTerms.{IsTypedPattern};
 
 use crate::linked::Linked;
 use crate::quantified::instance_at;
-use binders::inst_many;
 use congruence::{
     AlikeBy, CaseLinks, Conditional, alike_branch, alike_matches, alike_scrutinee, chain, flip,
 };
 use evidence::Draft;
-use match_terms::{Asked, ask};
+use images::match_terms::{Asked, ask};
 use std::alloc::AllocError;
 use tasks::{Grow, Lookup};
+use trees::binders::inst_many;
 use trees::{Node, Sort, TermId};
 
 /// The scrutinee and the branches of a `match`.

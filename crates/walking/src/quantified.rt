@@ -6,18 +6,18 @@ ghost use Rattle.trees.specs.Binding.{inst, inst_many, Param};
 ghost use Rattle.trees.specs.Sorts.{WellSorted, sort_of};
 ghost use Rattle.tasks.specs.Task.{neg};
 ghost use Rattle.tasks.specs.Vocabulary.{of_task};
-ghost use Rattle.congruence.specs.instances.Instances.{AreFor};
+ghost use Rattle.congruence.specs.tasks.typed_trees.instances.Instances.{AreFor};
 ghost use Rattle.evidence.specs.Drafts.{Extends, AddsTrees, Refutes, IsFormulaAt};
 ghost use Rattle.congruence.specs.Alike.{HasHalves, IsClosedAt, ArePair, Shows};
 ghost use Rattle.walking.specs.Places.{IsInstanceAt, IsLinkOf};
 ghost use Rattle.congruence.specs.Quantifiers.{quantifier_head};
 
 use crate::linked::Linked;
-use binders::inst_many;
 use congruence::{alike_quantified, instance, parameter};
 use evidence::Draft;
 use std::alloc::AllocError;
 use tasks::Grow;
+use trees::binders::inst_many;
 use trees::{Node, Sort, TermId};
 
 /// The instance of an open tree at an environment.

@@ -1,8 +1,8 @@
 //! `main` over the host.
 #![tactic(auto)]
 
-use explain::{ExplainFault, explain_words};
 use outside::{HostLibrary, HostSink, PutFault, Sink};
+use statuses::explain::{ExplainFault, explain_words};
 use std::alloc::Global;
 use std::env;
 use std::io::ErrorKind;

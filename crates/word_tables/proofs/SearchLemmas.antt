@@ -5,9 +5,8 @@ use Rattle.std.specs.Cmp.Lexicographic.{slice_cmp, nat_list_cmp_total}
 use Rattle.std.specs.Cmp.{IsTotalOrder}
 use Rattle.std.proofs.lemmas.Bool.Decides.{nat_tests}
 use Rattle.std.specs.List.{position_from}
-use Rattle.std.proofs.lemmas.Bool.{eqb-true, eq-eqb}
+use Rattle.std.proofs.lemmas.Bool.{eqb-true, eq-eqb, and_parts}
 use Rattle.word_tables.specs.Words.{ascends, texts, is_same_word, place_in_words, Finds}
-use Rattle.plain_laws.proofs.Bools.{and_first as and-left, and_second as and-right}
 use Rattle.std.proofs.lemmas.Option.{slice_get-get_or as get-some}
 
 -- the words from `low` up to `high` are those that may still be the one
@@ -52,8 +51,8 @@ same-is [] [] e = refl
 same-is [] (y ∷ w) e = cc
 same-is (x ∷ v) [] e = cc
 same-is (x ∷ v) (y ∷ w) e =
-    let p = eqb-true x y (and-left (nat_eq x y) (is_same_word v w) e) in
-    let q = same-is v w (and-right (nat_eq x y) (is_same_word v w) e) in
+    let p = eqb-true x y (and_parts (nat_eq x y) (is_same_word v w) e).0 in
+    let q = same-is v w (and_parts (nat_eq x y) (is_same_word v w) e).1 in
     cc
 
 is-same : (v w : List ℕ) → v ≡ w → is_same_word v w ≡ true
@@ -103,13 +102,13 @@ self-equal (x ∷ xs) = ap (λ o. ordering_then o (slice_cmp nat_cmp xs xs)) (na
 -- a first word is below each later one
 first-below : (v : List ℕ) (ws : List (List ℕ)) (j : ℕ) → ascends (v ∷ ws) ≡ true → j < length ws → slice_cmp nat_cmp v (get_or ws j []) ≡ Less
 first-below v [] j a lt = absurd (omega arith)
-first-below v (w ∷ ws) zero a lt = lt-less _ (and-left _ (ascends (w ∷ ws)) a)
+first-below v (w ∷ ws) zero a lt = lt-less _ (and_parts (is_lt (slice_cmp nat_cmp v w)) (ascends (w ∷ ws)) a).0
 first-below v (w ∷ ws) (suc j) a lt =
-    order.trans v w (get_or ws j []) (lt-less _ (and-left _ (ascends (w ∷ ws)) a)) (first-below w ws j (and-right (is_lt (slice_cmp nat_cmp v w)) _ a) (omega arith))
+    order.trans v w (get_or ws j []) (lt-less _ (and_parts (is_lt (slice_cmp nat_cmp v w)) (ascends (w ∷ ws)) a).0) (first-below w ws j (and_parts (is_lt (slice_cmp nat_cmp v w)) (ascends (w ∷ ws)) a).1 (omega arith))
 
 rest-ascends : (v : List ℕ) (ws : List (List ℕ)) → ascends (v ∷ ws) ≡ true → ascends ws ≡ true
 rest-ascends v [] a = refl
-rest-ascends v (w ∷ ws) a = and-right (is_lt (slice_cmp nat_cmp v w)) _ a
+rest-ascends v (w ∷ ws) a = (and_parts (is_lt (slice_cmp nat_cmp v w)) (ascends (w ∷ ws)) a).1
 
 -- each word is below each later one
 pub ascending : (ws : List (List ℕ)) (i j : ℕ) → ascends ws ≡ true → i < j → j < length ws → slice_cmp nat_cmp (get_or ws i []) (get_or ws j []) ≡ Less

@@ -1,1 +1,2 @@
+pub mod integers
 pub mod Words

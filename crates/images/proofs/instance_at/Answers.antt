@@ -5,7 +5,7 @@ use Rattle.trees.specs.Node.{tree_at, trees_at, Holds, Grows}
 use Rattle.trees.specs.Sorts.{WellSorted, sort_of}
 use Rattle.trees.specs.Facts.{IndicesFit}
 use Rattle.trees.specs.Binding.{inst_many, inst_types}
-use Rattle.binders.specs.Visits.{held_stays, trees_stay}
+use Rattle.trees.specs.binders.Visits.{held_stays, trees_stay}
 use Rattle.images.specs.Instances.{IsInstanceAtTypes}
 use Rattle.images.proofs.AtTypes.{is_at_types, env_fits, env_sort}
 use Rattle.images.proofs.instance_at.Goals as goal

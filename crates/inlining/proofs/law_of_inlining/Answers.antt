@@ -1,5 +1,5 @@
 -- All are lemmas.
-use Rattle.recursive_groups.specs.decl_checks.Structure.{defining_body}
+use Rattle.checks.specs.decl_checks.Structure.{defining_body}
 use Rattle.inlining.proofs.Bodies.{defined_body}
 use Rattle.inlining.proofs.Uses.{unfold_typed_rule, unfold_node_rule}
 use Rattle.inlining.proofs.Inlined.{inlined_valid}

@@ -2,13 +2,13 @@
 use Rattle.std.proofs.Common.{◌≡◌, ℕ, ◌+◌, ◌<◌, List, ◌++◌, length, get_or, drop, if◌then◌else◌, Result, Ok, Err, is_ok, OnOk, IsErrAnd, sym, ap, ◌∙◌, append_assoc}
 use Rattle.std.specs.List.{flat_map}
 use Rattle.std.proofs.lemmas.List.{drop_more}
-use Rattle.term_store.specs.trees.declared.TermId.{TermId}
-use Rattle.term_store.specs.trees.Tree.{Tree}
-use Rattle.term_store.specs.trees.Node.{tree_at}
+use Rattle.trees.specs.declared.TermId.{TermId}
+use Rattle.trees.specs.Tree.{Tree}
+use Rattle.trees.specs.Node.{tree_at}
 use Rattle.tasks.specs.Meaning.{trees_at}
 use Rattle.printed_problems.specs.printed_terms.Texts.{Printing, sort_text}
 use Rattle.part_texts.specs.smt_texts.Text.{smt_parameter_line, smt_parameter_lines}
-use Rattle.term_store.proofs.trees.plain_laws.Lists.{then_piece}
+use Rattle.tasks.proofs.plain_laws.Lists.{then_piece}
 
 -- the last piece, where a fault leaves nothing to say
 pub last_piece : {X E : Type 0} (r : Result X E) (o p q a rest : List ℕ) → p ≡ o ++ a → OnOk r (q ≡ p ++ rest) → OnOk r (q ≡ o ++ (a ++ rest))

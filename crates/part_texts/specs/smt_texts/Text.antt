@@ -3,9 +3,9 @@
 use Rattle.std.specs.Prelude.{ℕ, ◌+◌, List, [], ◌∷◌, ◌++◌, slice_get, codes, Option, Some, None}
 use Rattle.std.specs.Fmt.{decimal}
 use Rattle.std.specs.List.{flat_map}
-use Rattle.term_store.specs.trees.Tree.{Tree}
+use Rattle.trees.specs.Tree.{Tree}
 use Rattle.tasks.specs.Task.{SymbolTree, TaskTree}
-use Rattle.name_tables.specs.name_entries.declared.names.NameEntry.{NameEntry}
+use Rattle.name_tables.specs.declared.name_entries.names.NameEntry.{NameEntry}
 use Rattle.drivers.specs.declared.driver_parts.driver.Driver.{Driver}
 use Rattle.printed_problems.specs.Problems.{ProblemTree}
 use Rattle.printed_problems.specs.printed_terms.Texts.{Printing, name_at, joined, sort_text, formula_text, parameter}

@@ -1,7 +1,7 @@
 // The lines of a problem.
 ghost use Rattle.std.specs.Prelude.{All, OnOk};
 ghost use Rattle.std.specs.List.{flat_map};
-ghost use Rattle.term_store.specs.trees.Node.{tree_at, Holds};
+ghost use Rattle.trees.specs.Node.{tree_at, Holds};
 ghost use Rattle.tasks.specs.Meaning.{trees_at, symbols_at, SymbolHeld};
 ghost use Rattle.printed_problems.specs.printed_terms.Meaning.{printing, CanPrint, Appends};
 ghost use Rattle.part_texts.specs.smt_texts.Text.{smt_head_line, smt_sort_line, smt_result_text, smt_rank_line, smt_symbol_line, smt_parameter_lines, assertion, smt_goal_line};
@@ -12,7 +12,7 @@ use printed_problems::printed_terms::{
 };
 use std::alloc::{AllocError, Global};
 use tasks::SymbolInfo;
-use term_store::TermId;
+use trees::store::TermId;
 
 /// Appends the line that counts a part.
 pub(crate) fn push_head(

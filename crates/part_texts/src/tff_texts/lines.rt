@@ -1,7 +1,7 @@
 // The lines of a problem.
 ghost use Rattle.std.specs.Prelude.{◌≡◌, slice_get, All, OnOk};
 ghost use Rattle.std.specs.List.{flat_map};
-ghost use Rattle.term_store.specs.trees.Node.{tree_at, Holds};
+ghost use Rattle.trees.specs.Node.{tree_at, Holds};
 ghost use Rattle.tasks.specs.Meaning.{trees_at, symbols_at, SymbolHeld};
 ghost use Rattle.printed_problems.specs.printed_terms.Texts.{text_of_entry};
 ghost use Rattle.printed_problems.specs.printed_terms.Ranks.{sorts_at};
@@ -15,7 +15,7 @@ use printed_problems::printed_terms::{
 };
 use std::alloc::{AllocError, Global};
 use tasks::SymbolInfo;
-use term_store::TermId;
+use trees::store::TermId;
 
 /// Appends the line that counts a part.
 pub(crate) fn push_head(

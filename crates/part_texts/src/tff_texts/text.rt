@@ -14,7 +14,7 @@ use printed_problems::Problem;
 use printed_problems::printed_terms::{TermPrinter, push_preludes};
 use std::alloc::{AllocError, Global};
 use tasks::Task;
-use term_store::Store;
+use trees::store::Store;
 
 // Appends the facts and then the locals of a problem as axioms.
 fn push_premises(

@@ -1,6 +1,6 @@
 -- The texts of the members of a list.
 use Rattle.std.proofs.Common.{◌≡◌, ℕ, ◌∷◌, map, refl, ap}
-use Rattle.term_store.specs.trees.Tree.{Tree, Leaf, One, Two, Three, HTrue, HTyRigid, HNot, HTyApp, HCell, HIf}
+use Rattle.trees.specs.Tree.{Tree, Leaf, One, Two, Three, HTrue, HTyRigid, HNot, HTyApp, HCell, HIf}
 use Rattle.tasks.specs.Typing.{members}
 use Rattle.printed_problems.specs.printed_terms.Texts.{Printing, printed, term_text, printed_sort, sort_text}
 

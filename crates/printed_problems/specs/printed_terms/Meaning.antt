@@ -1,8 +1,8 @@
 -- What the calls promise that append texts.
 use Rattle.std.specs.Prelude.{◌≡◌, ℕ, ◌<◌, List, ◌++◌, All}
-use Rattle.term_store.specs.trees.declared.TermId.{TermId}
-use Rattle.term_store.specs.trees.Tree.{Tree}
-use Rattle.term_store.specs.trees.Node.{tree_at}
+use Rattle.trees.specs.declared.TermId.{TermId}
+use Rattle.trees.specs.Tree.{Tree}
+use Rattle.trees.specs.Node.{tree_at}
 use Rattle.tasks.specs.Typing.{members}
 use Rattle.tasks.specs.Meaning.{trees_at}
 use Rattle.name_tables.specs.Seen.{seen_occurrences, KeysHeld}

@@ -4,10 +4,10 @@ use Rattle.std.specs.Prelude.{ℕ, ◌==◌, ◌&&◌, Bool, List, [], ◌∷◌
 use Rattle.std.specs.List.{flat_map, position_or_len}
 use Rattle.std.specs.Option.{option_map}
 use Rattle.std.specs.Str.{bytes_eq}
-use Rattle.term_store.specs.trees.Tree.{Tree, Leaf, One, Two, Three, Head, HTyVar, HTyRigid, HTyApp, HCell}
-use Rattle.name_tables.specs.name_entries.declared.names.NameOf.{NameOf}
-use Rattle.name_tables.specs.name_entries.declared.names.NameOf.TheVariants.{Int, Rigid, Symbol}
-use Rattle.name_tables.specs.name_entries.declared.names.NameEntry.{NameEntry}
+use Rattle.trees.specs.Tree.{Tree, Leaf, One, Two, Three, Head, HTyVar, HTyRigid, HTyApp, HCell}
+use Rattle.name_tables.specs.declared.name_entries.names.NameOf.{NameOf}
+use Rattle.name_tables.specs.declared.name_entries.names.NameOf.TheVariants.{Int, Rigid, Symbol}
+use Rattle.name_tables.specs.declared.name_entries.names.NameEntry.{NameEntry}
 use Rattle.tasks.specs.Task.{SymbolTree, symbol_or}
 use Rattle.name_tables.specs.Occurrences.{Occurrence}
 use Rattle.printed_problems.specs.declared.printed_terms.ranks.Rank.{Rank}

@@ -4,8 +4,8 @@
 use Rattle.std.specs.Prelude.{ℕ, suc, ◌+◌, ◌-◌, true, false, List, [], ◌∷◌, ◌++◌, slice_get, codes, Option, Some, None}
 use Rattle.std.specs.Fmt.{decimal, signed_decimal}
 use Rattle.std.specs.List.{flat_map}
-use Rattle.term_store.specs.trees.Tree.{Tree, Leaf, One, Two, Three, Head, HTyApp, HTyRigid, HCell, HBound, HParam, HNum, HFun, HPred, HEq, HTrue, HFalse, HNot, HJoin, HForall, HExists, HLet, HIf}
-use Rattle.name_tables.specs.name_entries.declared.names.NameEntry.{NameEntry}
+use Rattle.trees.specs.Tree.{Tree, Leaf, One, Two, Three, Head, HTyApp, HTyRigid, HCell, HBound, HParam, HNum, HFun, HPred, HEq, HTrue, HFalse, HNot, HJoin, HForall, HExists, HLet, HIf}
+use Rattle.name_tables.specs.declared.name_entries.names.NameEntry.{NameEntry}
 use Rattle.drivers.specs.declared.driver_items.kinds.Piece.{Piece}
 use Rattle.drivers.specs.declared.driver_parts.driver.Driver.{Driver}
 use Rattle.drivers.specs.declared.driver_items.kinds.Syntax.{Syntax}

@@ -1,7 +1,7 @@
 -- The words of two syntaxes: SMT-LIB 2.6 (section 3.6 and the theory Core) and TPTP's typed first-order form, TFF0. Both
 -- conjunctions are one word, and both disjunctions.
 use Rattle.std.specs.Prelude.{ℕ, Bool, true, false, List, [], codes}
-use Rattle.term_store.specs.trees.declared.Op.TheVariants.{And, AndThen, Or, OrElse, Imp, Iff}
+use Rattle.trees.specs.declared.Op.TheVariants.{And, AndThen, Or, OrElse, Imp, Iff}
 use Rattle.drivers.specs.declared.driver_items.kinds.Syntax.{Syntax}
 use Rattle.drivers.specs.declared.driver_items.kinds.Syntax.TheVariants.{Smt, Tff}
 use Rattle.printed_problems.specs.declared.printed_terms.words.Form.{Form}

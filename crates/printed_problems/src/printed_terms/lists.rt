@@ -1,13 +1,13 @@
 // The members of lists in a store.
 ghost use Rattle.std.specs.Prelude.{◌≡◌, ◌<◌, ◌≤◌, ◌++◌, All, IfOk, OnOk};
-ghost use Rattle.term_store.specs.trees.declared.TermId.{TermId};
-ghost use Rattle.term_store.specs.trees.Node.{tree_at, Holds};
+ghost use Rattle.trees.specs.declared.TermId.{TermId};
+ghost use Rattle.trees.specs.Node.{tree_at, Holds};
 ghost use Rattle.tasks.specs.Typing.{members};
 ghost use Rattle.tasks.specs.Meaning.{trees_at};
 ghost use Rattle.printed_problems.specs.printed_terms.Meaning.{AreListMembers};
 
 use std::alloc::{AllocError, Global};
-use term_store::{Node, Store, TermId};
+use trees::store::{Node, Store, TermId};
 
 // Appends the members of a list.
 fn push_members(

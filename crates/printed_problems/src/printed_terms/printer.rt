@@ -1,7 +1,7 @@
 // What a text is made with: a store, a driver, and a table of names.
 ghost use Rattle.std.specs.Prelude.{◌≡◌, ◌∷◌, [], ◌==◌, OnOk, None, Some, MatchOption};
 ghost use Rattle.std.specs.Fmt.{decimal};
-ghost use Rattle.term_store.specs.trees.Node.{tree_at, Holds};
+ghost use Rattle.trees.specs.Node.{tree_at, Holds};
 ghost use Rattle.name_tables.specs.Occurrences.{occurrence};
 ghost use Rattle.printed_problems.specs.printed_terms.Texts.{name_at, printed_name, variable_text, parameter};
 ghost use Rattle.printed_problems.specs.printed_terms.Meaning.{printing, CanPrint, Appends};
@@ -13,7 +13,7 @@ use drivers::driver_parts::Driver;
 use name_tables::{NameEntry, Things};
 use std::alloc::{AllocError, Global};
 use tasks::Seq;
-use term_store::{Store, TermId};
+use trees::store::{Store, TermId};
 
 /// What types, terms and formulas are printed with: the store that has them, the driver with its templates, what is in the
 /// table of names, and the names.

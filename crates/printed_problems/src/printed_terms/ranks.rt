@@ -2,7 +2,7 @@
 ghost use Rattle.std.specs.Prelude.{◌≡◌, ◌∷◌, ◌++◌, [], length, get_or, All, IfSome, IfOk, OnOk};
 ghost use Rattle.std.specs.Option.{option_map};
 ghost use Rattle.std.specs.List.{flat_map};
-ghost use Rattle.term_store.specs.trees.Node.{tree_at, Holds};
+ghost use Rattle.trees.specs.Node.{tree_at, Holds};
 ghost use Rattle.tasks.specs.Meaning.{trees_at, symbols_at, SymbolHeld};
 ghost use Rattle.printed_problems.specs.printed_terms.Texts.{each_behind, joined};
 ghost use Rattle.printed_problems.specs.printed_terms.Ranks.{entry_number, is_for, place_for, type_places, rank_by, rank_of, sorts_at};
@@ -13,7 +13,7 @@ use crate::printed_terms::sorts::push_sort_at;
 use name_tables::{NameEntry, NameOf};
 use std::alloc::{AllocError, Global};
 use tasks::{Seq, SymbolInfo};
-use term_store::{Node, Store, TermId};
+use trees::store::{Node, Store, TermId};
 
 /// The places of the types of a symbol's arguments, and that of its result's, which a predicate has none of.
 #[derive(Drop)]

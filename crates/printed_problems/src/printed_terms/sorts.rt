@@ -1,7 +1,7 @@
 // Types as text.
 ghost use Rattle.std.specs.Prelude.{◌<◌, map, All, OnOk, Some};
-ghost use Rattle.term_store.specs.trees.declared.TermId.{TermId};
-ghost use Rattle.term_store.specs.trees.Node.{tree_at, Holds};
+ghost use Rattle.trees.specs.declared.TermId.{TermId};
+ghost use Rattle.trees.specs.Node.{tree_at, Holds};
 ghost use Rattle.tasks.specs.Meaning.{trees_at};
 ghost use Rattle.name_tables.specs.Seen.{occurrence_at, KeyHeld};
 ghost use Rattle.printed_problems.specs.Templates.{by_pieces};
@@ -13,7 +13,7 @@ use crate::printed_terms::lists::members;
 use crate::printed_terms::printer::{TermPrinter, push_name_at, template_in};
 use drivers::driver_items::Piece;
 use std::alloc::AllocError;
-use term_store::{Node, TermId};
+use trees::store::{Node, TermId};
 
 /// Appends the sort of a type.
 #[cycle(sorts)]

@@ -1,7 +1,7 @@
 // Terms and formulas as text.
 ghost use Rattle.std.specs.Prelude.{◌≡◌, ◌∷◌, [], ◌+◌, ◌<◌, ◌≤◌, map, All, OnOk};
-ghost use Rattle.term_store.specs.trees.declared.TermId.{TermId};
-ghost use Rattle.term_store.specs.trees.Node.{tree_at, Holds};
+ghost use Rattle.trees.specs.declared.TermId.{TermId};
+ghost use Rattle.trees.specs.Node.{tree_at, Holds};
 ghost use Rattle.tasks.specs.Meaning.{trees_at};
 ghost use Rattle.name_tables.specs.Occurrences.{occurrence};
 ghost use Rattle.printed_problems.specs.Templates.{by_pieces};
@@ -20,7 +20,7 @@ use crate::printed_terms::words::{
 };
 use drivers::driver_items::{Piece, syntax_of};
 use std::alloc::AllocError;
-use term_store::{Node, TermId};
+use trees::store::{Node, TermId};
 
 // Appends a term or formula under so many binders.
 #[cycle(terms)]

@@ -5,7 +5,7 @@ ghost use Rattle.printed_problems.specs.declared.printed_terms.words.Form.TheVar
 ghost use Rattle.printed_problems.specs.printed_terms.Words.{truth_text, opening, part_separator, binder_opening, before_bound, before_body, variable_letter, before_name, after_name, between_arguments};
 
 use drivers::driver_items::Syntax;
-use term_store::Op;
+use trees::store::Op;
 
 /// A form with parts in it.
 #[derive(Clone, Copy)]

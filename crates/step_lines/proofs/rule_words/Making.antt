@@ -1,8 +1,8 @@
 -- What is made of the first arguments of a list.
 use Rattle.std.proofs.Common.{◌≡◌, ℕ, ℤ, ◌+◌, ◌<◌, ◌≤◌, List, [], ◌∷◌, ◌++◌, length, get_or, drop, Option, Some, None, refl, sym, arith}
 use Rattle.std.proofs.lemmas.List.{drop_more}
-use Rattle.term_store.specs.trees.Tree.{Tree}
-use Rattle.rule_rows.specs.Trees.{RuleTree}
+use Rattle.trees.specs.Tree.{Tree}
+use Rattle.rules.specs.Trees.{RuleTree}
 use Rattle.step_lines.specs.declared.rule_words.argument.Argument.{Argument}
 use Rattle.step_lines.specs.rule_words.Arguments.{ArgumentTree, argument_at, arguments_at, number_in, integer_in}
 use Rattle.step_lines.specs.rule_words.Forms.{two_arguments, each_from, pairs_from}

@@ -1,19 +1,19 @@
 -- Arguments of lists are read back as those lists.
 use Rattle.std.proofs.Common.{◌≡◌, ℕ, ℤ, true, List, [], ◌∷◌, ◌++◌, map, Some, None, refl, sym, ap, ◌∙◌, append_assoc, append-nil, All, suc, arith}
 use Rattle.std.specs.Option.{option_map}
-use Rattle.term_store.specs.trees.Tree.{Tree}
-use Rattle.term_store.specs.trees.Node.{tree_at, Holds}
-use Rattle.term_store.specs.trees.declared.TermId.{TermId}
+use Rattle.trees.specs.Tree.{Tree}
+use Rattle.trees.specs.Node.{tree_at, Holds}
+use Rattle.trees.specs.declared.TermId.{TermId}
 use Rattle.tasks.specs.Meaning.{trees_at}
 use Rattle.step_lines.specs.declared.rule_words.argument.Argument.{Argument}
 use Rattle.step_lines.specs.declared.rule_words.argument.Argument.TheVariants as made
 use Rattle.step_lines.specs.declared.rule_words.argument.ArgumentKind.TheVariants as kind
 use Rattle.step_lines.specs.rule_words.Arguments.{argument_at, arguments_at, ArgumentHeld, ArgumentsHeld, number_in, symbol_in, integer_in, expression_in, type_in, have_kinds}
 use Rattle.step_lines.specs.rule_words.Forms.{each_argument, each_from, argument_pairs, pairs_from}
-use Rattle.rule_rows.specs.declared.rule.Rule.{Rule}
-use Rattle.rule_rows.specs.declared.rule.Rule.TheVariants.{False, NotTrue, Clash, Irrefl, Distinct, Linear, NotNot, And, NotAnd, AndThen, NotAndThen, Or, NotOr, OrElse, NotOrElse, Imp, NotImp, Iff, NotIff, Forall, NotForall, Exists, NotExists, Cut, Keep, Refl, Replace, LetDef, IfDef, MatchDef, Fact, Def, Clause, Inv, Case, Inject, Project, Trichotomy, Bound}
-use Rattle.rule_rows.specs.Trees.{RuleTree, RKeep, RLinear, RFact, RDef, RClause, RInv}
-use Rattle.rule_rows.specs.Meaning.{rule_at, RuleHeld}
+use Rattle.rules.specs.declared.rule.Rule.{Rule}
+use Rattle.rules.specs.declared.rule.Rule.TheVariants.{False, NotTrue, Clash, Irrefl, Distinct, Linear, NotNot, And, NotAnd, AndThen, NotAndThen, Or, NotOr, OrElse, NotOrElse, Imp, NotImp, Iff, NotIff, Forall, NotForall, Exists, NotExists, Cut, Keep, Refl, Replace, LetDef, IfDef, MatchDef, Fact, Def, Clause, Inv, Case, Inject, Project, Trichotomy, Bound}
+use Rattle.rules.specs.Trees.{RuleTree, RKeep, RLinear, RFact, RDef, RClause, RInv}
+use Rattle.rules.specs.Meaning.{rule_at, RuleHeld}
 use Rattle.step_lines.specs.rule_words.Forms.{argument_kinds, one_then_types, two_then_types}
 use Rattle.step_lines.specs.rule_words.Rules.{rule_row, rule_from}
 use Rattle.step_lines.specs.rule_words.Written.{arguments_of_pairs, name_and_arguments}

@@ -2,20 +2,20 @@
 use Rattle.std.proofs.Common.{◌≡◌, ℕ, ◌-◌, min, List, length, take, drop, All, Option, Some, None, slice_get, refl, sym, ap, subst, ◌∙◌}
 use Rattle.std.specs.Option.{option_map, option_and_then}
 use Rattle.std.specs.Borrow.{Bor}
-use Rattle.term_store.specs.trees.declared.TermId.{TermId}
-use Rattle.term_store.specs.trees.declared.Node.TheVariants as node
-use Rattle.term_store.specs.trees.declared.Sort.TheVariants.{Kind}
-use Rattle.term_store.specs.trees.Tree.{Tree, Two, HPred}
-use Rattle.term_store.specs.trees.Node.{tree_at, node_tree, Holds, Grows}
-use Rattle.term_store.specs.trees.Sorts.{WellSorted}
-use Rattle.term_store.specs.trees.Binding.{inst_types}
-use Rattle.term_store.proofs.trees.Nodes.{Grows_trans}
-use Rattle.binders.specs.Visits.{HoldTypes, trees_stay}
+use Rattle.trees.specs.declared.TermId.{TermId}
+use Rattle.trees.specs.declared.Node.TheVariants as node
+use Rattle.trees.specs.declared.Sort.TheVariants.{Kind}
+use Rattle.trees.specs.Tree.{Tree, Two, HPred}
+use Rattle.trees.specs.Node.{tree_at, node_tree, Holds, Grows}
+use Rattle.trees.specs.Sorts.{WellSorted}
+use Rattle.trees.specs.Binding.{inst_types}
+use Rattle.trees.proofs.Nodes.{Grows_trans}
+use Rattle.trees.specs.binders.Visits.{HoldTypes, trees_stay}
 use Rattle.tasks.specs.Task.{TaskTree, SymbolTree}
 use Rattle.tasks.specs.Meaning.{trees_at}
 use Rattle.tasks.proofs.Growth.{held_later, tree_later, all_held_later, trees_later}
-use Rattle.name_entries.specs.declared.names.NameOf.TheVariants.{Symbol}
-use Rattle.name_entries.specs.declared.names.NameEntry.{NameEntry}
+use Rattle.name_tables.specs.declared.name_entries.names.NameOf.TheVariants.{Symbol}
+use Rattle.name_tables.specs.declared.name_entries.names.NameEntry.{NameEntry}
 use Rattle.step_lines.specs.tree_lines.Words.{LineWord, texts, each}
 use Rattle.step_lines.specs.tree_lines.Named.{NameMeaning, cells}
 use Rattle.step_lines.specs.tree_lines.Lines.{Earlier, SymbolUse, use_by, meaning_types, use_of, named_use, symbol_number}

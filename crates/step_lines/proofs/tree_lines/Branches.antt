@@ -3,14 +3,14 @@ use Rattle.std.proofs.Common.{◌≡◌, ◌≤◌, List, [], ◌∷◌, length,
 use Rattle.std.specs.Borrow.{Bor}
 use Rattle.std.specs.Option.{option_map, option_and_then}
 use Rattle.std.proofs.lemmas.List.Elements.{All-cons, All-nil}
-use Rattle.term_store.specs.trees.declared.TermId.{TermId}
-use Rattle.term_store.specs.trees.declared.Node.TheVariants as node
-use Rattle.term_store.specs.trees.Tree.{Tree, Two, HCase, HCell}
-use Rattle.term_store.specs.trees.Node.{tree_at, node_tree, Holds, Grows}
-use Rattle.term_store.specs.trees.Sorts.{WellSorted}
+use Rattle.trees.specs.declared.TermId.{TermId}
+use Rattle.trees.specs.declared.Node.TheVariants as node
+use Rattle.trees.specs.Tree.{Tree, Two, HCase, HCell}
+use Rattle.trees.specs.Node.{tree_at, node_tree, Holds, Grows}
+use Rattle.trees.specs.Sorts.{WellSorted}
 use Rattle.tasks.specs.Task.{TaskTree}
 use Rattle.tasks.specs.Meaning.{trees_at}
-use Rattle.name_entries.specs.declared.names.NameEntry.{NameEntry}
+use Rattle.name_tables.specs.declared.name_entries.names.NameEntry.{NameEntry}
 use Rattle.tasks.proofs.Growth.{tree_later}
 use Rattle.step_lines.specs.tree_lines.Words.{LineWord, texts, at_number, pairs}
 use Rattle.step_lines.specs.tree_lines.Named.{cells}

@@ -2,7 +2,7 @@
 use Rattle.std.proofs.Common.{◌≡◌, ℕ, ◌+◌, ◌*◌, ◌-◌, ◌<◌, ◌≤◌, Bool, true, false, ◌&&◌, nat_le, nat_lt, if◌then◌else◌, List, length, get_or, drop, Option, None, sym, ap, subst, ◌∙◌, arith}
 use Rattle.std.proofs.lemmas.Bool.Decides.{nat_tests}
 use Rattle.std.proofs.lemmas.List.{drop_more}
-use Rattle.integer_words.specs.Integers.{number_from}
+use Rattle.word_tables.specs.integers.Integers.{number_from}
 
 abbrev pub goes_on : ℕ → ℕ → ℕ → Bool
 goes_on bound n c = (nat_le 48 c && nat_le c 57) && nat_lt (n * 10 + (c - 48)) bound

@@ -2,13 +2,13 @@
 use Rattle.std.proofs.Common.{◌≡◌, ℕ, zero, suc, ◌+◌, ◌-◌, ◌<◌, List, [], ◌∷◌, ◌++◌, length, get_or, drop, IfSome, Option, Some, None, slice_get, refl, sym, ap, subst, ◌∙◌, arith}
 use Rattle.std.specs.Option.{option_map, option_and_then}
 use Rattle.std.proofs.lemmas.List.{map-append}
-use Rattle.term_store.specs.trees.declared.TermId.{TermId}
-use Rattle.term_store.specs.trees.declared.Sort.TheVariants.{Kind}
-use Rattle.term_store.specs.trees.Tree.{Tree}
-use Rattle.term_store.specs.trees.Node.{tree_at, Grows}
-use Rattle.binders.specs.Visits.{HoldTypes, typing_stays_ready, trees_stay}
+use Rattle.trees.specs.declared.TermId.{TermId}
+use Rattle.trees.specs.declared.Sort.TheVariants.{Kind}
+use Rattle.trees.specs.Tree.{Tree}
+use Rattle.trees.specs.Node.{tree_at, Grows}
+use Rattle.trees.specs.binders.Visits.{HoldTypes, typing_stays_ready, trees_stay}
 use Rattle.tasks.specs.Meaning.{trees_at}
-use Rattle.name_entries.specs.declared.names.NameEntry.{NameEntry}
+use Rattle.name_tables.specs.declared.name_entries.names.NameEntry.{NameEntry}
 use Rattle.step_lines.specs.tree_lines.Words.{each}
 use Rattle.step_lines.specs.tree_lines.Named.{named_type_at, entry_type}
 use Rattle.step_lines.specs.tree_lines.Made.{IsTypeHeld}

@@ -1,14 +1,14 @@
 -- Lists of types and of trees as a store grows by them.
 use Rattle.std.proofs.Common.{◌≡◌, inr, ℕ, zero, suc, ◌+◌, ◌-◌, ◌<◌, ◌≤◌, List, [], ◌∷◌, ◌++◌, length, map, get_or, drop, All, Option, Some, None, refl, sym, ap, subst, ◌∙◌, arith}
 use Rattle.std.proofs.lemmas.List.{drop_more}
-use Rattle.term_store.specs.trees.declared.TermId.{TermId}
-use Rattle.term_store.specs.trees.declared.Node.TheVariants as node
-use Rattle.term_store.specs.trees.declared.Sort.{Sort}
-use Rattle.term_store.specs.trees.declared.Sort.TheVariants as sort
-use Rattle.term_store.specs.trees.Tree.{Tree, Two, HCell, HArm}
-use Rattle.term_store.specs.trees.Node.{tree_at, node_tree, Holds, Grows}
-use Rattle.term_store.specs.trees.Sorts.{Fits, TwoFits, WellSorted, IsList, sort_of, first_sort}
-use Rattle.binders.specs.Visits.{HoldTypes}
+use Rattle.trees.specs.declared.TermId.{TermId}
+use Rattle.trees.specs.declared.Node.TheVariants as node
+use Rattle.trees.specs.declared.Sort.{Sort}
+use Rattle.trees.specs.declared.Sort.TheVariants as sort
+use Rattle.trees.specs.Tree.{Tree, Two, HCell, HArm}
+use Rattle.trees.specs.Node.{tree_at, node_tree, Holds, Grows}
+use Rattle.trees.specs.Sorts.{Fits, TwoFits, WellSorted, IsList, sort_of, first_sort}
+use Rattle.trees.specs.binders.Visits.{HoldTypes}
 use Rattle.tasks.specs.Meaning.{trees_at}
 use Rattle.tasks.proofs.Growth.{held_later, tree_later}
 use Rattle.step_lines.specs.tree_lines.Named.{cells}

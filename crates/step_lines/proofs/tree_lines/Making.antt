@@ -5,15 +5,15 @@ use Rattle.std.specs.Borrow.{Bor}
 use Rattle.std.proofs.lemmas.List.{map-append, take-map, drop-map, take_min, drop_min, take_all, length-drop}
 use Rattle.std.proofs.lemmas.List.Elements.{All-cons, All-nil}
 use Rattle.std.proofs.lemmas.Option.{slice_get-map}
-use Rattle.term_store.specs.trees.declared.TermId.{TermId}
-use Rattle.term_store.specs.trees.Tree.{Tree}
-use Rattle.term_store.specs.trees.Node.{tree_at, Holds, Grows}
-use Rattle.binders.specs.Visits.{HoldTypes, typing_stays_ready, trees_stay}
-use Rattle.term_store.specs.trees.declared.Sort.TheVariants.{Kind}
+use Rattle.trees.specs.declared.TermId.{TermId}
+use Rattle.trees.specs.Tree.{Tree}
+use Rattle.trees.specs.Node.{tree_at, Holds, Grows}
+use Rattle.trees.specs.binders.Visits.{HoldTypes, typing_stays_ready, trees_stay}
+use Rattle.trees.specs.declared.Sort.TheVariants.{Kind}
 use Rattle.tasks.specs.Task.{TaskTree}
 use Rattle.tasks.specs.Meaning.{trees_at, task_at}
 use Rattle.tasks.proofs.Growth.{all_held_later, trees_later, task_held_later, task_later}
-use Rattle.name_entries.specs.declared.names.NameEntry.{NameEntry}
+use Rattle.name_tables.specs.declared.name_entries.names.NameEntry.{NameEntry}
 use Rattle.step_lines.specs.declared.tree_lines.known.EarlierLines.{EarlierLines}
 use Rattle.step_lines.specs.tree_lines.Words.{LineWord, texts, number, at_number, each}
 use Rattle.step_lines.specs.tree_lines.Named.{NameMeaning, meaning, named_type_at}

@@ -1,9 +1,9 @@
 -- What the words that a `match` doesn't name make.
 use Rattle.std.proofs.Common.{◌≡◌, ℕ, ◌<◌, ◌≤◌, List, [], ◌∷◌, length, Option, None, refl, arith}
 use Rattle.std.specs.Borrow.{Bor}
-use Rattle.term_store.specs.trees.Tree.{Tree, One, Two, HEq, HNot, HParam}
+use Rattle.trees.specs.Tree.{Tree, One, Two, HEq, HNot, HParam}
 use Rattle.tasks.specs.Task.{TaskTree}
-use Rattle.name_entries.specs.declared.names.NameEntry.{NameEntry}
+use Rattle.name_tables.specs.declared.name_entries.names.NameEntry.{NameEntry}
 use Rattle.step_lines.specs.declared.tree_lines.kinds.NodeWord.{NodeWord}
 use Rattle.step_lines.specs.declared.tree_lines.kinds.NodeWord.TheVariants as word
 use Rattle.step_lines.specs.tree_lines.Words.{LineWord, texts, at_number, one, two, three}

@@ -1,9 +1,9 @@
 -- What is well sorted, and what a store refuses.
 use Rattle.std.proofs.Common.{◌≡◌, ◌↔◌, Bool, true, false, IsTrue, List, length, Some, sym, subst}
-use Rattle.term_store.specs.trees.declared.Node.{Node}
-use Rattle.term_store.specs.trees.Tree.{Tree, Leaf, One, Two, Three}
-use Rattle.term_store.specs.trees.Node.{node_tree, parts_of, AreBelow}
-use Rattle.term_store.specs.trees.Sorts.{Fits, WellSorted}
+use Rattle.trees.specs.declared.Node.{Node}
+use Rattle.trees.specs.Tree.{Tree, Leaf, One, Two, Three}
+use Rattle.trees.specs.Node.{node_tree, parts_of, AreBelow}
+use Rattle.trees.specs.Sorts.{Fits, WellSorted}
 
 -- a tree of which each part fits does so at its top
 pub fits_whole : (e : Tree) → WellSorted e → Fits e

@@ -1,7 +1,7 @@
 -- The arguments of a rule, in trees, and their kinds.
 use Rattle.std.specs.Prelude.{ℕ, ℤ, Bool, true, false, ◌&&◌, List, [], ◌∷◌, map, Option, Some, None}
-use Rattle.term_store.specs.trees.Tree.{Tree}
-use Rattle.term_store.specs.trees.Node.{tree_at, Holds}
+use Rattle.trees.specs.Tree.{Tree}
+use Rattle.trees.specs.Node.{tree_at, Holds}
 use Rattle.step_lines.specs.declared.rule_words.argument.Argument.{Argument}
 use Rattle.step_lines.specs.declared.rule_words.argument.Argument.TheVariants as made
 use Rattle.step_lines.specs.declared.rule_words.argument.ArgumentKind.{ArgumentKind}

@@ -1,8 +1,8 @@
 -- The forms of rules: which arguments a rule has, and the rule that they make.
 use Rattle.std.specs.Prelude.{ℕ, ℤ, List, [], ◌∷◌, ◌++◌, Option, Some, None}
 use Rattle.std.specs.Option.{option_and_then, option_map}
-use Rattle.term_store.specs.trees.Tree.{Tree}
-use Rattle.rule_rows.specs.Trees.{RuleTree}
+use Rattle.trees.specs.Tree.{Tree}
+use Rattle.rules.specs.Trees.{RuleTree}
 use Rattle.step_lines.specs.declared.rule_words.argument.ArgumentKind.{ArgumentKind}
 use Rattle.step_lines.specs.declared.rule_words.argument.ArgumentKind.TheVariants as kind
 use Rattle.step_lines.specs.rule_words.Arguments.{ArgumentTree, number_in, symbol_in, integer_in, expression_in, type_in}

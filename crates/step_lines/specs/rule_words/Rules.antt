@@ -2,7 +2,7 @@
 use Rattle.std.specs.Prelude.{ℕ, List, [], ◌∷◌, map, Option, codes, slice_get}
 use Rattle.std.specs.Option.{option_and_then}
 use Rattle.word_tables.specs.Words.{place_in_words}
-use Rattle.rule_rows.specs.Trees.{RuleTree, RAnd, RAndThen, RBound, RCase, RClash, RClause, RCut, RDef, RDistinct, RExists, RFact, RFalse, RForall, RIfDef, RIff, RImp, RInject, RInv, RIrrefl, RKeep, RLetDef, RLinear, RMatchDef, RNotAnd, RNotAndThen, RNotExists, RNotForall, RNotIff, RNotImp, RNotNot, RNotOr, RNotOrElse, RNotTrue, ROr, ROrElse, RProject, RRefl, RReplace, RTrichotomy}
+use Rattle.rules.specs.Trees.{RuleTree, RAnd, RAndThen, RBound, RCase, RClash, RClause, RCut, RDef, RDistinct, RExists, RFact, RFalse, RForall, RIfDef, RIff, RImp, RInject, RInv, RIrrefl, RKeep, RLetDef, RLinear, RMatchDef, RNotAnd, RNotAndThen, RNotExists, RNotForall, RNotIff, RNotImp, RNotNot, RNotOr, RNotOrElse, RNotTrue, ROr, ROrElse, RProject, RRefl, RReplace, RTrichotomy}
 use Rattle.step_lines.specs.declared.rule_words.name.RuleName.{RuleName}
 use Rattle.step_lines.specs.declared.rule_words.name.RuleName.TheVariants as name
 use Rattle.step_lines.specs.rule_words.Arguments.{ArgumentTree}

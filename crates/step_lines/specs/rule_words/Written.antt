@@ -1,7 +1,7 @@
 -- What a rule is written as: its name and its arguments.
 use Rattle.std.specs.Prelude.{ℕ, ℤ, List, [], ◌∷◌, map}
-use Rattle.rule_rows.specs.declared.rule.Rule.{Rule}
-use Rattle.rule_rows.specs.declared.rule.Rule.TheVariants.{False, NotTrue, Clash, Irrefl, Distinct, Linear, NotNot, And, NotAnd, AndThen, NotAndThen, Or, NotOr, OrElse, NotOrElse, Imp, NotImp, Iff, NotIff, Forall, NotForall, Exists, NotExists, Cut, Keep, Refl, Replace, LetDef, IfDef, MatchDef, Fact, Def, Clause, Inv, Case, Inject, Project, Trichotomy, Bound}
+use Rattle.rules.specs.declared.rule.Rule.{Rule}
+use Rattle.rules.specs.declared.rule.Rule.TheVariants.{False, NotTrue, Clash, Irrefl, Distinct, Linear, NotNot, And, NotAnd, AndThen, NotAndThen, Or, NotOr, OrElse, NotOrElse, Imp, NotImp, Iff, NotIff, Forall, NotForall, Exists, NotExists, Cut, Keep, Refl, Replace, LetDef, IfDef, MatchDef, Fact, Def, Clause, Inv, Case, Inject, Project, Trichotomy, Bound}
 use Rattle.step_lines.specs.declared.rule_words.argument.Argument.{Argument}
 use Rattle.step_lines.specs.declared.rule_words.argument.Argument.TheVariants as made
 use Rattle.step_lines.specs.declared.rule_words.name.RuleName.{RuleName}

@@ -1,16 +1,16 @@
 -- What the lines of types, of patterns, and of terms and formulas make.
 use Rattle.std.specs.Prelude.{ℕ, ◌-◌, List, [], ◌∷◌, ◌++◌, length, take, drop, map, Option, Some, None, slice_get, codes}
 use Rattle.std.specs.Option.{option_and_then, option_map}
-use Rattle.term_store.specs.trees.Tree.{Tree, Leaf, One, Two, Three, HBound, HParam, HNum, HFun, HPred, HEq, HTrue, HFalse, HNot, HJoin, HForall, HExists, HLet, HIf, HCase, HArm, HPatAny, HPatVar, HPatCon, HPatAlias}
-use Rattle.term_store.specs.trees.declared.Op.TheVariants as op
-use Rattle.term_store.specs.trees.Binding.{inst_types}
+use Rattle.trees.specs.Tree.{Tree, Leaf, One, Two, Three, HBound, HParam, HNum, HFun, HPred, HEq, HTrue, HFalse, HNot, HJoin, HForall, HExists, HLet, HIf, HCase, HArm, HPatAny, HPatVar, HPatCon, HPatAlias}
+use Rattle.trees.specs.declared.Op.TheVariants as op
+use Rattle.trees.specs.Binding.{inst_types}
 use Rattle.tasks.specs.declared.signature.SymbolKind.{SymbolKind}
 use Rattle.tasks.specs.declared.signature.SymbolKind.TheVariants.{Kind, Function, Predicate, Constructor, Projection}
 use Rattle.tasks.specs.Task.{TaskTree, SymbolTree}
-use Rattle.name_entries.specs.declared.names.NameOf.{NameOf}
-use Rattle.name_entries.specs.declared.names.NameOf.TheVariants.{Int, Rigid, Symbol}
-use Rattle.name_entries.specs.declared.names.NameEntry.{NameEntry}
-use Rattle.integer_words.specs.Integers.{integer}
+use Rattle.name_tables.specs.declared.name_entries.names.NameOf.{NameOf}
+use Rattle.name_tables.specs.declared.name_entries.names.NameOf.TheVariants.{Int, Rigid, Symbol}
+use Rattle.name_tables.specs.declared.name_entries.names.NameEntry.{NameEntry}
+use Rattle.word_tables.specs.integers.Integers.{integer}
 use Rattle.word_tables.specs.Words.{place_in_words}
 use Rattle.step_lines.specs.declared.tree_lines.kinds.NodeWord.{NodeWord}
 use Rattle.step_lines.specs.declared.tree_lines.kinds.NodeWord.TheVariants as word

@@ -3,14 +3,14 @@ use Rattle.std.specs.Prelude.{◌≡◌, ℕ, List, map, Option, Some, None, All
 use Rattle.std.specs.Option.{option_and_then}
 use Rattle.std.specs.HashMap.{get_by}
 use Rattle.std.specs.Str.{bytes_eq}
-use Rattle.term_store.specs.trees.declared.TermId.{TermId}
-use Rattle.term_store.specs.trees.declared.Sort.TheVariants.{Kind}
-use Rattle.term_store.specs.trees.Tree.{Tree, Two, HArm}
-use Rattle.term_store.specs.trees.Node.{tree_at, Holds}
-use Rattle.term_store.specs.trees.Sorts.{WellSorted, sort_of}
-use Rattle.binders.specs.Visits.{HoldTypes}
+use Rattle.trees.specs.declared.TermId.{TermId}
+use Rattle.trees.specs.declared.Sort.TheVariants.{Kind}
+use Rattle.trees.specs.Tree.{Tree, Two, HArm}
+use Rattle.trees.specs.Node.{tree_at, Holds}
+use Rattle.trees.specs.Sorts.{WellSorted, sort_of}
+use Rattle.trees.specs.binders.Visits.{HoldTypes}
 use Rattle.tasks.specs.Meaning.{trees_at, symbol_at, TaskHeld}
-use Rattle.name_entries.specs.declared.names.NameEntry.{NameEntry}
+use Rattle.name_tables.specs.declared.name_entries.names.NameEntry.{NameEntry}
 use Rattle.step_lines.specs.declared.tree_lines.names.TableNames.{TableNames}
 use Rattle.step_lines.specs.declared.tree_lines.names.Named.{Named}
 use Rattle.step_lines.specs.declared.tree_lines.known.EarlierLines.{EarlierLines}

@@ -2,7 +2,7 @@
 use Rattle.std.specs.Prelude.{ℕ, List, [], ◌∷◌, map, Option, Some, None, slice_get}
 use Rattle.std.specs.Option.{option_and_then, option_map}
 use Rattle.std.specs.Borrow.{Bor}
-use Rattle.integer_words.specs.Integers.{number_below}
+use Rattle.word_tables.specs.integers.Integers.{number_below}
 pub use Rattle.word_tables.specs.Words.{texts}
 
 abbrev pub LineWord : Type 0

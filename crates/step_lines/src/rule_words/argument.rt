@@ -2,11 +2,11 @@
 // They depend on the terms' numbers; the rules of a word and arguments depend on them.
 ghost use Rattle.std.specs.Prelude.{◌≡◌, List, IfSome};
 ghost use Rattle.std.specs.Option.{option_map};
-ghost use Rattle.term_store.specs.trees.Tree.{Tree};
-ghost use Rattle.term_store.specs.trees.Node.{tree_at, Holds};
+ghost use Rattle.trees.specs.Tree.{Tree};
+ghost use Rattle.trees.specs.Node.{tree_at, Holds};
 ghost use Rattle.step_lines.specs.rule_words.Arguments.{argument_at, ArgumentHeld, number_in, symbol_in, integer_in, expression_in, type_in};
 
-use term_store::TermId;
+use trees::store::TermId;
 
 /// An argument of a rule.
 #[derive(Clone, Copy)]

@@ -2,14 +2,14 @@
 // They depend on arguments; the rules of words depend on them.
 ghost use Rattle.std.specs.Prelude.{◌≡◌, ℕ, ℤ, List, All, IfSome};
 ghost use Rattle.std.specs.Option.{option_map};
-ghost use Rattle.term_store.specs.trees.Tree.{Tree};
-ghost use Rattle.term_store.specs.trees.Node.{tree_at, Holds};
-ghost use Rattle.rule_rows.specs.Trees.{RuleTree};
+ghost use Rattle.trees.specs.Tree.{Tree};
+ghost use Rattle.trees.specs.Node.{tree_at, Holds};
+ghost use Rattle.rules.specs.Trees.{RuleTree};
 ghost use Rattle.step_lines.specs.rule_words.Arguments.{arguments_at, ArgumentHeld, expression_in, integer_in, number_in};
 ghost use Rattle.step_lines.specs.rule_words.Forms.{one_argument, two_arguments, three_arguments};
 
 use crate::rule_words::argument::{Argument, expression, integer, number};
-use term_store::{Store, TermId};
+use trees::store::{Store, TermId};
 
 pub(crate) fn one_number(store: &Store, args: &[Argument]) -> Option<usize>
     ensures { (f : ℕ → RuleTree) → option_map f result

@@ -2,10 +2,10 @@
 // They depend on arguments; the rules of words depend on them.
 ghost use Rattle.std.specs.Prelude.{◌≡◌, ◌++◌, ℕ, ℤ, List, map, All, IfSome, IfOk};
 ghost use Rattle.std.specs.Option.{option_map};
-ghost use Rattle.term_store.specs.trees.Tree.{Tree};
-ghost use Rattle.term_store.specs.trees.Node.{Holds};
+ghost use Rattle.trees.specs.Tree.{Tree};
+ghost use Rattle.trees.specs.Node.{Holds};
 ghost use Rattle.tasks.specs.Meaning.{trees_at};
-ghost use Rattle.rule_rows.specs.Trees.{RuleTree};
+ghost use Rattle.rules.specs.Trees.{RuleTree};
 ghost use Rattle.step_lines.specs.rule_words.Arguments.{arguments_at, ArgumentHeld, number_in, symbol_in, type_in};
 ghost use Rattle.step_lines.specs.rule_words.Forms.{each_argument, argument_pairs, one_then_types, two_then_types};
 ghost use Rattle.step_lines.specs.rule_words.Written.{arguments_of_pairs};
@@ -13,7 +13,7 @@ ghost use Rattle.step_lines.specs.rule_words.Written.{arguments_of_pairs};
 use crate::rule_words::argument::{Argument, integer, number, symbol, ty};
 use std::alloc::{AllocError, Global};
 use tasks::Seq;
-use term_store::{Store, TermId};
+use trees::store::{Store, TermId};
 
 pub(crate) fn any_numbers(
     alloc: Global,

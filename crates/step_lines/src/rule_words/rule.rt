@@ -2,8 +2,8 @@
 // They depend on the table and the forms of rules.
 ghost use Rattle.std.specs.Prelude.{◌≡◌, Some, List, slice_get, All, IsTrue, IfOk, IfSome};
 ghost use Rattle.std.specs.Option.{option_map};
-ghost use Rattle.term_store.specs.trees.Tree.{Tree};
-ghost use Rattle.rule_rows.specs.Meaning.{rule_at, RuleHeld};
+ghost use Rattle.trees.specs.Tree.{Tree};
+ghost use Rattle.rules.specs.Meaning.{rule_at, RuleHeld};
 ghost use Rattle.step_lines.specs.rule_words.Arguments.{arguments_at, ArgumentHeld, ArgumentsHeld, have_kinds};
 ghost use Rattle.step_lines.specs.rule_words.Forms.{argument_kinds};
 ghost use Rattle.step_lines.specs.rule_words.Rules.{rule_row, name_by_word, rule_from};
@@ -20,9 +20,9 @@ use crate::rule_words::lists::{
 };
 use crate::rule_words::name::RuleName;
 use crate::rule_words::table::{RULE_NAMES, rule_table, rule_words};
-use rule_rows::Rule;
+use rules::Rule;
 use std::alloc::{AllocError, Global};
-use term_store::Store;
+use trees::store::Store;
 
 /// What a rule is written as: its name, and its arguments in order.
 #[derive(Drop)]

@@ -2,8 +2,8 @@
 // They depend on uses and on the trees of words; the reader of lines depends on them.
 ghost use Rattle.std.specs.Prelude.{◌≡◌, length, map, Some, IfOk, IfSome};
 ghost use Rattle.std.specs.Option.{option_map};
-ghost use Rattle.term_store.specs.trees.Tree.{Two, HCell};
-ghost use Rattle.term_store.specs.trees.Node.{tree_at, node_tree, parts_of, Holds, AreBelow, Grows};
+ghost use Rattle.trees.specs.Tree.{Two, HCell};
+ghost use Rattle.trees.specs.Node.{tree_at, node_tree, parts_of, Holds, AreBelow, Grows};
 ghost use Rattle.tasks.specs.Meaning.{task_at};
 ghost use Rattle.step_lines.specs.tree_lines.Words.{texts};
 ghost use Rattle.step_lines.specs.tree_lines.Named.{cells};
@@ -19,7 +19,7 @@ use crate::tree_lines::known::{EarlierLines, pairs_at, thing};
 use crate::tree_lines::nodes::{add_node, tree_of};
 use crate::tree_lines::uses::{tree_of_use, use_of_words};
 use std::alloc::{AllocError, Global};
-use term_store::{Grow, Node, Store, TermId};
+use trees::store::{Grow, Node, Store, TermId};
 
 // A list with a branch more; none where it doesn't fit.
 fn add_branch(

@@ -2,19 +2,19 @@
 // They depend on known things; the lines of patterns, terms and formulas depend on them.
 ghost use Rattle.std.specs.Prelude.{◌≡◌, ◌<◌, List, length, All, IfSome};
 ghost use Rattle.std.specs.Option.{option_map};
-ghost use Rattle.term_store.specs.trees.Tree.{Tree, Leaf, Three, HNum, HIf};
-ghost use Rattle.term_store.specs.trees.Node.{tree_at, node_tree, parts_of, Holds, AreBelow};
-ghost use Rattle.term_store.specs.trees.declared.Parts.TheVariants as parts;
+ghost use Rattle.trees.specs.Tree.{Tree, Leaf, Three, HNum, HIf};
+ghost use Rattle.trees.specs.Node.{tree_at, node_tree, parts_of, Holds, AreBelow};
+ghost use Rattle.trees.specs.declared.Parts.TheVariants as parts;
 ghost use Rattle.tasks.specs.Meaning.{trees_at};
-ghost use Rattle.integer_words.specs.Integers.{integer};
+ghost use Rattle.word_tables.specs.integers.Integers.{integer};
 ghost use Rattle.step_lines.specs.tree_lines.Words.{number, at_number, one, two, three, alone, texts};
 ghost use Rattle.step_lines.specs.tree_lines.Lines.{one_tree, two_tree, variable_tree};
 
 use crate::tree_lines::kinds::NodeWord;
 use crate::tree_lines::known::thing;
 use crate::tree_lines::words::number_of_word;
-use integer_words::integer;
-use term_store::{Node, Op, Store, TermId};
+use trees::store::{Node, Op, Store, TermId};
+use word_tables::integers::integer;
 
 // The node of a word over one tree.
 fn over_one(word: NodeWord, a: TermId) -> Node

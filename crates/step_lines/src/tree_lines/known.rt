@@ -2,16 +2,16 @@
 // It depends on names and words; the lines of each kind depend on it.
 ghost use Rattle.std.specs.Prelude.{◌≡◌, All, IfOk, IfSome};
 ghost use Rattle.std.specs.Option.{option_map};
-ghost use Rattle.term_store.specs.trees.Node.{tree_at, Holds};
+ghost use Rattle.trees.specs.Node.{tree_at, Holds};
 ghost use Rattle.tasks.specs.Meaning.{trees_at};
 ghost use Rattle.step_lines.specs.tree_lines.Words.{at_number, each, pairs, texts};
 
 use crate::tree_lines::names::TableNames;
 use crate::tree_lines::words::number_of_word;
-use name_entries::NameEntry;
+use name_tables::name_entries::NameEntry;
 use std::alloc::{AllocError, Global};
 use tasks::Task;
-use term_store::{Store, TermId};
+use trees::store::{Store, TermId};
 
 /// What is known before a line: the task, the table with its names, and what the lines so far have made, each kind counted
 /// from 0.

@@ -2,19 +2,19 @@
 // They depend on the name tables and on nodes; what a line makes depends on them.
 ghost use Rattle.std.specs.Prelude.{◌≡◌, Some, length, slice_get, IfOk, IfSome};
 ghost use Rattle.std.specs.Option.{option_map};
-ghost use Rattle.term_store.specs.trees.Tree.{One, HTyApp};
-ghost use Rattle.term_store.specs.trees.Node.{tree_at, Grows};
-ghost use Rattle.binders.specs.Visits.{HoldTypes};
+ghost use Rattle.trees.specs.Tree.{One, HTyApp};
+ghost use Rattle.trees.specs.Node.{tree_at, Grows};
+ghost use Rattle.trees.specs.binders.Visits.{HoldTypes};
 ghost use Rattle.tasks.specs.Meaning.{trees_at};
-ghost use Rattle.name_entries.specs.declared.names.NameOf.TheVariants.{Rigid};
+ghost use Rattle.name_tables.specs.declared.name_entries.names.NameOf.TheVariants.{Rigid};
 ghost use Rattle.step_lines.specs.tree_lines.Named.{cells, entry_type, entry_types, entry_named, meaning, named_type_at};
 ghost use Rattle.step_lines.specs.tree_lines.Made.{IsNamesOf, IsTypeHeld, named_meaning};
 
 use crate::tree_lines::nodes::type_list;
-use name_entries::{NameEntry, NameOf};
+use name_tables::name_entries::{NameEntry, NameOf};
 use std::alloc::{AllocError, Global};
 use std::collections::HashMap;
-use term_store::{Grow, Node, Store, TermId};
+use trees::store::{Grow, Node, Store, TermId};
 
 /// What a name stands for: a symbol, and the types at which it is there; none where it is whole.
 #[derive(Drop)]

@@ -2,16 +2,16 @@
 // They depend on the store; what a line makes depends on them.
 ghost use Rattle.std.specs.Prelude.{◌≡◌, length, Some, All, IfOk, IfSome};
 ghost use Rattle.std.specs.Option.{option_map};
-ghost use Rattle.term_store.specs.trees.Node.{tree_at, node_tree, parts_of, Holds, AreBelow, Grows};
-ghost use Rattle.term_store.specs.trees.Sorts.{IsList};
-ghost use Rattle.term_store.specs.trees.declared.Sort.TheVariants.{Kind};
-ghost use Rattle.binders.specs.Visits.{HoldTypes};
+ghost use Rattle.trees.specs.Node.{tree_at, node_tree, parts_of, Holds, AreBelow, Grows};
+ghost use Rattle.trees.specs.Sorts.{IsList};
+ghost use Rattle.trees.specs.declared.Sort.TheVariants.{Kind};
+ghost use Rattle.trees.specs.binders.Visits.{HoldTypes};
 ghost use Rattle.tasks.specs.Meaning.{trees_at};
 ghost use Rattle.step_lines.specs.tree_lines.Named.{cells};
 ghost use Rattle.step_lines.specs.tree_lines.Made.{IsTreeMade};
 
 use std::alloc::AllocError;
-use term_store::{Grow, Node, Store, TermId};
+use trees::store::{Grow, Node, Store, TermId};
 
 /// The tree of a node; none where its children don't fit.
 pub(crate) fn add_node(store: &mut Store, node: Node) -> Result<Option<TermId>, AllocError>

@@ -2,7 +2,7 @@
 // They depend on uses and on the trees of words; the reader of lines depends on them.
 ghost use Rattle.std.specs.Prelude.{◌≡◌, All, IfOk, IfSome};
 ghost use Rattle.std.specs.Option.{option_map};
-ghost use Rattle.term_store.specs.trees.Node.{tree_at, Holds, Grows};
+ghost use Rattle.trees.specs.Node.{tree_at, Holds, Grows};
 ghost use Rattle.tasks.specs.Meaning.{task_at, trees_at};
 ghost use Rattle.step_lines.specs.tree_lines.Words.{at_number, one, texts};
 ghost use Rattle.step_lines.specs.tree_lines.Lines.{one_tree, type_of_line, pattern_by, pattern_of_line};
@@ -16,7 +16,7 @@ use crate::tree_lines::names::{meaning_of, type_of_symbol};
 use crate::tree_lines::nodes::tree_of;
 use crate::tree_lines::uses::{all_types, pattern_of_use, use_of_words};
 use std::alloc::{AllocError, Global};
-use term_store::{Store, TermId};
+use trees::store::{Store, TermId};
 
 /// The type of a line `y`, by the words after that letter. Only want of memory refuses.
 pub fn line_type(

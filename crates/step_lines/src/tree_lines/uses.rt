@@ -2,9 +2,9 @@
 // They depend on names and nodes; the lines of each kind depend on them.
 ghost use Rattle.std.specs.Prelude.{◌≡◌, Some, slice_get, All, IfOk, IfSome};
 ghost use Rattle.std.specs.Option.{option_map, option_and_then};
-ghost use Rattle.term_store.specs.trees.Tree.{Two, HPred};
-ghost use Rattle.term_store.specs.trees.Node.{Holds, Grows};
-ghost use Rattle.binders.specs.Visits.{HoldTypes};
+ghost use Rattle.trees.specs.Tree.{Two, HPred};
+ghost use Rattle.trees.specs.Node.{Holds, Grows};
+ghost use Rattle.trees.specs.binders.Visits.{HoldTypes};
 ghost use Rattle.tasks.specs.Meaning.{trees_at, symbol_at, task_at, SymbolHeld};
 ghost use Rattle.step_lines.specs.tree_lines.Words.{at_number, texts};
 ghost use Rattle.step_lines.specs.tree_lines.Named.{cells};
@@ -14,11 +14,11 @@ ghost use Rattle.step_lines.specs.tree_lines.Made.{IsTreeMade, KnownHeld, UseHel
 use crate::tree_lines::known::{EarlierLines, things_at};
 use crate::tree_lines::names::{Named, meaning_of};
 use crate::tree_lines::nodes::{add_node, cell_list, type_list};
-use binders::inst_types;
-use name_entries::NameOf;
+use name_tables::name_entries::NameOf;
 use std::alloc::{AllocError, Global};
 use tasks::{SymbolInfo, SymbolKind};
-use term_store::{Node, Store, TermId};
+use trees::binders::inst_types;
+use trees::store::{Node, Store, TermId};
 
 /// A symbol with its entry, its types and what it is used on.
 #[derive(Drop)]

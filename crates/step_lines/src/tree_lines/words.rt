@@ -1,7 +1,7 @@
 // The numbers that words write.
 // They depend on nothing; what a line makes depends on them.
 ghost use Rattle.std.specs.Prelude.{◌≡◌};
-ghost use Rattle.integer_words.specs.Integers.{number_from};
+ghost use Rattle.word_tables.specs.integers.Integers.{number_from};
 ghost use Rattle.step_lines.specs.tree_lines.Words.{number};
 
 // The number of decimal digits.

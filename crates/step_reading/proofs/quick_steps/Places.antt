@@ -3,8 +3,8 @@ use Rattle.std.proofs.Common.{◌≡◌, ◌↔◌, Bool, IsTrue, List, get_or, 
 use Rattle.tasks.specs.trees.Tree.{Tree}
 use Rattle.tasks.specs.trees.Node.{Grows}
 use Rattle.tasks.proofs.Growth.{all_held_later, trees_later, task_held_later}
-use Rattle.rule_rows.specs.Trees.{sequents}
-use Rattle.rule_rows.specs.Rows.{Adds}
+use Rattle.rules.specs.Trees.{sequents}
+use Rattle.rules.specs.Rows.{Adds}
 use Rattle.kernel.proofs.Growth.{steps_held_later, steps_later}
 use Rattle.step_reading.specs.declared.quick_steps.place.Place.{Place}
 use Rattle.step_reading.specs.quick_steps.Places.{sequent_here, premises_here, PlaceHeld}

@@ -8,15 +8,15 @@ use Rattle.tasks.specs.trees.declared.Node.{Node}
 use Rattle.tasks.specs.trees.declared.Node.TheVariants as node
 use Rattle.tasks.specs.trees.Node.{tree_at, head_of_node}
 use Rattle.tasks.specs.trees.Sorts.{WellSorted, Fits}
-use Rattle.binders.specs.Known.{same_pair}
-use Rattle.binders.specs.Depth.{IsDepth, IsUnder}
-use Rattle.binders.proofs.Rebuilt.{both_true, deeper}
+use Rattle.trees.specs.binders.Known.{same_pair}
+use Rattle.trees.specs.binders.Depth.{IsDepth, IsUnder}
+use Rattle.trees.proofs.binders.Rebuilt.{both_true, deeper}
 use Rattle.tasks.specs.Vocabulary.{Vocabulary}
 use Rattle.tasks.specs.Typing.{pattern_types, bound_types, TwoTyped}
 use Rattle.tasks.proofs.Counts.{pattern_count}
 use Rattle.tasks.specs.Open.{VariableHas, VariablesHave, one_has, OpenTyped, PartsAreOpen}
-use Rattle.typing.specs.Variables.{HaveAt, CanHaveAll}
-use Rattle.typing.proofs.Variables.{closed_at, bound_at}
+use Rattle.tasks.specs.typed_trees.Variables.{HaveAt, CanHaveAll}
+use Rattle.tasks.proofs.typed_trees.Variables.{closed_at, bound_at}
 use Rattle.step_reading.specs.quick_steps.Variables.{AreSeen, ToldOfTree}
 
 -- the greatest depth that the code keeps

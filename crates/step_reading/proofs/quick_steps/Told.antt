@@ -6,10 +6,10 @@ use Rattle.tasks.specs.trees.Sorts.{type_of}
 use Rattle.tasks.specs.trees.Binding.{inst, Param}
 use Rattle.tasks.specs.Task.{TaskTree}
 use Rattle.tasks.specs.Open.{VariableHas}
-use Rattle.rule_rows.specs.Trees.{RLetDef}
-use Rattle.rule_rows.specs.Forms.{alike}
-use Rattle.rule_rows.specs.Rows.{Adds, signed, IsNew, AtTerm, AtNew, IsTemplate, IsRuleRow}
-use Rattle.rule_rows.proofs.Templates.{template_can}
+use Rattle.rules.specs.Trees.{RLetDef}
+use Rattle.rules.specs.Forms.{alike}
+use Rattle.rules.specs.Rows.{Adds, signed, IsNew, AtTerm, AtNew, IsTemplate, IsRuleRow}
+use Rattle.rules.proofs.Templates.{template_can}
 use Rattle.step_reading.specs.declared.quick_steps.place.Place.{Place}
 use Rattle.step_reading.specs.quick_steps.Rows.{ReplacesSide}
 use Rattle.step_reading.specs.quick_steps.Places.{task_here, sequent_here, premises_here, PlaceHeld}

@@ -5,8 +5,8 @@ use Rattle.tasks.specs.trees.Node.{tree_at, Holds}
 use Rattle.tasks.specs.Task.{TaskTree}
 use Rattle.tasks.specs.Meaning.{trees_at, task_at}
 use Rattle.tasks.specs.Looking.{LookupHeld}
-use Rattle.rule_rows.specs.Trees.{sequents}
-use Rattle.rule_rows.specs.Meaning.{steps_at, StepsHeld}
+use Rattle.rules.specs.Trees.{sequents}
+use Rattle.rules.specs.Meaning.{steps_at, StepsHeld}
 use Rattle.step_reading.specs.declared.quick_steps.place.Place.{Place}
 
 abbrev pub task_here : List Tree → Place → TaskTree

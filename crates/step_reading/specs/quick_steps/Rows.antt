@@ -4,7 +4,7 @@ use Rattle.tasks.specs.trees.Tree.{Tree}
 use Rattle.tasks.specs.trees.Sorts.{type_of}
 use Rattle.tasks.specs.trees.Binding.{inst}
 use Rattle.tasks.specs.Task.{TaskTree}
-use Rattle.rule_rows.specs.Rows.{Adds, IsTemplate}
+use Rattle.rules.specs.Rows.{Adds, IsTemplate}
 
 -- one side of an equation in the place of the other in a formula, which is a template at that side
 abbrev pub ReplacesSide : TaskTree → Option (Tree × Tree) → Option Tree → List Tree → Tree → List (List Tree) → Type 0

@@ -3,9 +3,9 @@ use Rattle.std.specs.Prelude.{◌≡◌, ℕ, true, Bool, IsTrue, List, [], ◌�
 use Rattle.std.specs.HashSet.{HashSet, contains}
 use Rattle.tasks.specs.trees.Tree.{Tree, Leaf, HEnd}
 use Rattle.tasks.specs.trees.Node.{tree_at, Holds}
-use Rattle.binders.specs.Known.{same_pair}
+use Rattle.trees.specs.binders.Known.{same_pair}
 use Rattle.tasks.specs.Typing.{pattern_types}
-use Rattle.typing.specs.Variables.{HaveAt, CanHaveAll}
+use Rattle.tasks.specs.typed_trees.Variables.{HaveAt, CanHaveAll}
 use Rattle.step_reading.specs.declared.quick_steps.variables.Binder.{Binder}
 use Rattle.step_reading.specs.declared.quick_steps.variables.Binder.TheVariants.{Variable, Pattern}
 

@@ -4,7 +4,7 @@ ghost use Rattle.std.specs.Prelude.{◌≡◌, ◌↔◌, All, IsTrue, IfOk, OnO
 ghost use Rattle.tasks.specs.trees.Node.{tree_at, Holds};
 ghost use Rattle.tasks.specs.trees.Facts.{has_param};
 ghost use Rattle.tasks.specs.Meaning.{trees_at};
-ghost use Rattle.rule_rows.specs.Rows.{IsNew};
+ghost use Rattle.rules.specs.Rows.{IsNew};
 ghost use Rattle.step_reading.specs.quick_steps.Parameters.{LackParameter};
 
 use std::alloc::{AllocError, Global};

@@ -2,11 +2,11 @@
 // It depends on what premises add; the rows of rules depend on it.
 ghost use Rattle.std.specs.Prelude.{◌↔◌, [], ◌∷◌, IsTrue};
 ghost use Rattle.tasks.specs.trees.Node.{tree_at, Holds};
-ghost use Rattle.rule_rows.specs.Rows.{Adds, signed};
-ghost use Rattle.rule_rows.specs.Forms.{alike};
+ghost use Rattle.rules.specs.Rows.{Adds, signed};
+ghost use Rattle.rules.specs.Forms.{alike};
 ghost use Rattle.step_reading.specs.quick_steps.Places.{sequent_here, premises_here, PlaceHeld};
 
-use rule_rows::{Alike, Not, Step, Tried, adds_one};
+use rules::{Alike, Not, Step, Tried, adds_one};
 use tasks::{Lookup, Store, TermId};
 
 /// A step's sequent, and premises among the steps before it, for a task. The store may grow beside it.

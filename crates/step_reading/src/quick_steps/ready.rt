@@ -5,14 +5,14 @@ ghost use Rattle.tasks.specs.trees.Node.{tree_at, Holds};
 ghost use Rattle.tasks.specs.trees.Facts.{Each};
 ghost use Rattle.tasks.specs.Meaning.{task_at, trees_at};
 ghost use Rattle.tasks.specs.Valid.{IsGroundFormula};
-ghost use Rattle.rule_rows.specs.Trees.{rule_trees};
-ghost use Rattle.rule_rows.specs.Meaning.{rule_at, types_in, RuleHeld};
+ghost use Rattle.rules.specs.Trees.{rule_trees};
+ghost use Rattle.rules.specs.Meaning.{rule_at, types_in, RuleHeld};
 ghost use Rattle.kernel.specs.Right.{IsGroundExpression};
 ghost use Rattle.kernel.specs.Open.{OpenIn, IsOpen, IsComplete};
 
-use rule_rows::Rule;
+use rules::Rule;
+use tasks::typed_trees::is_ground;
 use tasks::{Sort, Store, Task, TermId};
-use typing::is_ground;
 
 // Whether a tree that is typed as far as it goes is well typed and free of schematic types.
 fn is_complete(store: &Store, task: &Task, e: TermId) -> bool

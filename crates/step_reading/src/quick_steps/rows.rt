@@ -10,22 +10,20 @@ ghost use Rattle.tasks.specs.Open.{OpenTyped};
 ghost use Rattle.tasks.specs.Valid.{IsGround};
 ghost use Rattle.kernel.specs.Open.{TemplateIsOpen};
 ghost use Rattle.step_reading.specs.quick_steps.Rows.{ReplacesSide};
-ghost use Rattle.instances.specs.Instances.{IsClosedTerm};
-ghost use Rattle.rule_rows.specs.Trees.{RLetDef};
-ghost use Rattle.rule_rows.specs.Rows.{AtTerm, AtNew, IsRuleRow};
-ghost use Rattle.rule_rows.specs.Meaning.{pair_at, PairHeld, rule_at, RuleHeld};
+ghost use Rattle.tasks.specs.typed_trees.instances.Instances.{IsClosedTerm};
+ghost use Rattle.rules.specs.Trees.{RLetDef};
+ghost use Rattle.rules.specs.Rows.{AtTerm, AtNew, IsRuleRow};
+ghost use Rattle.rules.specs.Meaning.{pair_at, PairHeld, rule_at, RuleHeld};
 ghost use Rattle.step_reading.specs.quick_steps.Places.{task_here, sequent_here, premises_here, PlaceHeld};
 
 use crate::quick_steps::parameters::is_new;
 use crate::quick_steps::place::{Place, adds_alike, adds_signed};
 use crate::quick_steps::variables::variable_has_type;
-use instances::{instance, parameter};
-use rule_rows::{
-    Rule, equation_sides, existential_parts, has_type, negated_formula, universal_parts,
-};
+use rules::{Rule, equation_sides, existential_parts, has_type, negated_formula, universal_parts};
 use std::alloc::{AllocError, Global};
+use tasks::typed_trees::instances::{instance, parameter};
+use tasks::typed_trees::is_ground;
 use tasks::{Node, Sort, Store, TermId};
-use typing::is_ground;
 
 // The formula at a place of the sequent.
 fn formula_at(store: &Store, place: &Place<'_>, i: usize) -> Option<TermId>

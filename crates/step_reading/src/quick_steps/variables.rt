@@ -8,14 +8,14 @@ ghost use Rattle.tasks.specs.trees.Tree.{loose};
 ghost use Rattle.tasks.specs.trees.Binding.{Bound};
 ghost use Rattle.tasks.specs.Typing.{pattern_types};
 ghost use Rattle.tasks.specs.Open.{VariableHas, VariablesHave, OpenTyped, PartsAreOpen};
-ghost use Rattle.binders.specs.Depth.{IsUnder};
-ghost use Rattle.typing.specs.Named.{vocabulary_at, VocabularyHeld};
+ghost use Rattle.trees.specs.binders.Depth.{IsUnder};
+ghost use Rattle.tasks.specs.typed_trees.Named.{vocabulary_at, VocabularyHeld};
 ghost use Rattle.step_reading.specs.quick_steps.Variables.{types_bound, BinderHeld, AreSeen, ToldOfTree};
 
 use std::alloc::{AllocError, Global};
 use std::collections::HashSet;
+use tasks::typed_trees::{Vocabulary, is_open_typed};
 use tasks::{Node, Parts, Store, TermId};
-use typing::{Vocabulary, is_open_typed};
 
 // What a binder binds: a variable of a type, or the variables of a pattern.
 #[derive(Clone, Copy)]

@@ -12,7 +12,7 @@ use Rattle.tasks.specs.trees.declared.Sort.{Sort}
 use Rattle.tasks.specs.trees.declared.Sort.TheVariants.{Branch, Term}
 use Rattle.tasks.specs.trees.Sorts.{leaf_sort, one_sort, two_sort, three_sort, yield, WellSorted, IsList, sort_of}
 use Rattle.tasks.specs.Typing.{members}
-use Rattle.name_tables.specs.name_entries.declared.names.NameEntry.{NameEntry}
+use Rattle.name_tables.specs.declared.name_entries.names.NameEntry.{NameEntry}
 use Rattle.step_lines.specs.tree_lines.Named.{cells}
 use Rattle.step_lines.specs.tree_lines.Lines.{arm_list, match_tree, expression_of_line}
 use Rattle.step_writing.specs.tree_writing.Referring.{AreLines, Refers, PushesNumbers}

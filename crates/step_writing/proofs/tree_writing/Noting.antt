@@ -8,9 +8,9 @@ use Rattle.tasks.specs.trees.declared.TermId.{TermId}
 use Rattle.tasks.specs.trees.Tree.{Tree, Leaf, HEnd}
 use Rattle.tasks.specs.trees.Node.{tree_at, Holds, Grows}
 use Rattle.tasks.proofs.Growth.{held_later, tree_later}
-use Rattle.name_tables.specs.name_entries.declared.names.NameOf.{NameOf}
-use Rattle.name_tables.specs.name_entries.declared.names.NameOf.TheVariants.{Int, Rigid, Symbol}
-use Rattle.name_tables.specs.name_entries.declared.names.NameEntry.{NameEntry}
+use Rattle.name_tables.specs.declared.name_entries.names.NameOf.{NameOf}
+use Rattle.name_tables.specs.declared.name_entries.names.NameOf.TheVariants.{Int, Rigid, Symbol}
+use Rattle.name_tables.specs.declared.name_entries.names.NameEntry.{NameEntry}
 use Rattle.step_lines.specs.tree_lines.Named.{NameMeaning, meaning, meaning_by, entry_meaning, entry_named, cells}
 use Rattle.step_writing.specs.declared.tree_writing.spelling.Spelling.{Spelling}
 use Rattle.step_writing.specs.tree_writing.Spelt.{Key, key_of, same_key, IsPlaceNoted, IsReached, AreNoted, IsSpelt, Spells}

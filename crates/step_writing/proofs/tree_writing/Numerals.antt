@@ -7,9 +7,9 @@ use Rattle.std.proofs.lemmas.Str.{digit_value_digit}
 use Rattle.std.specs.Fmt.{decimal}
 use Rattle.std.specs.Char.{digit_value}
 use Rattle.std.specs.Str.Parse.{AllDigits, digits_value_after, digits_value}
-use Rattle.integer_words.specs.Integers.{number_from}
+use Rattle.word_tables.specs.integers.Integers.{number_from}
 use Rattle.step_lines.specs.tree_lines.Words.{number}
-use Rattle.integer_words.proofs.Decimals.{value_grows}
+use Rattle.word_tables.proofs.integers.Decimals.{value_grows}
 
 one_digit : (n c : ℕ) → 48 ≤ c → c ≤ 57 → n * 10 + (c - 48) < 18446744073709551616
     → ((nat_le 48 c && nat_le c 57) && nat_lt (n * 10 + (c - 48)) 18446744073709551616) ≡ true

@@ -12,7 +12,7 @@ use Rattle.tasks.specs.trees.Node.{node_tree}
 use Rattle.tasks.specs.trees.Tree.{Tree, Leaf, One, Two, Three, HNum, HTrue, HFalse, HBound, HParam, HNot, HJoin, HForall, HExists, HLet, HEq, HIf}
 use Rattle.tasks.specs.trees.Sorts.{sort_of, IsExpression}
 use Rattle.tasks.specs.Task.{TaskTree}
-use Rattle.name_tables.specs.name_entries.declared.names.NameEntry.{NameEntry}
+use Rattle.name_tables.specs.declared.name_entries.names.NameEntry.{NameEntry}
 use Rattle.step_lines.specs.tree_lines.Words.{LineWord, number, each, at_number, two, three}
 use Rattle.step_lines.specs.tree_lines.Lines.{Earlier, expression_of_line}
 use Rattle.step_writing.specs.tree_writing.Referring.{AreLines, Refers, PushesNumbers, trees_of_sort}

@@ -10,10 +10,10 @@ use Rattle.tasks.specs.trees.Sorts.{WellSorted, IsList}
 use Rattle.tasks.specs.trees.Node.{node_tree}
 use Rattle.tasks.specs.Task.{TaskTree}
 use Rattle.tasks.specs.Typing.{members}
-use Rattle.name_tables.specs.name_entries.declared.names.NameOf.{NameOf}
-use Rattle.name_tables.specs.name_entries.declared.names.NameEntry.{NameEntry}
+use Rattle.name_tables.specs.declared.name_entries.names.NameOf.{NameOf}
+use Rattle.name_tables.specs.declared.name_entries.names.NameEntry.{NameEntry}
 use Rattle.step_lines.specs.tree_lines.Words.{LineWord, number, each, at_number}
-use Rattle.name_tables.specs.name_entries.declared.names.NameOf.TheVariants.{Rigid}
+use Rattle.name_tables.specs.declared.name_entries.names.NameOf.TheVariants.{Rigid}
 use Rattle.step_lines.specs.tree_lines.Named.{meaning_by, named_type_at, cells}
 use Rattle.step_lines.specs.tree_lines.Lines.{Earlier, meaning_types, type_of_line}
 use Rattle.step_writing.specs.tree_writing.Spelt.{Spells, IsSpelt, types_under}

@@ -7,7 +7,7 @@ use Rattle.tasks.specs.trees.declared.Sort.TheVariants as sort
 use Rattle.tasks.specs.trees.Tree.{Tree, Leaf, One, Two, Three, Head, head_of, HEnd, HTyVar, HTyRigid, HTyApp, HCell, HBound, HParam, HNum, HFun, HPred, HEq, HTrue, HFalse, HNot, HJoin, HForall, HExists, HLet, HIf, HCase, HArm, HPatAny, HPatVar, HPatCon, HPatAlias}
 use Rattle.tasks.specs.trees.Sorts.{top_sort, yield, sort_of, WellSorted, IsList, IsExpression}
 use Rattle.tasks.specs.Typing.{members}
-use Rattle.name_tables.specs.name_entries.declared.names.NameEntry.{NameEntry}
+use Rattle.name_tables.specs.declared.name_entries.names.NameEntry.{NameEntry}
 use Rattle.step_writing.specs.declared.tree_writing.writer.LineKind.{LineKind}
 use Rattle.step_writing.specs.declared.tree_writing.writer.LineKind.TheVariants as kind
 use Rattle.step_writing.specs.tree_writing.Referring.{HasLine}

@@ -14,8 +14,8 @@ use Rattle.tasks.specs.declared.signature.SymbolKind.{SymbolKind}
 use Rattle.tasks.specs.declared.signature.SymbolKind.TheVariants as kind
 use Rattle.tasks.specs.Task.{TaskTree, SymbolTree}
 use Rattle.tasks.specs.Typing.{members, MakesTerms, HasResult}
-use Rattle.name_tables.specs.name_entries.declared.names.NameOf.TheVariants.{Symbol}
-use Rattle.name_tables.specs.name_entries.declared.names.NameEntry.{NameEntry}
+use Rattle.name_tables.specs.declared.name_entries.names.NameOf.TheVariants.{Symbol}
+use Rattle.name_tables.specs.declared.name_entries.names.NameEntry.{NameEntry}
 use Rattle.step_lines.specs.tree_lines.Words.{LineWord, each, at_number}
 use Rattle.step_lines.specs.tree_lines.Named.{cells, meaning, meaning_by}
 use Rattle.step_lines.specs.tree_lines.Lines.{Earlier, use_by, use_of, used_on, named_use, meaning_types, pattern_of_line, expression_of_line, application_tree, applied_as, term_of, constructor_pattern_tree, use_trees}

@@ -13,11 +13,11 @@ use Rattle.tasks.specs.trees.Node.{tree_at, Holds}
 use Rattle.tasks.specs.trees.Sorts.{sort_of}
 use Rattle.tasks.specs.Task.{TaskTree}
 use Rattle.tasks.specs.Meaning.{trees_at}
-use Rattle.name_tables.specs.name_entries.declared.names.NameEntry.{NameEntry}
+use Rattle.name_tables.specs.declared.name_entries.names.NameEntry.{NameEntry}
 use Rattle.step_lines.specs.tree_lines.Words.{LineWord}
 use Rattle.step_lines.specs.tree_lines.Lines.{Earlier}
 use Rattle.step_lines.specs.tree_lines.Named.{cells}
-use Rattle.name_tables.specs.name_entries.declared.names.NameOf.{NameOf}
+use Rattle.name_tables.specs.declared.name_entries.names.NameOf.{NameOf}
 use Rattle.step_writing.specs.declared.tree_writing.spelling.Spelling.{Spelling}
 use Rattle.step_writing.specs.tree_writing.Spelt.{IsSpelt, Spells}
 use Rattle.step_writing.specs.tree_writing.Referring.{words_of}

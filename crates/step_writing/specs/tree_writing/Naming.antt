@@ -3,9 +3,9 @@ use Rattle.std.specs.Prelude.{◌≡◌, ℕ, zero, suc, Bool, true, false, List
 use Rattle.tasks.specs.trees.declared.Sort.TheVariants.{Kind}
 use Rattle.tasks.specs.trees.Tree.{Tree, Leaf, One, Head, HTyRigid, HTyApp}
 use Rattle.tasks.specs.Typing.{members}
-use Rattle.name_tables.specs.name_entries.declared.names.NameOf.{NameOf}
-use Rattle.name_tables.specs.name_entries.declared.names.NameOf.TheVariants.{Int, Rigid, Symbol}
-use Rattle.name_tables.specs.name_entries.declared.names.NameEntry.{NameEntry}
+use Rattle.name_tables.specs.declared.name_entries.names.NameOf.{NameOf}
+use Rattle.name_tables.specs.declared.name_entries.names.NameOf.TheVariants.{Int, Rigid, Symbol}
+use Rattle.name_tables.specs.declared.name_entries.names.NameEntry.{NameEntry}
 use Rattle.step_lines.specs.tree_lines.Words.{LineWord, number, each}
 use Rattle.step_writing.specs.declared.tree_writing.naming.Source.{Source}
 use Rattle.step_writing.specs.tree_writing.Spelt.{Spells, IsSpelt, AreNamesOf}

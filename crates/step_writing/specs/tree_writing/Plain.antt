@@ -5,8 +5,8 @@ use Rattle.tasks.specs.trees.declared.Op.TheVariants.{And, AndThen, Or, OrElse, 
 use Rattle.tasks.specs.trees.Tree.{Tree, Leaf, One, Two, Three, Head, HNum, HTrue, HFalse, HBound, HParam, HNot, HEq, HJoin, HForall, HExists, HLet, HIf}
 use Rattle.tasks.specs.trees.Sorts.{sort_of}
 use Rattle.tasks.specs.Task.{TaskTree}
-use Rattle.name_tables.specs.name_entries.declared.names.NameEntry.{NameEntry}
-use Rattle.integer_words.specs.Integers.{integer}
+use Rattle.name_tables.specs.declared.name_entries.names.NameEntry.{NameEntry}
+use Rattle.word_tables.specs.integers.Integers.{integer}
 use Rattle.step_lines.specs.tree_lines.Words.{LineWord, number, at_number}
 use Rattle.step_lines.specs.tree_lines.Lines.{Earlier, expression_of_line}
 use Rattle.step_writing.specs.tree_writing.Referring.{AreLines, HasLine, trees_of_sort}

@@ -4,9 +4,9 @@ use Rattle.std.specs.HashMap.{HashMap, get}
 use Rattle.tasks.specs.trees.declared.TermId.{TermId}
 use Rattle.tasks.specs.trees.Tree.{Tree, Leaf, HEnd}
 use Rattle.tasks.specs.trees.Node.{tree_at, Holds}
-use Rattle.name_tables.specs.name_entries.declared.names.NameOf.{NameOf}
-use Rattle.name_tables.specs.name_entries.declared.names.NameOf.TheVariants.{Int, Rigid, Symbol}
-use Rattle.name_tables.specs.name_entries.declared.names.NameEntry.{NameEntry}
+use Rattle.name_tables.specs.declared.name_entries.names.NameOf.{NameOf}
+use Rattle.name_tables.specs.declared.name_entries.names.NameOf.TheVariants.{Int, Rigid, Symbol}
+use Rattle.name_tables.specs.declared.name_entries.names.NameEntry.{NameEntry}
 use Rattle.step_lines.specs.tree_lines.Named.{NameMeaning, meaning, meaning_by, cells}
 use Rattle.step_writing.specs.declared.tree_writing.spelling.SymbolNames.{SymbolNames}
 

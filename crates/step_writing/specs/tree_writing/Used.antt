@@ -7,8 +7,8 @@ use Rattle.tasks.specs.trees.Sorts.{IsList}
 use Rattle.tasks.specs.declared.signature.SymbolKind.TheVariants.{Predicate}
 use Rattle.tasks.specs.Task.{TaskTree}
 use Rattle.tasks.specs.Typing.{members, MakesTerms, HasResult}
-use Rattle.name_tables.specs.name_entries.declared.names.NameOf.TheVariants.{Symbol}
-use Rattle.name_tables.specs.name_entries.declared.names.NameEntry.{NameEntry}
+use Rattle.name_tables.specs.declared.name_entries.names.NameOf.TheVariants.{Symbol}
+use Rattle.name_tables.specs.declared.name_entries.names.NameEntry.{NameEntry}
 use Rattle.step_lines.specs.tree_lines.Words.{LineWord, number, each}
 use Rattle.step_lines.specs.tree_lines.Lines.{Earlier, pattern_of_line, expression_of_line}
 use Rattle.step_writing.specs.tree_writing.Spelt.{Spells, IsSpelt}

@@ -7,8 +7,8 @@ use Rattle.tasks.specs.trees.Sorts.{sort_of}
 use Rattle.tasks.specs.Task.{TaskTree}
 use Rattle.tasks.specs.Typing.{members}
 use Rattle.tasks.specs.Meaning.{trees_at}
-use Rattle.name_tables.specs.name_entries.declared.names.NameOf.TheVariants.{Rigid, Symbol}
-use Rattle.name_tables.specs.name_entries.declared.names.NameEntry.{NameEntry}
+use Rattle.name_tables.specs.declared.name_entries.names.NameOf.TheVariants.{Rigid, Symbol}
+use Rattle.name_tables.specs.declared.name_entries.names.NameEntry.{NameEntry}
 use Rattle.step_lines.specs.tree_lines.Words.{LineWord}
 use Rattle.step_lines.specs.tree_lines.Lines.{Earlier, type_of_line, pattern_of_line, expression_of_line}
 use Rattle.step_writing.specs.declared.tree_writing.writer.LineKind.{LineKind}

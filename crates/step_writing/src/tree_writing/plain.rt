@@ -7,9 +7,9 @@ ghost use Rattle.step_writing.specs.tree_writing.Plain.{op_word, IsOneWord, AreV
 
 use crate::tree_writing::naming::Source;
 use crate::tree_writing::referring::{line_number, push_numbers};
-use integer_words::integer_word;
 use std::alloc::{AllocError, Global};
 use tasks::{Node, Op, TermId};
+use word_tables::integers::integer_word;
 
 // The word of a connective.
 fn word_of_op(op: Op) -> &'static [u8]

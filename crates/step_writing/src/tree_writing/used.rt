@@ -5,7 +5,7 @@ ghost use Rattle.tasks.specs.trees.Node.{tree_at, Holds};
 ghost use Rattle.tasks.specs.trees.Sorts.{IsList};
 ghost use Rattle.tasks.specs.trees.declared.Sort.TheVariants.{Kind};
 ghost use Rattle.tasks.specs.Typing.{members};
-ghost use Rattle.name_tables.specs.name_entries.declared.names.NameOf.TheVariants.{Symbol};
+ghost use Rattle.name_tables.specs.declared.name_entries.names.NameOf.TheVariants.{Symbol};
 ghost use Rattle.step_writing.specs.tree_writing.Spelt.{IsSpelt};
 ghost use Rattle.step_writing.specs.tree_writing.Referring.{words_of, HasLine};
 ghost use Rattle.step_writing.specs.tree_writing.Naming.{SourceHeld};

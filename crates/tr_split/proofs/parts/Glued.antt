@@ -3,8 +3,8 @@ use Rattle.std.specs.Prelude.{Ok}
 use Rattle.std.proofs.Common.{◌≡◌, ℕ, ◌<◌, List, [], ◌∷◌, ◌++◌, length, map, get_or, All, sym, ap, subst, ◌∙◌, arith}
 use Rattle.std.proofs.lemmas.List.{get_or-map, length-map}
 use Rattle.std.proofs.lemmas.List.Elements.{All-map}
-use Rattle.term_store.specs.trees.Tree.{Tree, Leaf, HEnd}
-use Rattle.term_store.specs.trees.Node.{tree_at}
+use Rattle.trees.specs.Tree.{Tree, Leaf, HEnd}
+use Rattle.trees.specs.Node.{tree_at}
 use Rattle.tasks.specs.declared.task.Task.{Task}
 use Rattle.tasks.specs.declared.facts.Fact.{Fact}
 use Rattle.tasks.specs.Task.{TaskTree, neg, start}
@@ -12,7 +12,7 @@ use Rattle.tasks.specs.Meaning.{trees_at}
 use Rattle.tasks.specs.Copying.{with_goal}
 use Rattle.evidence.specs.Drafts.{DraftTree, Refutes}
 use Rattle.evidence.specs.Facts.{IsFact}
-use Rattle.task_parts.proofs.Facts.{fact_renamed, named_kept}
+use Rattle.evidence.proofs.task_parts.Facts.{fact_renamed, named_kept}
 use Rattle.tr_split.specs.parts.Kept.{parts_are_split}
 use Rattle.evidence.specs.Stages.{Gives, IsAmong, IsOwnTask, EndIn, no_task, start_of}
 use Rattle.tr_split.specs.parts.Split.{split, split_task}

@@ -1,16 +1,16 @@
 -- The sides of a goal, and the ends of its parts.
 use Rattle.std.proofs.Common.{◌≡◌, ℕ, ◌<◌, ◌≤◌, ◌+◌, ◌-◌, List, [], ◌∷◌, ◌++◌, length, get_or, drop, min, sym, ap, subst, ◌∙◌, arith}
 use Rattle.std.proofs.lemmas.List.{length-append, get_or-append-add, get_or-drop, length-drop}
-use Rattle.term_store.specs.trees.declared.TermId.{TermId}
-use Rattle.term_store.specs.trees.Tree.{Tree, Leaf, Two, HEnd, HJoin}
-use Rattle.term_store.specs.trees.Node.{tree_at}
+use Rattle.trees.specs.declared.TermId.{TermId}
+use Rattle.trees.specs.Tree.{Tree, Leaf, Two, HEnd, HJoin}
+use Rattle.trees.specs.Node.{tree_at}
 use Rattle.tasks.specs.Task.{neg}
 use Rattle.tasks.specs.Valid.{IsGroundFormula}
 use Rattle.tasks.specs.Meaning.{trees_at}
 use Rattle.evidence.specs.Drafts.{DraftTree, Extends, Refutes, AreFormulas, IsFormulaAt}
 use Rattle.evidence.proofs.Rules.{refutes_later}
 use Rattle.evidence.proofs.Formulas.{same}
-use Rattle.term_store.specs.trees.declared.Op.{Op}
+use Rattle.trees.specs.declared.Op.{Op}
 use Rattle.tr_split.specs.parts.Parts.{Joins}
 use Rattle.tr_split.specs.parts.Glue.{EndsOfParts}
 

@@ -1,12 +1,12 @@
 -- What makes formulas of formulas.
 use Rattle.std.proofs.Common.{◌≡◌, List, sym, ap, subst, ◌∙◌}
-use Rattle.term_store.specs.trees.declared.Op.{Op}
-use Rattle.term_store.specs.trees.declared.TermId.{TermId}
-use Rattle.term_store.specs.trees.declared.Node.{Node}
-use Rattle.term_store.specs.trees.declared.Node.TheVariants.{Join}
-use Rattle.term_store.specs.trees.Node.{tree_at, node_tree, parts_of, AreBelow, Holds, Grows}
-use Rattle.term_store.specs.trees.Tree.{Tree, Two, HJoin}
-use Rattle.term_store.specs.trees.Sorts.{Fits}
+use Rattle.trees.specs.declared.Op.{Op}
+use Rattle.trees.specs.declared.TermId.{TermId}
+use Rattle.trees.specs.declared.Node.{Node}
+use Rattle.trees.specs.declared.Node.TheVariants.{Join}
+use Rattle.trees.specs.Node.{tree_at, node_tree, parts_of, AreBelow, Holds, Grows}
+use Rattle.trees.specs.Tree.{Tree, Two, HJoin}
+use Rattle.trees.specs.Sorts.{Fits}
 use Rattle.tr_split.specs.parts.Parts.{IsSentence, Joins}
 
 pub sentence_later : (s s' : List Tree) (id : TermId) → Grows s s' → Holds s id → IsSentence (tree_at s id) → IsSentence (tree_at s' id)

@@ -1,7 +1,7 @@
 -- How refutations of the parts of a goal give one of the goal.
 use Rattle.std.specs.Prelude.{ℕ, List, [], ◌∷◌, ◌++◌, length, get_or}
-use Rattle.term_store.specs.trees.declared.Op.TheVariants.{Imp}
-use Rattle.term_store.specs.trees.Tree.{Tree, Leaf, One, Two, HEnd, HNot, HJoin}
+use Rattle.trees.specs.declared.Op.TheVariants.{Imp}
+use Rattle.trees.specs.Tree.{Tree, Leaf, One, Two, HEnd, HNot, HJoin}
 use Rattle.tasks.specs.Task.{neg}
 use Rattle.evidence.specs.Drafts.{DraftTree}
 use Rattle.evidence.specs.Stages.{HaveSequents}

@@ -2,18 +2,18 @@
 use Rattle.std.specs.Prelude.{◌≡◌, ℕ, List, [], ◌∷◌, ◌++◌, Ok, All, map, refl}
 use Rattle.std.proofs.Common.{inl, inr, sym, subst, ◌∙◌}
 use Rattle.std.proofs.lemmas.List.Elements.{All-map, All-append, All-cons, All-nil, All-weaker}
-use Rattle.term_store.specs.trees.declared.Op.TheVariants.{And, AndThen, Imp, Iff}
-use Rattle.term_store.specs.trees.declared.Sort.{Sort}
-use Rattle.term_store.specs.trees.declared.Sort.TheVariants.{Kind, Term, Formula}
-use Rattle.term_store.specs.trees.Tree.{Tree, Leaf, Two, Three, Head, HEnd, HCell, HArm, HTrue, HJoin, HForall, HLet, HIf, head_of}
-use Rattle.term_store.specs.trees.Sorts.{yield, top_sort, sort_of, IsExpression, Fits}
+use Rattle.trees.specs.declared.Op.TheVariants.{And, AndThen, Imp, Iff}
+use Rattle.trees.specs.declared.Sort.{Sort}
+use Rattle.trees.specs.declared.Sort.TheVariants.{Kind, Term, Formula}
+use Rattle.trees.specs.Tree.{Tree, Leaf, Two, Three, Head, HEnd, HCell, HArm, HTrue, HJoin, HForall, HLet, HIf, head_of}
+use Rattle.trees.specs.Sorts.{yield, top_sort, sort_of, IsExpression, Fits}
 use Rattle.tasks.specs.Task.{TaskTree, neg}
 use Rattle.tasks.specs.Vocabulary.{Vocabulary, of_task}
 use Rattle.tasks.specs.Typing.{TwoTyped, TypedUnder, bound_types}
 use Rattle.tasks.specs.Valid.{ParametersOf, VariablesBelow, IsFormula, IsValid}
 use Rattle.tasks.specs.Copying.{with_goal}
 use Rattle.evidence.specs.Stages.{Keeps, Gives, limited_gives}
-use Rattle.task_parts.specs.Kept.{judgement_keeps}
+use Rattle.evidence.specs.task_parts.Kept.{judgement_keeps}
 use Rattle.tr_split.specs.parts.Split.{imp, split, split_task}
 use Rattle.tr_split.specs.parts.Parts.{IsSentence, Wraps}
 

@@ -1,13 +1,13 @@
 -- A list of formulas that gains others, while its store grows.
 use Rattle.std.specs.Prelude.{◌≡◌, ◌<◌, List, ◌++◌, All}
-use Rattle.term_store.specs.trees.declared.Op.{Op}
-use Rattle.term_store.specs.trees.declared.TermId.{TermId}
-use Rattle.term_store.specs.trees.declared.Sort.TheVariants.{Formula}
-use Rattle.term_store.specs.trees.Tree.{Tree, Two, Head, HJoin}
-use Rattle.term_store.specs.trees.declared.Node.{Node}
-use Rattle.term_store.specs.trees.declared.Parts.TheVariants as parts
-use Rattle.term_store.specs.trees.Node.{tree_at, parts_of, Holds, IsLike}
-use Rattle.term_store.specs.trees.Sorts.{sort_of, Fits}
+use Rattle.trees.specs.declared.Op.{Op}
+use Rattle.trees.specs.declared.TermId.{TermId}
+use Rattle.trees.specs.declared.Sort.TheVariants.{Formula}
+use Rattle.trees.specs.Tree.{Tree, Two, Head, HJoin}
+use Rattle.trees.specs.declared.Node.{Node}
+use Rattle.trees.specs.declared.Parts.TheVariants as parts
+use Rattle.trees.specs.Node.{tree_at, parts_of, Holds, IsLike}
+use Rattle.trees.specs.Sorts.{sort_of, Fits}
 use Rattle.tasks.specs.Meaning.{trees_at}
 
 abbrev pub IsSentence : Tree → Type 0

@@ -1,8 +1,8 @@
 -- The parts of a goal, by cases on the formula (Why3 manual, "split_goal_right").
 -- Where each part is proved, so is the goal.
 use Rattle.std.specs.Prelude.{◌≡◌, ℕ, List, [], ◌∷◌, ◌++◌, map, refl}
-use Rattle.term_store.specs.trees.declared.Op.TheVariants.{And, AndThen, Or, Imp, Iff}
-use Rattle.term_store.specs.trees.Tree.{Tree, Leaf, Two, Three, HTrue, HEnd, HPred, HJoin, HForall, HLet, HIf}
+use Rattle.trees.specs.declared.Op.TheVariants.{And, AndThen, Or, Imp, Iff}
+use Rattle.trees.specs.Tree.{Tree, Leaf, Two, Three, HTrue, HEnd, HPred, HJoin, HForall, HLet, HIf}
 use Rattle.tasks.specs.Task.{TaskTree, neg}
 use Rattle.tasks.specs.Copying.{with_goal}
 

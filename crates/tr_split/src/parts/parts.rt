@@ -1,15 +1,15 @@
 // The parts of a formula, gathered in one list.
 // They depend on the store; the transformation makes its tasks from them.
 ghost use Rattle.std.specs.Prelude.{◌≡◌, [], ◌∷◌, ◌++◌, map, All, IfOk};
-ghost use Rattle.term_store.specs.trees.Tree.{Two};
-ghost use Rattle.term_store.specs.trees.Node.{tree_at, head_of_node, Holds, Grows};
+ghost use Rattle.trees.specs.Tree.{Two};
+ghost use Rattle.trees.specs.Node.{tree_at, head_of_node, Holds, Grows};
 ghost use Rattle.tasks.specs.Meaning.{trees_at};
 ghost use Rattle.tasks.specs.Task.{neg};
 ghost use Rattle.tr_split.specs.parts.Parts.{IsSentence, GainsFormulas, HasTwo, Joins, Wraps};
 ghost use Rattle.tr_split.specs.parts.Split.{imp, split};
 
 use std::alloc::{AllocError, Global};
-use term_store::{Grow, Node, Op, Parts, Store, TermId};
+use trees::store::{Grow, Node, Op, Parts, Store, TermId};
 
 // Adds the parts of a formula to a list.
 #[cycle(parts)]

@@ -1,6 +1,6 @@
 // A task for each part of a goal.
 ghost use Rattle.std.specs.Prelude.{◌≡◌, map, All, IfOk};
-ghost use Rattle.term_store.specs.trees.Node.{Holds, Grows};
+ghost use Rattle.trees.specs.Node.{Holds, Grows};
 ghost use Rattle.tasks.specs.Copying.{with_goal};
 ghost use Rattle.tasks.specs.Meaning.{trees_at, task_at, tasks_at, TaskHeld, TasksHeld};
 ghost use Rattle.tasks.specs.Valid.{IsValid};
@@ -9,7 +9,7 @@ ghost use Rattle.tr_split.specs.parts.Split.{split_task};
 use crate::parts::parts::add_parts;
 use std::alloc::{AllocError, Global};
 use tasks::Task;
-use term_store::{Store, TermId};
+use trees::store::{Store, TermId};
 
 /// A task for each part of the goal, in order: `split_goal_right` of the Why3 manual, by cases on the formula.
 ///

@@ -2,7 +2,7 @@ use Rattle.std.proofs.Common.{◌≡◌, List, sym, subst, ◌∙◌, arith}
 use Rattle.std.proofs.lemmas.Result.{IfOk-weaker}
 use Rattle.trees.specs.Tree.{Tree, Two, HLet}
 use Rattle.trees.specs.Node.{tree_at, Holds}
-use Rattle.congruence.specs.instances.Instances.{IsInstance, IsClosedTerm}
+use Rattle.congruence.specs.tasks.typed_trees.instances.Instances.{IsInstance, IsClosedTerm}
 use Rattle.evidence.specs.Laws.{Extends_trans, AddsTrees_extends}
 use Rattle.congruence.proofs.Later.{tree_later, held_later}
 use Rattle.agreement.specs.Questions.{AreQuestions}

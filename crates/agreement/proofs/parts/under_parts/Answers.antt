@@ -3,7 +3,7 @@ use Rattle.std.proofs.lemmas.Result.{IfOk-weaker}
 use Rattle.trees.specs.Tree.{Tree, Two}
 use Rattle.trees.specs.Node.{tree_at, Holds}
 use Rattle.trees.specs.Binding.{Param}
-use Rattle.congruence.specs.instances.Instances.{IsInstance}
+use Rattle.congruence.specs.tasks.typed_trees.instances.Instances.{IsInstance}
 use Rattle.evidence.specs.Laws.{Extends_trans, AddsTrees_extends}
 use Rattle.congruence.specs.Quantifiers.{quantifier_head}
 use Rattle.congruence.proofs.Later.{tree_later, held_later}

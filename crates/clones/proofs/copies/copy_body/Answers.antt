@@ -10,7 +10,7 @@ use Rattle.tasks.specs.Meaning.{definitions_at, inductives_at, algebraics_at, bo
 use Rattle.clones.specs.Meaning.{map_at}
 use Rattle.clones.specs.Copies.{DefHeld, body_mapped}
 use Rattle.clones.proofs.copies.copy_body.Goals as goal
-use Rattle.outside.proofs.Passed.{no_ok, no_value}
+use Rattle.tasks.proofs.outside.Passed.{no_ok, no_value}
 
 pub copy_defs-requires-clause-map_held : goal.copy_defs-requires-clause-map_held
 copy_defs-requires-clause-map_held c = c.requires.map_held

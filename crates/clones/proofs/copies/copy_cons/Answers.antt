@@ -11,7 +11,7 @@ use Rattle.clones.proofs.Steps.{map_held, known_on}
 use Rattle.clones.proofs.Stays.{con_stays, con_held}
 use Rattle.clones.proofs.Loops.{copied_none, copied_all, copied_next}
 use Rattle.clones.proofs.copies.copy_cons.Goals as goal
-use Rattle.outside.proofs.Passed.{no_ok, no_value}
+use Rattle.tasks.proofs.outside.Passed.{no_ok, no_value}
 
 pub loop-con-init : goal.loop-con-init
 loop-con-init c = copied_none con_at ConHeld con_mapped c.args.morphism.now c.args.store.now c.args.known.now c.new-out.result.items c.new-out.ensures.items c.requires.known

@@ -1,6 +1,6 @@
 use Rattle.trees.proofs.Nodes.{Grows_refl}
 use Rattle.clones.proofs.copies.copy_decl.Goals as goal
-use Rattle.outside.proofs.Passed.{no_ok, no_value}
+use Rattle.tasks.proofs.outside.Passed.{no_ok, no_value}
 
 pub copy_body-requires-clause-map_held : goal.copy_body-requires-clause-map_held
 copy_body-requires-clause-map_held c = c.requires.map_held

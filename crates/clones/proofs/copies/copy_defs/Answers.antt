@@ -10,7 +10,7 @@ use Rattle.clones.proofs.Steps.{map_held, known_on}
 use Rattle.clones.proofs.Stays.{def_stays, def_held}
 use Rattle.clones.proofs.Loops.{copied_none, copied_all, copied_next}
 use Rattle.clones.proofs.copies.copy_defs.Goals as goal
-use Rattle.outside.proofs.Passed.{no_ok, no_value}
+use Rattle.tasks.proofs.outside.Passed.{no_ok, no_value}
 
 abbrev none : Def
 none = record { symbol = 0; equation = record { 0 = 0 } }

@@ -10,7 +10,7 @@ use Rattle.clones.specs.Mapped.{Map, mapped}
 use Rattle.clones.specs.Meaning.{map_at}
 use Rattle.clones.proofs.Steps.{map_held, map_stays, known_on, known_back}
 use Rattle.clones.proofs.copies.copy_entry.Goals as goal
-use Rattle.outside.proofs.Passed.{no_ok, no_value}
+use Rattle.tasks.proofs.outside.Passed.{no_ok, no_value}
 
 pub map_result-requires-clause-map_held : goal.map_result-requires-clause-map_held
 map_result-requires-clause-map_held c = map_held c.args.store.now c.map_trees.new.store c.in_ok-args.ensures.grows c.args.morphism.now c.requires.map_held

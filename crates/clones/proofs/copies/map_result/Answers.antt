@@ -6,7 +6,7 @@ use Rattle.trees.specs.Node.{tree_at, Holds}
 use Rattle.clones.specs.Mapped.{mapped}
 use Rattle.clones.specs.Meaning.{map_at}
 use Rattle.clones.proofs.copies.map_result.Goals as goal
-use Rattle.outside.proofs.Passed.{no_ok, no_value}
+use Rattle.tasks.proofs.outside.Passed.{no_ok, no_value}
 
 pub map_tree-requires-clause-map_held : goal.map_tree-requires-clause-map_held
 map_tree-requires-clause-map_held c = c.requires.map_held

@@ -2,7 +2,7 @@ use Rattle.std.proofs.Common.{◌≡◌, ◌∷◌, [], ◌++◌, ℕ, List, map
 use Rattle.std.proofs.lemmas.List.{map_more, take_all}
 use Rattle.clones.specs.Meaning.{map_at}
 use Rattle.clones.proofs.copies.map_symbols.Goals as goal
-use Rattle.outside.proofs.Passed.{no_value}
+use Rattle.tasks.proofs.outside.Passed.{no_value}
 
 pub loop-symbol-preserved : goal.loop-symbol-preserved
 loop-symbol-preserved c =

@@ -8,8 +8,8 @@ use Rattle.clones.specs.Meaning.{map_at, MapHeld, IsAlike, IsMapped, AreKnown}
 use Rattle.clones.proofs.Alike.{two_fits, three_fits, two_alike, three_alike, alike_then, one_over, one_moved}
 use Rattle.clones.proofs.Steps.{map_stays, map_held, mapped_later, known_later, known_more, known_on, known_back, mapped_back, one_made, two_made, three_made, ok_any}
 use Rattle.clones.proofs.maps.+mapping.Goals as goal
-use Rattle.plain_laws.proofs.Results.{if_ok_both as ok_both}
-use Rattle.outside.proofs.Passed.{no_ok, no_value}
+use Rattle.tasks.proofs.plain_laws.Results.{if_ok_both as ok_both}
+use Rattle.tasks.proofs.outside.Passed.{no_ok, no_value}
 
 pub map_tree-returns-in-Some-clause-mapped : goal.map_tree-returns-in-Some-clause-mapped
 map_tree-returns-in-Some-clause-mapped t c = (c.requires.known.each c.args.e.0 c.in-Some.made.now (sym c.in-Some.ensures.value)).1

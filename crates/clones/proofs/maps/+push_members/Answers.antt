@@ -2,7 +2,7 @@ use Rattle.std.proofs.Common.{◌≡◌, rules, arith}
 use Rattle.trees.specs.declared.Sort.TheVariants.{Kind}
 use Rattle.trees.specs.Node.{tree_at, Holds}
 use Rattle.trees.specs.Sorts.{sort_of, IsList}
-use Rattle.binders.specs.Visits.{HoldTypes}
+use Rattle.trees.specs.binders.Visits.{HoldTypes}
 use Rattle.clones.proofs.Steps.{cell_kinds, held_push}
 use Rattle.clones.proofs.maps.+push_members.Goals as goal
 

@@ -5,12 +5,12 @@ use Rattle.trees.specs.declared.TermId.{TermId}
 use Rattle.trees.specs.Binding.{inst_types}
 use Rattle.trees.specs.Node.{tree_at}
 use Rattle.trees.proofs.Nodes.{Grows_refl}
-use Rattle.binders.specs.Visits.{HoldTypes, trees_at}
+use Rattle.trees.specs.binders.Visits.{HoldTypes, trees_at}
 use Rattle.tasks.specs.Typing.{members}
 use Rattle.clones.specs.Mapped.{type_mapped}
 use Rattle.clones.specs.Meaning.{map_at}
 use Rattle.clones.proofs.maps.map_type.Goals as goal
-use Rattle.outside.proofs.Passed.{no_value}
+use Rattle.tasks.proofs.outside.Passed.{no_value}
 
 pub push_members-requires-clause-out_held : goal.push_members-requires-clause-out_held
 push_members-requires-clause-out_held c = subst (HoldTypes c.args.store.now) (sym c.new-types.ensures.items) tt

@@ -5,8 +5,8 @@ use Rattle.tasks.specs.Task.{neg}
 use Rattle.evidence.specs.Laws.{Extends_trans, AddsTrees_extends}
 use Rattle.evidence.proofs.Rules.{refutes_later}
 use Rattle.evidence.proofs.Formulas.{none_formulas, two_formulas, formula_later}
-use Rattle.proof_scripts.specs.declared.line.Places.TheVariants as places
-use Rattle.proof_scripts.specs.declared.line.Line.TheVariants as line
+use Rattle.evidence.specs.declared.proof_scripts.line.Places.TheVariants as places
+use Rattle.evidence.specs.declared.proof_scripts.line.Line.TheVariants as line
 use Rattle.congruence.proofs.Later.{tree_later}
 use Rattle.congruence.proofs.PlainScripts.{held_lines, two_same, chain_follows}
 use Rattle.congruence.proofs.alike.chain_half.Goals as goal

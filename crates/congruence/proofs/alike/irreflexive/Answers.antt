@@ -1,8 +1,8 @@
 use Rattle.std.proofs.Common.{[], ◌∷◌}
 use Rattle.trees.specs.Node.{tree_at}
 use Rattle.evidence.proofs.Formulas.{none_formulas, one_formula}
-use Rattle.proof_scripts.specs.declared.line.Word.TheVariants as word
-use Rattle.proof_scripts.specs.declared.line.Line.TheVariants as line
+use Rattle.evidence.specs.declared.proof_scripts.line.Word.TheVariants as word
+use Rattle.evidence.specs.declared.proof_scripts.line.Line.TheVariants as line
 use Rattle.congruence.proofs.PlainScripts.{held_lines, irreflexive_follows}
 use Rattle.congruence.proofs.alike.irreflexive.Goals as goal
 

@@ -1,6 +1,6 @@
 use Rattle.trees.specs.declared.Sort.TheVariants.{Term}
 use Rattle.trees.specs.Node.{tree_at}
-use Rattle.trees.proofs.Sorts.{IsList_cell}
+use Rattle.trees.specs.laws.Sorts.{IsList_cell}
 use Rattle.evidence.specs.Laws.{AddsTrees_extends}
 use Rattle.congruence.proofs.Lists.{cell_of_terms}
 use Rattle.congruence.proofs.ApplicationHoles.{first_later}

@@ -2,7 +2,7 @@ use Rattle.std.proofs.Common.{[], refl, sym, ap, subst}
 use Rattle.trees.specs.declared.Sort.TheVariants.{Term}
 use Rattle.trees.specs.Node.{tree_at}
 use Rattle.trees.specs.Sorts.{sort_of, IsList}
-use Rattle.trees.proofs.Sorts.{IsList_cell}
+use Rattle.trees.specs.laws.Sorts.{IsList_cell}
 use Rattle.tasks.specs.Vocabulary.{of_task}
 use Rattle.images.proofs.Templates.{term_has_type}
 use Rattle.evidence.specs.Laws.{Extends_trans, AddsTrees_extends}

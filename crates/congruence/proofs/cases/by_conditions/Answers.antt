@@ -1,8 +1,8 @@
 use Rattle.std.proofs.Common.{[], ◌∷◌}
 use Rattle.trees.specs.Node.{tree_at}
 use Rattle.evidence.proofs.Formulas.{none_formulas, one_formula}
-use Rattle.proof_scripts.specs.declared.line.Places.TheVariants as places
-use Rattle.proof_scripts.specs.declared.line.Line.TheVariants as line
+use Rattle.evidence.specs.declared.proof_scripts.line.Places.TheVariants as places
+use Rattle.evidence.specs.declared.proof_scripts.line.Line.TheVariants as line
 use Rattle.congruence.proofs.PlainScripts.{held_lines, conditions_follow}
 use Rattle.congruence.proofs.cases.by_conditions.Goals as goal
 

@@ -3,13 +3,13 @@ use Rattle.trees.specs.Tree.{Tree}
 use Rattle.trees.specs.Sorts.{sort_of}
 use Rattle.trees.specs.Node.{tree_at}
 use Rattle.tasks.specs.Task.{neg}
-use Rattle.rule_rows.specs.Forms.{equal}
+use Rattle.rules.specs.Forms.{equal}
 use Rattle.evidence.specs.Drafts.{Refutes}
 use Rattle.evidence.specs.Laws.{Extends_trans, AddsTrees_extends}
 use Rattle.evidence.proofs.Rules.{refutes_later}
-use Rattle.proof_scripts.specs.declared.line.Places.TheVariants as places
-use Rattle.proof_scripts.specs.declared.line.Word.TheVariants as word
-use Rattle.proof_scripts.specs.declared.line.Line.TheVariants as line
+use Rattle.evidence.specs.declared.proof_scripts.line.Places.TheVariants as places
+use Rattle.evidence.specs.declared.proof_scripts.line.Word.TheVariants as word
+use Rattle.evidence.specs.declared.proof_scripts.line.Line.TheVariants as line
 use Rattle.congruence.proofs.Later.{tree_later, held_later, pair_later}
 use Rattle.congruence.proofs.CaseParts.{case_later}
 use Rattle.congruence.proofs.HoleTemplates.{apart_later}

@@ -2,7 +2,7 @@ use Rattle.std.proofs.Common.{◌≡◌, sym, ap, ◌∙◌}
 use Rattle.trees.specs.Node.{tree_at}
 use Rattle.trees.specs.Sorts.{sort_of}
 use Rattle.tasks.specs.Task.{neg}
-use Rattle.rule_rows.specs.Forms.{equal}
+use Rattle.rules.specs.Forms.{equal}
 use Rattle.evidence.specs.Laws.{Extends_trans, AddsTrees_extends}
 use Rattle.congruence.proofs.Later.{tree_later, held_later, pair_later}
 use Rattle.congruence.proofs.HoleTemplates.{hole_later}

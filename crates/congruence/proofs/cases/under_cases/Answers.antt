@@ -2,8 +2,8 @@ use Rattle.std.proofs.Common.{◌∙◌, [], ◌∷◌}
 use Rattle.trees.specs.Node.{tree_at}
 use Rattle.evidence.proofs.Formulas.{none_formulas}
 use Rattle.trees.specs.declared.Op.TheVariants.{Iff}
-use Rattle.proof_scripts.specs.declared.line.Places.TheVariants as places
-use Rattle.proof_scripts.specs.declared.line.Line.TheVariants as line
+use Rattle.evidence.specs.declared.proof_scripts.line.Places.TheVariants as places
+use Rattle.evidence.specs.declared.proof_scripts.line.Line.TheVariants as line
 use Rattle.congruence.proofs.CaseParts.{part_formula}
 use Rattle.congruence.proofs.PlainScripts.{held_lines, three_formulas, cases_follow}
 use Rattle.congruence.proofs.cases.under_cases.Goals as goal

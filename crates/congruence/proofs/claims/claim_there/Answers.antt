@@ -8,9 +8,9 @@ use Rattle.evidence.specs.Laws.{Extends_trans, AddsTrees_extends}
 use Rattle.evidence.proofs.Rules.{refutes_later}
 use Rattle.evidence.proofs.Formulas.{none_formulas, two_formulas, formula_later}
 use Rattle.trees.specs.declared.Op.TheVariants.{Iff}
-use Rattle.proof_scripts.specs.declared.line.Places.TheVariants as places
-use Rattle.proof_scripts.specs.declared.line.Word.TheVariants as word
-use Rattle.proof_scripts.specs.declared.line.Line.TheVariants as line
+use Rattle.evidence.specs.declared.proof_scripts.line.Places.TheVariants as places
+use Rattle.evidence.specs.declared.proof_scripts.line.Word.TheVariants as word
+use Rattle.evidence.specs.declared.proof_scripts.line.Line.TheVariants as line
 use Rattle.congruence.proofs.Later.{tree_later}
 use Rattle.congruence.proofs.PlainScripts.{held_lines, two_same, there_follows}
 use Rattle.congruence.proofs.claims.claim_there.Goals as goal

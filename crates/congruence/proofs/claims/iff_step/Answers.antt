@@ -6,8 +6,8 @@ use Rattle.evidence.specs.Laws.{Extends_trans, AddsTrees_extends}
 use Rattle.evidence.proofs.Rules.{refutes_later}
 use Rattle.evidence.proofs.Formulas.{none_formulas, one_formula}
 use Rattle.trees.specs.declared.Op.TheVariants.{Iff}
-use Rattle.proof_scripts.specs.declared.line.Places.TheVariants as places
-use Rattle.proof_scripts.specs.declared.line.Line.TheVariants as line
+use Rattle.evidence.specs.declared.proof_scripts.line.Places.TheVariants as places
+use Rattle.evidence.specs.declared.proof_scripts.line.Line.TheVariants as line
 use Rattle.congruence.proofs.CaseParts.{iff_made}
 use Rattle.congruence.proofs.PlainScripts.{held_lines, one_same, iff_follows}
 use Rattle.congruence.proofs.claims.iff_step.Goals as goal

@@ -2,8 +2,8 @@ use Rattle.std.proofs.Common.{[], ◌∷◌}
 use Rattle.trees.specs.Node.{tree_at}
 use Rattle.evidence.specs.Laws.{AddsTrees_extends, Extends_trans}
 use Rattle.trees.specs.declared.Op.TheVariants.{And, Imp}
-use Rattle.proof_scripts.specs.declared.line.Word.TheVariants as word
-use Rattle.proof_scripts.specs.declared.line.Line.TheVariants as line
+use Rattle.evidence.specs.declared.proof_scripts.line.Word.TheVariants as word
+use Rattle.evidence.specs.declared.proof_scripts.line.Line.TheVariants as line
 use Rattle.congruence.proofs.CaseParts.{parts_later, denied, if_later}
 use Rattle.congruence.proofs.Scripts.{if_then_follows}
 use Rattle.evidence.proofs.Formulas.{none_formulas, two_formulas}

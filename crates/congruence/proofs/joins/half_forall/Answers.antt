@@ -2,12 +2,12 @@ use Rattle.std.proofs.Common.{[], ◌∷◌, sym, ap, subst, ◌∙◌}
 use Rattle.trees.specs.Tree.{Tree}
 use Rattle.trees.specs.Node.{tree_at}
 use Rattle.tasks.specs.Task.{neg}
-use Rattle.rule_rows.specs.Rows.{IsNew}
+use Rattle.rules.specs.Rows.{IsNew}
 use Rattle.evidence.specs.Laws.{AddsTrees_extends, Extends_trans}
 use Rattle.evidence.proofs.Rules.{refutes_later}
-use Rattle.proof_scripts.specs.declared.line.Places.TheVariants as places
-use Rattle.proof_scripts.specs.declared.line.Word.TheVariants as word
-use Rattle.proof_scripts.specs.declared.line.Line.TheVariants as line
+use Rattle.evidence.specs.declared.proof_scripts.line.Places.TheVariants as places
+use Rattle.evidence.specs.declared.proof_scripts.line.Word.TheVariants as word
+use Rattle.evidence.specs.declared.proof_scripts.line.Line.TheVariants as line
 use Rattle.congruence.proofs.Later.{tree_later, closed_later, held_later}
 use Rattle.congruence.proofs.Scripts.{forall_follows}
 use Rattle.evidence.proofs.Formulas.{none_formulas, two_formulas, formula_later}

@@ -2,9 +2,9 @@ use Rattle.std.proofs.Common.{◌∙◌, [], ◌∷◌}
 use Rattle.trees.specs.Node.{tree_at}
 use Rattle.evidence.specs.Laws.{AddsTrees_extends, Extends_trans}
 use Rattle.evidence.proofs.Rules.{refutes_later}
-use Rattle.proof_scripts.specs.declared.line.Places.TheVariants as places
-use Rattle.proof_scripts.specs.declared.line.Word.TheVariants as word
-use Rattle.proof_scripts.specs.declared.line.Line.TheVariants as line
+use Rattle.evidence.specs.declared.proof_scripts.line.Places.TheVariants as places
+use Rattle.evidence.specs.declared.proof_scripts.line.Word.TheVariants as word
+use Rattle.evidence.specs.declared.proof_scripts.line.Line.TheVariants as line
 use Rattle.congruence.proofs.Later.{tree_later}
 use Rattle.congruence.proofs.Scripts.{not_follows}
 use Rattle.evidence.proofs.Formulas.{none_formulas, two_formulas, formula_later}

@@ -1,8 +1,8 @@
 use Rattle.std.proofs.Common.{◌∙◌, [], ◌∷◌}
 use Rattle.trees.specs.Node.{tree_at}
 use Rattle.evidence.specs.Laws.{AddsTrees_extends, Extends_trans}
-use Rattle.proof_scripts.specs.declared.line.Word.TheVariants as word
-use Rattle.proof_scripts.specs.declared.line.Line.TheVariants as line
+use Rattle.evidence.specs.declared.proof_scripts.line.Word.TheVariants as word
+use Rattle.evidence.specs.declared.proof_scripts.line.Line.TheVariants as line
 use Rattle.congruence.proofs.Later.{tree_later, pair_later, held_later}
 use Rattle.congruence.proofs.CaseParts.{denied}
 use Rattle.congruence.proofs.Scripts.{let_follows}

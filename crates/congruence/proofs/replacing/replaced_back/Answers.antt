@@ -4,9 +4,9 @@ use Rattle.trees.specs.Node.{tree_at}
 use Rattle.trees.specs.Binding.{inst}
 use Rattle.tasks.specs.Task.{neg}
 use Rattle.evidence.specs.Laws.{AddsTrees_extends, Extends_trans}
-use Rattle.proof_scripts.specs.declared.line.Places.TheVariants as places
-use Rattle.proof_scripts.specs.declared.line.Word.TheVariants as word
-use Rattle.proof_scripts.specs.declared.line.Line.TheVariants as line
+use Rattle.evidence.specs.declared.proof_scripts.line.Places.TheVariants as places
+use Rattle.evidence.specs.declared.proof_scripts.line.Word.TheVariants as word
+use Rattle.evidence.specs.declared.proof_scripts.line.Line.TheVariants as line
 use Rattle.congruence.proofs.Later.{tree_later, held_later}
 use Rattle.congruence.proofs.HoleTemplates.{template_later, lemma_later}
 use Rattle.congruence.proofs.Scripts.{link_later, inst_later, replaced_right}

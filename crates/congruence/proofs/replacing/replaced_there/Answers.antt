@@ -3,9 +3,9 @@ use Rattle.trees.specs.Node.{tree_at}
 use Rattle.trees.specs.Sorts.{sort_of}
 use Rattle.tasks.specs.Task.{neg}
 use Rattle.evidence.specs.Laws.{Extends_trans, AddsTrees_extends}
-use Rattle.proof_scripts.specs.declared.line.Places.TheVariants as places
-use Rattle.proof_scripts.specs.declared.line.Word.TheVariants as word
-use Rattle.proof_scripts.specs.declared.line.Line.TheVariants as line
+use Rattle.evidence.specs.declared.proof_scripts.line.Places.TheVariants as places
+use Rattle.evidence.specs.declared.proof_scripts.line.Word.TheVariants as word
+use Rattle.evidence.specs.declared.proof_scripts.line.Line.TheVariants as line
 use Rattle.congruence.proofs.Later.{held_later, tree_later, pair_later}
 use Rattle.congruence.proofs.HoleTemplates.{template_later, lemma_later}
 use Rattle.congruence.proofs.Scripts.{link_later, inst_later, replaced_left}

@@ -1,6 +1,6 @@
 use Rattle.std.proofs.lemmas.Result.{on_ok_weaker}
-use Rattle.elab_walk.specs.Drafts.{HoldsType}
-use Rattle.elab_parts.proofs.Putting.{all_first, all_rest}
+use Rattle.open_types.specs.Drafts.{HoldsType}
+use Rattle.elab_groups.proofs.parts.Putting.{all_first, all_rest}
 use Rattle.elab_groups.proofs.BodyLocals.{locals_held}
 use Rattle.elab_groups.proofs.bodies.+push_locals.Goals as goal
 

@@ -8,17 +8,17 @@ use Rattle.tasks.specs.trees.declared.TermId.{TermId}
 use Rattle.tasks.specs.trees.Node.{tree_at}
 use Rattle.tasks.specs.trees.Sorts.{sort_of}
 use Rattle.tasks.specs.Meaning.{trees_at}
-use Rattle.elab_names.specs.syntax_why.Lexeme.{Word}
-use Rattle.elab_names.specs.Abstract.{expression_of}
-use Rattle.elab_names.specs.Faults.{fault}
-use Rattle.elab_names.specs.Naming.{where_at}
-use Rattle.elab_names.specs.Where.{Where}
-use Rattle.elab_walk.specs.declared.locals.Local.{Local}
-use Rattle.elab_walk.specs.Patterns.{LocalTree}
-use Rattle.elab_walk.specs.Drafts.{HoldsType, local_at, local_name, is_due, due}
-use Rattle.elab_parts.specs.Declarations.{with_vars}
-use Rattle.elab_members.specs.Members.{words_of_parameters}
-use Rattle.elab_members.specs.Sources.{member_at, signed_at}
+use Rattle.name_resolution.specs.surface.Lexeme.{Word}
+use Rattle.name_resolution.specs.Abstract.{expression_of}
+use Rattle.name_resolution.specs.Faults.{fault}
+use Rattle.name_resolution.specs.Naming.{where_at}
+use Rattle.name_resolution.specs.Where.{Where}
+use Rattle.open_types.specs.declared.locals.Local.{Local}
+use Rattle.open_types.specs.Patterns.{LocalTree}
+use Rattle.open_types.specs.Drafts.{HoldsType, local_at, local_name, is_due, due}
+use Rattle.elab_groups.specs.parts.Declarations.{with_vars}
+use Rattle.elab_groups.specs.members.Members.{words_of_parameters}
+use Rattle.elab_groups.specs.members.Sources.{member_at, signed_at}
 use Rattle.elab_groups.specs.Groups.{typed_locals, member_piece}
 use Rattle.elab_groups.specs.Bodies.{IsBodyWalked}
 use Rattle.elab_groups.proofs.BodyLocals.{names_are, due_kind}

@@ -7,7 +7,7 @@ use Rattle.tasks.specs.trees.Node.{tree_at}
 use Rattle.tasks.proofs.trees.Nodes.{tree_at-grows}
 use Rattle.tasks.specs.Meaning.{trees_at}
 use Rattle.tasks.specs.Equations.{cells, bound_variables}
-use Rattle.elab_walk.proofs.Growing.{first_held, type_stays}
+use Rattle.open_types.proofs.Growing.{first_held, type_stays}
 use Rattle.elab_groups.proofs.equations.+parameters_list.Goals as goal
 
 pub returns-clause-tree : goal.returns-clause-tree

@@ -5,10 +5,10 @@ use Rattle.tasks.specs.trees.Node.{tree_at, Holds}
 use Rattle.tasks.specs.Task.{DefinitionTree}
 use Rattle.tasks.specs.Meaning.{trees_at, definition_at}
 use Rattle.tasks.specs.Equations.{for_all}
-use Rattle.elab_walk.proofs.Noting.{no_elements}
-use Rattle.elab_parts.proofs.Putting.{all_first, all_rest}
-use Rattle.elab_members.specs.Sources.{signed_at, SignedHeld}
-use Rattle.elab_members.proofs.SignaturesHeld.{all_signed_grow}
+use Rattle.open_types.proofs.Noting.{no_elements}
+use Rattle.elab_groups.proofs.parts.Putting.{all_first, all_rest}
+use Rattle.elab_groups.specs.members.Sources.{signed_at, SignedHeld}
+use Rattle.elab_groups.proofs.members.SignaturesHeld.{all_signed_grow}
 use Rattle.elab_groups.specs.Groups.{inner_equation, definitions}
 use Rattle.elab_groups.proofs.Defining.{first_body, other_bodies, bodies_stay, defs_more, defined_step, definitions_none}
 use Rattle.elab_groups.proofs.equations.+push_definitions.Goals as goal

@@ -1,4 +1,4 @@
-use Rattle.elab_walk.proofs.Growing.{first_held, type_grows}
+use Rattle.open_types.proofs.Growing.{first_held, type_grows}
 use Rattle.elab_groups.proofs.equations.+quantify_formula.Goals as goal
 
 pub add-requires-clause-fits : goal.add-requires-clause-fits

@@ -5,8 +5,8 @@ use Rattle.tasks.specs.trees.Tree.{Tree}
 use Rattle.tasks.specs.trees.Node.{tree_at}
 use Rattle.tasks.specs.Meaning.{trees_at}
 use Rattle.tasks.specs.Equations.{for_all}
-use Rattle.elab_walk.proofs.Growing.{types_stay}
-use Rattle.elab_members.specs.Sources.{signed_at}
+use Rattle.open_types.proofs.Growing.{types_stay}
+use Rattle.elab_groups.specs.members.Sources.{signed_at}
 use Rattle.elab_groups.specs.Groups.{inner_equation}
 use Rattle.elab_groups.proofs.equations.equation.Goals as goal
 

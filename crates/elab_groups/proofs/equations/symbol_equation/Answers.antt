@@ -9,9 +9,9 @@ use Rattle.tasks.specs.trees.Sorts.{sort_of, IsList}
 use Rattle.tasks.proofs.trees.Nodes.{tree_at-grows, Grows_trans}
 use Rattle.tasks.specs.Meaning.{trees_at}
 use Rattle.tasks.specs.Equations.{cells, type_variables, bound_variables}
-use Rattle.elab_walk.specs.Drafts.{HoldsType}
-use Rattle.elab_walk.proofs.Growing.{type_grows, type_stays, types_stay}
-use Rattle.elab_members.specs.Sources.{signed_at}
+use Rattle.open_types.specs.Drafts.{HoldsType}
+use Rattle.open_types.proofs.Growing.{type_grows, type_stays, types_stay}
+use Rattle.elab_groups.specs.members.Sources.{signed_at}
 use Rattle.elab_groups.specs.Groups.{inner_equation}
 use Rattle.elab_groups.proofs.equations.symbol_equation.Goals as goal
 

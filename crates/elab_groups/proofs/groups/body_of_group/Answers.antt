@@ -2,7 +2,7 @@ use Rattle.std.proofs.Common.{◌≡◌, List, map, true, sym, ap, ◌∙◌}
 use Rattle.std.specs.Option.{is_some}
 use Rattle.tasks.specs.Task.{Defines}
 use Rattle.tasks.specs.Meaning.{trees_at}
-use Rattle.elab_members.specs.Sources.{member_at, signed_at}
+use Rattle.elab_groups.specs.members.Sources.{member_at, signed_at}
 use Rattle.elab_groups.specs.Groups.{group_body}
 use Rattle.elab_groups.proofs.Defining.{body_given, body_lacking, group_defined}
 use Rattle.elab_groups.proofs.groups.body_of_group.Goals as goal

@@ -2,20 +2,20 @@ use Rattle.std.proofs.Common.{◌≡◌, ℕ, ◌++◌, [], List, None, Err, map
 use Rattle.std.proofs.Math.ListN.{length-map}
 use Rattle.tasks.specs.trees.Tree.{Tree}
 use Rattle.tasks.specs.Meaning.{symbols_at}
-use Rattle.elab_names.specs.names_space.declared.Table.TheVariants.{Symbols}
-use Rattle.elab_names.specs.names_space.Names.{ScopeNames}
-use Rattle.elab_names.specs.syntax_why.Lexeme.{Word}
-use Rattle.elab_names.specs.Naming.{where_at, Tells}
-use Rattle.elab_names.specs.Where.{Where}
-use Rattle.elab_variables.specs.Seen.{SeenTree}
-use Rattle.elab_parts.specs.Declarations.{made_by_members, made_fault}
-use Rattle.elab_parts.specs.Elaborated.{unseen, IsTypingFault}
-use Rattle.elab_parts.specs.Entries.{wanting_tuples, AreScopes}
-use Rattle.elab_parts.specs.Outcomes.{over, setting, declared_in, IsKept}
-use Rattle.elab_parts.proofs.Refused.{no_fault, made_refusal, used_refusal, typing_refusal}
-use Rattle.elab_members.specs.Members.{SignatureTree, members_seen, with_members, members_fault, members_made}
-use Rattle.elab_members.specs.Sources.{member_at, members_at, signed_at, IsEntered}
-use Rattle.elab_members.proofs.NamesMade.{made_told}
+use Rattle.name_resolution.specs.scopes.declared.Table.TheVariants.{Symbols}
+use Rattle.name_resolution.specs.scopes.Names.{ScopeNames}
+use Rattle.name_resolution.specs.surface.Lexeme.{Word}
+use Rattle.name_resolution.specs.Naming.{where_at, Tells}
+use Rattle.name_resolution.specs.Where.{Where}
+use Rattle.name_resolution.specs.variables.Seen.{SeenTree}
+use Rattle.elab_groups.specs.parts.Declarations.{made_by_members, made_fault}
+use Rattle.elab_groups.specs.parts.Elaborated.{unseen, IsTypingFault}
+use Rattle.elab_groups.specs.parts.Entries.{wanting_tuples, AreScopes}
+use Rattle.elab_groups.specs.parts.Outcomes.{over, setting, declared_in, IsKept}
+use Rattle.elab_groups.proofs.parts.Refused.{no_fault, made_refusal, used_refusal, typing_refusal}
+use Rattle.elab_groups.specs.members.Members.{SignatureTree, members_seen, with_members, members_fault, members_made}
+use Rattle.elab_groups.specs.members.Sources.{member_at, members_at, signed_at, IsEntered}
+use Rattle.elab_groups.proofs.members.NamesMade.{made_told}
 use Rattle.elab_groups.specs.Groups.{most_variables, bodies_pieces, pieces_notes, before_group, group_signatures, within_group, group_used, group_fault, group_notes, IsGroupElaborated, IsGroupRefusal}
 use Rattle.elab_groups.proofs.GroupMade.{inside_is, scopes_after, each, signature_after, own_after, resolved_after, group_elaborated, group_kept}
 use Rattle.elab_groups.proofs.groups.elaborate_group.Goals as goal

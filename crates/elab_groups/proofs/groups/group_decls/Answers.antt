@@ -1,11 +1,11 @@
 use Rattle.std.proofs.Common.{◌≡◌, ◌++◌, ◌∷◌, [], List, map, length, sym, ap, subst, ◌∙◌}
 use Rattle.tasks.specs.Task.{DeclarationTree}
 use Rattle.tasks.specs.Meaning.{trees_at, declarations_at}
-use Rattle.elab_names.specs.syntax_why.Lexeme.{Word}
-use Rattle.elab_walk.proofs.Noting.{no_elements}
-use Rattle.elab_members.specs.declared.sources.MemberSource.{MemberSource}
-use Rattle.elab_members.specs.declared.signing.Signed.{Signed}
-use Rattle.elab_members.specs.Sources.{member_at, members_at, signed_at}
+use Rattle.name_resolution.specs.surface.Lexeme.{Word}
+use Rattle.open_types.proofs.Noting.{no_elements}
+use Rattle.elab_groups.specs.declared.members.sources.MemberSource.{MemberSource}
+use Rattle.elab_groups.specs.declared.members.signing.Signed.{Signed}
+use Rattle.elab_groups.specs.members.Sources.{member_at, members_at, signed_at}
 use Rattle.elab_groups.specs.Groups.{group_body, group_decls}
 use Rattle.elab_groups.specs.Bodies.{AreDefined, AllHaveBodies}
 use Rattle.elab_groups.proofs.Defining.{whole_defined, one_held, one_made}

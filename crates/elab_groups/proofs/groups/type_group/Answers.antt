@@ -1,15 +1,15 @@
 use Rattle.std.proofs.Common.{◌≡◌, List, map, sym, ap, subst, ◌∙◌}
 use Rattle.tasks.specs.trees.Tree.{Tree}
 use Rattle.tasks.specs.Meaning.{trees_at}
-use Rattle.elab_names.specs.Naming.{where_at}
-use Rattle.elab_walk.specs.Drafts.{match_at}
-use Rattle.elab_parts.specs.Elaborated.{IsTypingFault}
-use Rattle.elab_parts.proofs.Putting.{matches_stay, matches_grow}
-use Rattle.elab_parts.proofs.Solving.{if_err}
-use Rattle.elab_members.specs.declared.signing.Signed.{Signed}
-use Rattle.elab_members.specs.Members.{SignatureTree}
-use Rattle.elab_members.specs.Sources.{members_at, signed_at, SignedHeld}
-use Rattle.elab_members.proofs.SignaturesHeld.{all_signed_stay, all_signed_grow}
+use Rattle.name_resolution.specs.Naming.{where_at}
+use Rattle.open_types.specs.Drafts.{match_at}
+use Rattle.elab_groups.specs.parts.Elaborated.{IsTypingFault}
+use Rattle.elab_groups.proofs.parts.Putting.{matches_stay, matches_grow}
+use Rattle.elab_groups.proofs.parts.Solving.{if_err}
+use Rattle.elab_groups.specs.declared.members.signing.Signed.{Signed}
+use Rattle.elab_groups.specs.members.Members.{SignatureTree}
+use Rattle.elab_groups.specs.members.Sources.{members_at, signed_at, SignedHeld}
+use Rattle.elab_groups.proofs.members.SignaturesHeld.{all_signed_stay, all_signed_grow}
 use Rattle.elab_groups.specs.Groups.{most_variables, bodies_pieces, pieces_notes, BodiesSolved, group_decls}
 use Rattle.elab_groups.proofs.groups.type_group.Goals as goal
 

@@ -2,9 +2,9 @@ use Rattle.std.proofs.Common.{◌≡◌, List, map, refl, ap, ◌∙◌}
 use Rattle.tasks.specs.trees.Tree.{Tree}
 use Rattle.tasks.specs.trees.Sorts.{sort_of}
 use Rattle.tasks.specs.Meaning.{trees_at}
-use Rattle.elab_walk.specs.Drafts.{match_at, notes_at, instances}
-use Rattle.elab_parts.specs.Values.{notes_after, match_instance}
-use Rattle.elab_parts.proofs.Putting.{trees_stay}
+use Rattle.open_types.specs.Drafts.{match_at, notes_at, instances}
+use Rattle.elab_groups.specs.parts.Values.{notes_after, match_instance}
+use Rattle.elab_groups.proofs.parts.Putting.{trees_stay}
 use Rattle.elab_groups.proofs.BodiesSolved.{group_solved, instances_sorts}
 use Rattle.elab_groups.proofs.solving.solve_bodies.Goals as goal
 

@@ -4,15 +4,15 @@ use Rattle.std.proofs.lemmas.Result.{IfOk-weaker, IfErr-weaker}
 use Rattle.tasks.specs.trees.Tree.{Tree}
 use Rattle.tasks.specs.trees.Sorts.{sort_of}
 use Rattle.tasks.specs.Meaning.{trees_at}
-use Rattle.elab_names.specs.Naming.{where_at}
-use Rattle.elab_walk.specs.Patterns.{Notes}
-use Rattle.elab_walk.specs.Pieces.{NotedTree}
-use Rattle.elab_walk.specs.Drafts.{match_at, notes_at}
-use Rattle.elab_parts.specs.Elaborated.{IsTypingFault}
-use Rattle.elab_parts.specs.Values.{notes_after}
-use Rattle.elab_parts.proofs.Solving.{begun_behind, begun_ready, few_takers}
-use Rattle.elab_members.specs.Members.{SignatureTree}
-use Rattle.elab_members.specs.Sources.{member_at, members_at, signed_at}
+use Rattle.name_resolution.specs.Naming.{where_at}
+use Rattle.open_types.specs.Patterns.{Notes}
+use Rattle.open_types.specs.Pieces.{NotedTree}
+use Rattle.open_types.specs.Drafts.{match_at, notes_at}
+use Rattle.elab_groups.specs.parts.Elaborated.{IsTypingFault}
+use Rattle.elab_groups.specs.parts.Values.{notes_after}
+use Rattle.elab_groups.proofs.parts.Solving.{begun_behind, begun_ready, few_takers}
+use Rattle.elab_groups.specs.members.Members.{SignatureTree}
+use Rattle.elab_groups.specs.members.Sources.{member_at, members_at, signed_at}
 use Rattle.elab_groups.specs.declared.solving.Bodies.{Bodies}
 use Rattle.elab_groups.specs.Groups.{most_variables, bodies_pieces, pieces_notes, pieces_trees, BodiesSolved}
 use Rattle.elab_groups.specs.Bodies.{AreDefined, AreBodies, AreBodiesWalked, BodiesHeld}

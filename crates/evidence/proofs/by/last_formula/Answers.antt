@@ -1,5 +1,5 @@
 use Rattle.std.proofs.Common.{ap, get_or}
-use Rattle.rule_rows.specs.declared.rule.Step.{Step}
+use Rattle.rules.specs.declared.rule.Step.{Step}
 use Rattle.trees.specs.declared.TermId.{TermId}
 use Rattle.evidence.proofs.Formulas.{last_at}
 use Rattle.evidence.proofs.by.last_formula.Goals as goal

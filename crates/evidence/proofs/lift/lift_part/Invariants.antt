@@ -1,4 +1,4 @@
-use Rattle.rule_rows.specs.Meaning.{steps_at}
+use Rattle.rules.specs.Meaning.{steps_at}
 use Rattle.evidence.specs.Drafts.{Extends}
 use Rattle.evidence.specs.Stages.{HaveSequents, sequent_of_step}
 use Rattle.evidence.proofs.lift.lift_part.Given as goal

@@ -2,7 +2,7 @@ use Rattle.std.proofs.Common.{◌≡◌, ◌∙◌, ℕ, ap, subst, map, get_or,
 use Rattle.std.proofs.lemmas.Result.{IfOk-weaker}
 use Rattle.trees.specs.declared.TermId.{TermId}
 use Rattle.tasks.specs.Meaning.{trees_at, task_at}
-use Rattle.rule_rows.specs.Meaning.{step_at, steps_at}
+use Rattle.rules.specs.Meaning.{step_at, steps_at}
 use Rattle.evidence.specs.Drafts.{Refutes}
 use Rattle.evidence.proofs.Lifted.{cites, right_lifted, among_keeps, formulas_lifted}
 use Rattle.evidence.proofs.lift.lift_step.Goals as goal

@@ -9,10 +9,10 @@ use Rattle.trees.specs.Node.{tree_at, node_tree, Holds, Grows, assemble, head_of
 use Rattle.trees.proofs.Nodes.{Grows_refl, Grows_trans}
 use Rattle.tasks.specs.Typing.{members}
 use Rattle.tasks.proofs.outside.Passed.{no_value}
-use Rattle.binders.proofs.Rebuilt.{held_later}
+use Rattle.trees.proofs.binders.Rebuilt.{held_later}
 use Rattle.inlining.specs.images.Images.{image}
-use Rattle.image_trees.specs.Imaged.{RuleOver, AreImages}
-use Rattle.image_trees.proofs.ImagedParts.{known_later, known_more, one_part, two_parts, three_parts, one_fit, two_fit, three_fit, one_over, two_over, three_over}
+use Rattle.images.specs.image_trees.Imaged.{RuleOver, AreImages}
+use Rattle.images.proofs.image_trees.ImagedParts.{known_later, known_more, one_part, two_parts, three_parts, one_fit, two_fit, three_fit, one_over, two_over, three_over}
 use Rattle.full_bodies.specs.declared.fault.InlineFault.TheVariants as fault
 use Rattle.full_bodies.specs.Least.{is_used}
 use Rattle.full_bodies.specs.Arguments.{ArePutFor}

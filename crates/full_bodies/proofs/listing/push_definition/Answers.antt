@@ -1,6 +1,6 @@
 use Rattle.std.proofs.Common.{◌≡◌, true, false, sym, ap, ◌∙◌}
 use Rattle.tasks.specs.Meaning.{definition_at}
-use Rattle.recursive_groups.specs.decl_checks.Structure.{defining_body}
+use Rattle.checks.specs.decl_checks.Structure.{defining_body}
 use Rattle.full_bodies.specs.Chosen.{is_chosen}
 use Rattle.full_bodies.proofs.Listed.{appended_one, appended_no}
 use Rattle.full_bodies.proofs.listing.push_definition.Goals as goal

@@ -2,7 +2,7 @@ use Rattle.std.proofs.Common.{◌≡◌, List, true, false, subst, sym, ap, ◌�
 use Rattle.tasks.specs.declared.declaration.Def.{Def}
 use Rattle.tasks.specs.Task.{Defines}
 use Rattle.tasks.specs.Meaning.{definitions_at, body_at, BodyHeld}
-use Rattle.recursive_groups.specs.Groups.{is_recursive}
+use Rattle.checks.specs.recursive_groups.Groups.{is_recursive}
 use Rattle.full_bodies.specs.Chosen.{chosen}
 use Rattle.full_bodies.specs.Listed.{AreDefsHeld, AreAppended}
 use Rattle.full_bodies.proofs.Listed.{group_appended, recursive_left, other_left}

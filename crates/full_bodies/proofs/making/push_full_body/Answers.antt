@@ -3,7 +3,7 @@ use Rattle.trees.specs.Tree.{Tree}
 use Rattle.trees.specs.Node.{tree_at}
 use Rattle.tasks.specs.Meaning.{definition_at, task_at}
 use Rattle.tasks.specs.Vocabulary.{of_task}
-use Rattle.recursive_groups.specs.decl_checks.Structure.{defining_body}
+use Rattle.checks.specs.decl_checks.Structure.{defining_body}
 use Rattle.inlining.specs.images.Images.{image}
 use Rattle.inlining.specs.FullBodies.{use_rule}
 use Rattle.inlining.proofs.Bodies.{IsBody, onto, defined_body}

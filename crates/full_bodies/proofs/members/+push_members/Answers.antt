@@ -1,7 +1,7 @@
 use Rattle.std.proofs.Common.{rules, ◌≡◌, sym, subst, arith}
 use Rattle.trees.specs.Node.{tree_at, Holds}
 use Rattle.trees.specs.Sorts.{sort_of, IsList}
-use Rattle.binders.specs.Visits.{AreHeldOfSort}
+use Rattle.trees.specs.binders.Visits.{AreHeldOfSort}
 use Rattle.full_bodies.proofs.ListMembers.{held_push, cell_parts}
 use Rattle.full_bodies.proofs.members.+push_members.Goals as goal
 

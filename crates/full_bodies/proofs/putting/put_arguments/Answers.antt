@@ -7,7 +7,7 @@ use Rattle.trees.specs.Facts.{IndicesFit}
 use Rattle.trees.specs.Sorts.{WellSorted}
 use Rattle.trees.proofs.Sizes.{sorted_fits}
 use Rattle.tasks.specs.Typing.{members}
-use Rattle.binders.specs.Visits.{HoldTerms}
+use Rattle.trees.specs.binders.Visits.{HoldTerms}
 use Rattle.full_bodies.proofs.Indices.{many_small}
 use Rattle.full_bodies.proofs.ListMembers.{small_at}
 use Rattle.full_bodies.proofs.putting.put_arguments.Goals as goal

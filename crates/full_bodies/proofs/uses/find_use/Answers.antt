@@ -1,7 +1,7 @@
 use Rattle.std.proofs.Common.{◌≡◌, sym, ap, ◌∙◌}
 use Rattle.trees.specs.Node.{tree_at}
 use Rattle.inlining.specs.images.Images.{image}
-use Rattle.inlining.specs.typing_laws.HasTyping.{over_parts}
+use Rattle.inlining.specs.images.typing_laws.HasTyping.{over_parts}
 use Rattle.full_bodies.specs.FullBodies.{rule_after}
 use Rattle.full_bodies.proofs.FoundUses.{function_use, predicate_use, function_left, predicate_left, others_left, no_use}
 use Rattle.full_bodies.proofs.uses.find_use.Goals as goal

@@ -1,8 +1,8 @@
 use Rattle.std.proofs.Common.{below_more, take}
 use Rattle.tasks.specs.Meaning.{task_at}
-use Rattle.rule_rows.specs.Trees.{step_or}
-use Rattle.rule_rows.specs.Meaning.{steps_at}
-use Rattle.rule_rows.proofs.Sequents.{so}
+use Rattle.rules.specs.Trees.{step_or}
+use Rattle.rules.specs.Meaning.{steps_at}
+use Rattle.rules.proofs.Sequents.{so}
 use Rattle.kernel.specs.Right.{IsRight}
 use Rattle.kernel.proofs.steps.first_wrong.Goals as goal
 

@@ -1,8 +1,8 @@
 use Rattle.std.proofs.Common.{ℕ, ◌<◌, take}
 use Rattle.kernel.specs.Right.{IsRight}
-use Rattle.rule_rows.specs.Trees.{step_or}
+use Rattle.rules.specs.Trees.{step_or}
 use Rattle.tasks.specs.Meaning.{task_at}
-use Rattle.rule_rows.specs.Meaning.{steps_at}
+use Rattle.rules.specs.Meaning.{steps_at}
 use Rattle.kernel.proofs.steps.first_wrong.Given as goal
 
 abbrev pub invariant-loop-i : goal.invariant-loop-i

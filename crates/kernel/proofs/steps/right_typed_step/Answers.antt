@@ -1,8 +1,8 @@
 use Rattle.tasks.specs.Meaning.{task_at}
-use Rattle.rule_rows.specs.Meaning.{steps_at}
+use Rattle.rules.specs.Meaning.{steps_at}
 use Rattle.std.proofs.lemmas.List.{length-map}
 use Rattle.kernel.proofs.Complete.{all_closed, step_right, types_named}
-use Rattle.rule_rows.proofs.Sequents.{so, not_so}
+use Rattle.rules.proofs.Sequents.{so, not_so}
 use Rattle.kernel.proofs.steps.right_typed_step.Goals as goal
 use Rattle.tasks.proofs.Declared.{no}
 

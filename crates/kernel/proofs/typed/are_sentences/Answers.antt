@@ -2,8 +2,8 @@ use Rattle.std.proofs.Common.{below_more, refl}
 use Rattle.trees.specs.Node.{tree_at}
 use Rattle.tasks.specs.Valid.{IsGroundFormula}
 use Rattle.tasks.specs.Meaning.{task_at}
-use Rattle.rule_rows.specs.Meaning.{no_id}
-use Rattle.rule_rows.proofs.Sequents.{made_yes, made_no, not_so}
+use Rattle.rules.specs.Meaning.{no_id}
+use Rattle.rules.proofs.Sequents.{made_yes, made_no, not_so}
 use Rattle.kernel.proofs.typed.are_sentences.Goals as goal
 
 pub returns-then-not-is_sentence : goal.returns-then-not-is_sentence

@@ -2,7 +2,7 @@ use Rattle.std.proofs.Common.{ℕ, ◌<◌, get_or}
 use Rattle.trees.specs.Node.{tree_at}
 use Rattle.tasks.specs.Valid.{IsTypeOver}
 use Rattle.tasks.specs.Meaning.{task_at}
-use Rattle.rule_rows.specs.Meaning.{no_id}
+use Rattle.rules.specs.Meaning.{no_id}
 use Rattle.kernel.proofs.typed.are_types.Given as goal
 
 abbrev pub invariant-loop-ty : goal.invariant-loop-ty

@@ -1,7 +1,7 @@
 use Rattle.std.specs.Prelude.{OnOk}
 use Rattle.std.proofs.Common.{◌≡◌, [], ◌∷◌, ◌++◌, sym, subst}
 use Rattle.std.proofs.lemmas.List.Elements.{All-push}
-use Rattle.rule_rows.specs.Meaning.{StepHeld, StepsHeld}
+use Rattle.kernel.specs.rules.Meaning.{StepHeld, StepsHeld}
 use Rattle.kernel_tests.proofs.steps.premise_steps.Goals as goal
 
 pub loop-ids-preserved : goal.loop-ids-preserved

@@ -1,4 +1,4 @@
-use Rattle.rule_rows.specs.Meaning.{StepsHeld}
+use Rattle.kernel.specs.rules.Meaning.{StepsHeld}
 use Rattle.kernel_tests.proofs.steps.premise_steps.Given as goal
 
 abbrev pub invariant-loop-ids : goal.invariant-loop-ids

@@ -2,7 +2,7 @@ use Rattle.std.proofs.Common.{◌≡◌, List, sym, ap, subst, ◌∙◌, arith}
 use Rattle.trees.specs.Tree.{Tree, Two, HCase}
 use Rattle.trees.specs.Node.{tree_at}
 use Rattle.tasks.specs.Vocabulary.{of_task}
-use Rattle.typing_laws.specs.HasTyping.{HasTyping}
+use Rattle.images.specs.typing_laws.HasTyping.{HasTyping}
 use Rattle.match_forms.specs.Forms.{match_rule}
 use Rattle.match_forms.specs.Held.{look_task}
 use Rattle.match_forms.proofs.Opening.{can_form, node_stays}

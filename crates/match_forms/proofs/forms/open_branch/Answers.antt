@@ -2,7 +2,7 @@ use Rattle.std.proofs.Common.{sym, ap, subst, ◌∙◌}
 use Rattle.trees.specs.Tree.{Tree}
 use Rattle.trees.specs.Node.{tree_at, trees_at, Grows}
 use Rattle.trees.specs.Binding.{inst_many}
-use Rattle.binders.specs.Visits.{HoldTerms}
+use Rattle.trees.specs.binders.Visits.{HoldTerms}
 use Rattle.match_forms.proofs.Opening.{held_after}
 use Rattle.match_forms.proofs.forms.open_branch.Goals as goal
 

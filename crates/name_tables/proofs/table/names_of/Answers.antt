@@ -1,6 +1,6 @@
 use Rattle.std.proofs.Common.{◌≡◌, ◌≤◌, ◌^◌, [], length, arith, rules, sym, ap, ◌∙◌}
 use Rattle.tasks.specs.Meaning.{task_at}
-use Rattle.name_entries.specs.declared.names.NameEntry.{NameEntry}
+use Rattle.name_tables.specs.declared.name_entries.names.NameEntry.{NameEntry}
 use Rattle.name_tables.specs.Tables.{names_of}
 use Rattle.name_tables.specs.Seen.{seen_occurrences}
 use Rattle.name_tables.proofs.Entries.{WithEntries, entries_end}

@@ -1,7 +1,7 @@
 use Rattle.name_tables.specs.Groups.{instances_in}
 use Rattle.name_tables.proofs.Loops.{gains_step}
 use Rattle.name_tables.proofs.things.add_all_instances.Goals as goal
-use Rattle.plain_laws.proofs.Lists.{flat_take}
+use Rattle.tasks.proofs.plain_laws.Lists.{flat_take}
 
 pub loop-symbol-preserved : goal.loop-symbol-preserved
 loop-symbol-preserved c =

@@ -3,7 +3,7 @@ use Rattle.trees.specs.Node.{tree_at}
 use Rattle.name_tables.specs.Occurrences.{in_type}
 use Rattle.name_tables.proofs.Loops.{sees_step}
 use Rattle.name_tables.proofs.walk.note_types.Goals as goal
-use Rattle.plain_laws.proofs.Lists.{flat_more}
+use Rattle.tasks.proofs.plain_laws.Lists.{flat_more}
 
 abbrev no_id : TermId
 no_id = record { 0 = 0 }

@@ -1,8 +1,8 @@
 use Rattle.std.proofs.Common.{◌≡◌, [], sym, ◌∙◌, arith}
 use Rattle.std.proofs.lemmas.Bool.Decides.{nat_tests}
 use Rattle.std.proofs.lemmas.List.{nil_from_length}
-use Rattle.term_store.specs.trees.Tree.{above_ty_vars}
-use Rattle.term_store.specs.trees.Node.{tree_at}
+use Rattle.trees.specs.Tree.{above_ty_vars}
+use Rattle.trees.specs.Node.{tree_at}
 use Rattle.name_tables.specs.Occurrences.{occurrences}
 use Rattle.printed_problems.specs.declared.fault.PrintFault.TheVariants.{Memory}
 use Rattle.printed_problems.specs.Checks.{the_task}
@@ -10,7 +10,7 @@ use Rattle.printed_problems.proofs.Finding.{seen_meets, syntax_none}
 use Rattle.printed_problems.proofs.First.{meets_same, meets_fault, formula_rest}
 use Rattle.printed_problems.proofs.checks.check_formula.Goals as goal
 use Rattle.tasks.proofs.outside.Passed.{no_ok}
-use Rattle.term_store.proofs.trees.plain_laws.Results.{ok_any}
+use Rattle.tasks.proofs.plain_laws.Results.{ok_any}
 
 pub returns-in_err-has_forms-clause-due : goal.returns-in_err-has_forms-clause-due
 returns-in_err-has_forms-clause-due c = meets_fault c.from_residual.result _ Memory c.from_residual.ensures.1 tt

@@ -1,6 +1,6 @@
 use Rattle.std.proofs.Common.{◌≡◌, ℕ, List, map, length, sym, ap, ◌∙◌}
 use Rattle.std.proofs.lemmas.List.{length-map}
-use Rattle.term_store.specs.trees.declared.TermId.{TermId}
+use Rattle.trees.specs.declared.TermId.{TermId}
 use Rattle.tasks.specs.declared.declaration.Decl.{Decl}
 use Rattle.tasks.specs.Meaning.{trees_at, declaration_at, declarations_at}
 use Rattle.printed_problems.specs.Faults.{first_print_fault, declaration_faults, printed_type_fault, formula_fault}

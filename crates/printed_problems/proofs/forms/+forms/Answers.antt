@@ -1,7 +1,7 @@
 use Rattle.std.proofs.Common.{◌≡◌, true, false, ◌&&◌, refl, sym, ap, subst, IfOk, ◌∙◌}
-use Rattle.term_store.specs.trees.declared.Parts.TheVariants as parts
-use Rattle.term_store.specs.trees.Tree.{Tree, head_of}
-use Rattle.term_store.specs.trees.Node.{tree_at, head_of_node, parts_of}
+use Rattle.trees.specs.declared.Parts.TheVariants as parts
+use Rattle.trees.specs.Tree.{Tree, head_of}
+use Rattle.trees.specs.Node.{tree_at, head_of_node, parts_of}
 use Rattle.drivers.specs.driver_items.Syntaxes.{syntax_of}
 use Rattle.printed_problems.specs.Faults.{has_head, has_forms}
 use Rattle.printed_problems.specs.Checks.{LooksAt, parts_have_forms}

@@ -1,6 +1,6 @@
 use Rattle.std.proofs.Common.{◌≡◌, List, drop}
 use Rattle.std.specs.List.{list_any}
-use Rattle.term_store.specs.trees.Tree.{Tree}
+use Rattle.trees.specs.Tree.{Tree}
 use Rattle.tasks.specs.Meaning.{declarations_at}
 use Rattle.printed_problems.specs.Problems.{is_of_theory}
 use Rattle.printed_problems.proofs.making.has_theory.Given as goal

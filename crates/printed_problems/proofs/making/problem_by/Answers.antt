@@ -1,6 +1,6 @@
 use Rattle.std.proofs.Common.{List, All, map, ap, refl, subst, sym, ◌∙◌}
-use Rattle.term_store.specs.trees.declared.TermId.{TermId}
-use Rattle.term_store.specs.trees.Node.{Holds}
+use Rattle.trees.specs.declared.TermId.{TermId}
+use Rattle.trees.specs.Node.{Holds}
 use Rattle.tasks.specs.declared.declaration.Decl.{Decl}
 use Rattle.tasks.specs.Task.{props_of}
 use Rattle.tasks.specs.Meaning.{trees_at, declarations_at, task_at}

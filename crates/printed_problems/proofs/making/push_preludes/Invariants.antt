@@ -1,5 +1,5 @@
 use Rattle.std.proofs.Common.{◌≡◌, ◌++◌, List, drop}
-use Rattle.term_store.specs.trees.Tree.{Tree}
+use Rattle.trees.specs.Tree.{Tree}
 use Rattle.tasks.specs.Meaning.{declarations_at}
 use Rattle.printed_problems.specs.Problems.{texts_where}
 use Rattle.printed_problems.specs.Made.{is_told}

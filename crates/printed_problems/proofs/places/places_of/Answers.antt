@@ -1,6 +1,6 @@
 use Rattle.std.proofs.Common.{ℕ, ◌++◌, get_or, Vec, Global, sym, ap, ◌∙◌}
 use Rattle.std.proofs.lemmas.List.{append-nil}
-use Rattle.term_store.specs.trees.Tree.{Leaf, HEnd}
+use Rattle.trees.specs.Tree.{Leaf, HEnd}
 use Rattle.tasks.specs.Meaning.{task_at}
 use Rattle.printed_problems.specs.Tests.{asks, place_if}
 use Rattle.printed_problems.proofs.Placing.{places_step}

@@ -1,5 +1,5 @@
 use Rattle.std.proofs.Common.{◌≡◌, ◌++◌, List, drop}
-use Rattle.term_store.specs.trees.Tree.{Tree}
+use Rattle.trees.specs.Tree.{Tree}
 use Rattle.tasks.specs.Meaning.{task_at}
 use Rattle.name_tables.specs.Seen.{seen_occurrences}
 use Rattle.printed_problems.specs.Problems.{places_from}

@@ -1,5 +1,5 @@
 use Rattle.std.proofs.Common.{All}
-use Rattle.term_store.specs.trees.Node.{Holds}
+use Rattle.trees.specs.Node.{Holds}
 use Rattle.problem_rows.proofs.held.ids.Given as goal
 
 abbrev pub invariant-loop-id : goal.invariant-loop-id

@@ -1,5 +1,5 @@
 use Rattle.std.proofs.Common.{rules, Err, None}
-use Rattle.source_goals.proofs.Determined.{determined}
+use Rattle.program.proofs.source_goals.Determined.{determined}
 use Rattle.statuses.proofs.fault_order.Meeting.{answers_then, answers_stop, ends}
 use Rattle.program.specs.Order.{Derivation, CheckText}
 use Rattle.program.specs.Only.{IsOnlyAnswer}

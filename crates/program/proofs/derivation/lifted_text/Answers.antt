@@ -4,11 +4,11 @@ use Rattle.tasks.specs.Task.{TaskTree}
 use Rattle.tasks.specs.Meaning.{task_at}
 use Rattle.tasks.specs.Valid.{IsValid}
 use Rattle.tasks.proofs.Growth.{task_later, task_held_later}
-use Rattle.rule_rows.specs.declared.rule.Step.{Step}
-use Rattle.rule_rows.specs.Meaning.{steps_at, StepsHeld}
+use Rattle.rules.specs.declared.rule.Step.{Step}
+use Rattle.rules.specs.Meaning.{steps_at, StepsHeld}
 use Rattle.step_writing.specs.kernel.Right.{Closes}
 use Rattle.stages.specs.evidence.Stages.{parts_at}
-use Rattle.stages.specs.transformations.declared.transformation.Transformation.{Transformation}
+use Rattle.stages.specs.declared.transformations.transformation.Transformation.{Transformation}
 use Rattle.stages.specs.transformations.Transformations.{equation_of}
 use Rattle.stages.specs.Levels.{IsCarried, carried_from}
 use Rattle.stages.specs.Lifted.{HandedHasSequents}

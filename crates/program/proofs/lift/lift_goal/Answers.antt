@@ -1,7 +1,7 @@
 use Rattle.std.proofs.Common.{rules, Err, None, map, string_bytes}
 use Rattle.program.specs.Order.{Lifting, LiftText}
 use Rattle.statuses.proofs.fault_order.Meeting.{answers_then, answers_stop, ends}
-use Rattle.source_goals.proofs.Determined.{determined}
+use Rattle.program.proofs.source_goals.Determined.{determined}
 use Rattle.program.specs.Only.{IsOnlyStop}
 use Rattle.program.proofs.One.{only_stop, stop_lift}
 use Rattle.program.proofs.lift.lift_goal.Goals as goal

@@ -6,7 +6,7 @@ use Rattle.tasks.proofs.Growth.{task_later, task_held_later}
 use Rattle.stages.specs.evidence.Stages.{parts_at}
 use Rattle.tasks.specs.Words.{NamesAreWords}
 use Rattle.program.specs.Lifted.{IsLifted, IsRefutedTask}
-use Rattle.source_goals.specs.Order.{setting_of}
+use Rattle.program.specs.source_goals.Order.{setting_of}
 use Rattle.program.proofs.Lifting.{lifted_answers, lifting_stop}
 use Rattle.program.proofs.lift.lift_task.Goals as goal
 

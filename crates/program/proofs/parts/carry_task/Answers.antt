@@ -1,6 +1,6 @@
 use Rattle.std.proofs.Common.{◌∙◌, List, map, Err, sym, subst}
 use Rattle.tasks.specs.Meaning.{task_at, tasks_at}
-use Rattle.stages.specs.transformations.declared.transformation.Transformation.{Transformation}
+use Rattle.stages.specs.declared.transformations.transformation.Transformation.{Transformation}
 use Rattle.stages.specs.transformations.Transformations.{equation_of}
 use Rattle.stages.specs.Carried.{carried_task}
 use Rattle.stages.specs.Faults.{IsCarryFault}

@@ -1,11 +1,11 @@
 use Rattle.std.proofs.Common.{rules, Err, None}
 use Rattle.tasks.specs.Meaning.{task_at}
 use Rattle.statuses.specs.fault_order.Answers.{result_bytes}
-use Rattle.source_goals.specs.Order.{setting_of}
+use Rattle.program.specs.source_goals.Order.{setting_of}
 use Rattle.program.specs.Order.{ProblemTexts, PrintText}
 use Rattle.statuses.proofs.fault_order.Meeting.{answers_then, answers_stop, ends}
 use Rattle.statuses.proofs.fault_order.Stages.{answers_stage}
-use Rattle.source_goals.proofs.Determined.{determined}
+use Rattle.program.proofs.source_goals.Determined.{determined}
 use Rattle.program.specs.Only.{IsOnlyAnswer}
 use Rattle.program.proofs.One.{only, one_print}
 use Rattle.program.proofs.print.print_goal.Goals as goal

@@ -1,7 +1,7 @@
 use Rattle.std.proofs.Common.{◌+◌, List, ℕ, Some, subst}
 use Rattle.tasks.specs.Meaning.{task_at}
 use Rattle.statuses.specs.fault_order.Answers.{IsStageAnswer}
-use Rattle.step_writing.specs.name_entries.declared.names.NameEntry.{NameEntry}
+use Rattle.step_writing.specs.name_tables.declared.name_entries.names.NameEntry.{NameEntry}
 use Rattle.program.specs.Order.{AreSteps, RefutesPart}
 use Rattle.program.specs.Values.{steps_in}
 use Rattle.statuses.proofs.fault_order.Meeting.{answers_then}

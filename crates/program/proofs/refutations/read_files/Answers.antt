@@ -4,9 +4,9 @@ use Rattle.tasks.proofs.trees.Nodes.{Grows_trans}
 use Rattle.std.proofs.lemmas.List.{length-map}
 use Rattle.tasks.specs.Meaning.{task_at, tasks_at, TaskHeld}
 use Rattle.tasks.proofs.Growth.{task_later}
-use Rattle.rule_rows.specs.declared.rule.Step.{Step}
-use Rattle.rule_rows.specs.Trees.{StepTree}
-use Rattle.rule_rows.specs.Meaning.{steps_at}
+use Rattle.rules.specs.declared.rule.Step.{Step}
+use Rattle.rules.specs.Trees.{StepTree}
+use Rattle.rules.specs.Meaning.{steps_at}
 use Rattle.stages.specs.evidence.Stages.{parts_at, task_or, PartsHeld}
 use Rattle.step_writing.specs.kernel.Right.{Closes}
 use Rattle.part_texts.specs.printed_problems.declared.printed.Problem.{Problem}

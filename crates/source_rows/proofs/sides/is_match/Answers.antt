@@ -1,7 +1,7 @@
 use Rattle.std.proofs.Common.{All, subst}
 use Rattle.tasks.specs.trees.Node.{Holds, tree_at}
 use Rattle.tasks.specs.Meaning.{symbols_at, trees_at}
-use Rattle.theories.specs.match_cover.Shapes.{IsPattern, HaveType}
+use Rattle.theories.specs.checks.match_cover.Shapes.{IsPattern, HaveType}
 use Rattle.source_rows.proofs.sides.is_match.Goals as goal
 
 pub returns-in-Some : goal.returns-in-Some

@@ -6,8 +6,8 @@ use Rattle.tasks.specs.declared.task.Task.{Task}
 use Rattle.tasks.specs.Meaning.{task_at, tasks_at}
 use Rattle.evidence.specs.Stages.{StageEquation}
 use Rattle.stages.specs.declared.task_levels.Level.{Level}
-use Rattle.transformations.specs.declared.transformation.Transformation.{Transformation}
-use Rattle.transformations.specs.Transformations.{equation_of}
+use Rattle.stages.specs.declared.transformations.transformation.Transformation.{Transformation}
+use Rattle.stages.specs.transformations.Transformations.{equation_of}
 use Rattle.stages.specs.Carried.{carried, carried_once, carried_task}
 use Rattle.stages.specs.Steps.{AreTasks}
 use Rattle.stages.specs.Levels.{BecomeEach, IsCarried}

@@ -1,7 +1,7 @@
 use Rattle.std.proofs.Common.{map, take}
 use Rattle.tasks.specs.trees.Node.{Grows}
 use Rattle.tasks.specs.Meaning.{task_at, tasks_at}
-use Rattle.transformations.specs.Transformations.{equation_of}
+use Rattle.stages.specs.transformations.Transformations.{equation_of}
 use Rattle.stages.specs.Carried.{carried_task}
 use Rattle.stages.specs.Levels.{IsCarried}
 use Rattle.stages.proofs.CarriedTasks.{Left}

@@ -3,8 +3,8 @@ use Rattle.tasks.specs.Task.{TaskTree}
 use Rattle.tasks.specs.Meaning.{tasks_at}
 use Rattle.tasks.proofs.trees.Nodes.{Grows_trans}
 use Rattle.evidence.specs.Stages.{Refusal}
-use Rattle.stage_limits.specs.Laws.{limited_gives}
-use Rattle.transformations.specs.Transformations.{equation_of}
+use Rattle.evidence.specs.stage_limits.Laws.{limited_gives}
+use Rattle.stages.specs.transformations.Transformations.{equation_of}
 use Rattle.stages.specs.Carried.{carried_once, at_stage}
 use Rattle.stages.specs.Faults.{IsCarryFault}
 use Rattle.stages.proofs.CarriedTasks.{Each, task_there_held, task_there_valid, once_step, once_fault, once_done, each_step, each_done}

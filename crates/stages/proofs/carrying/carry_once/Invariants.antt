@@ -1,5 +1,5 @@
 use Rattle.tasks.specs.trees.Node.{Grows}
-use Rattle.transformations.specs.Transformations.{equation_of}
+use Rattle.stages.specs.transformations.Transformations.{equation_of}
 use Rattle.stages.specs.Steps.{AreTasks}
 use Rattle.stages.proofs.CarriedTasks.{SoFar, Each}
 use Rattle.stages.proofs.carrying.carry_once.Given as goal

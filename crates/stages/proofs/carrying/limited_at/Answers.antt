@@ -1,7 +1,7 @@
 use Rattle.std.proofs.Common.{All, sym, subst}
 use Rattle.tasks.specs.Meaning.{tasks_at}
 use Rattle.tasks.specs.Valid.{IsValid}
-use Rattle.stage_limits.specs.Laws.{limited_gives}
+use Rattle.evidence.specs.stage_limits.Laws.{limited_gives}
 use Rattle.stages.proofs.carrying.limited_at.Goals as goal
 
 pub returns-in-Ok-clause-tasks : goal.returns-in-Ok-clause-tasks

@@ -1,6 +1,6 @@
 use Rattle.std.proofs.Common.{rules, ◌≡◌, ℕ, length, sym, subst}
 use Rattle.tasks.specs.Meaning.{task_at}
-use Rattle.transformations.specs.Transformations.{equation_of}
+use Rattle.stages.specs.transformations.Transformations.{equation_of}
 use Rattle.stages.specs.Steps.{ArePushed}
 use Rattle.stages.proofs.CarriedTasks.{pushed_of}
 use Rattle.stages.proofs.carrying.push_tasks.Goals as goal

@@ -1,6 +1,6 @@
 use Rattle.std.proofs.Common.{rules, ◌≡◌, ◌<◌, length, arith}
 use Rattle.std.proofs.lemmas.List.{length-map}
-use Rattle.kernel.specs.rule_rows.Meaning.{steps_at}
+use Rattle.kernel.specs.rules.Meaning.{steps_at}
 use Rattle.evidence.specs.Stages.{parts_at}
 use Rattle.stages.specs.Levels.{carried_from}
 use Rattle.stages.proofs.NextTask.{alone_of}

@@ -4,10 +4,10 @@ use Rattle.std.proofs.lemmas.List.Elements.{All-nil}
 use Rattle.tasks.proofs.trees.Nodes.{Grows_refl, Grows_trans}
 use Rattle.tasks.specs.declared.task.Task.{Task}
 use Rattle.tasks.specs.Meaning.{task_at, tasks_at}
-use Rattle.kernel.specs.rule_rows.declared.rule.Step.{Step}
-use Rattle.kernel.specs.rule_rows.Meaning.{StepsHeld}
+use Rattle.kernel.specs.rules.declared.rule.Step.{Step}
+use Rattle.kernel.specs.rules.Meaning.{StepsHeld}
 use Rattle.evidence.specs.Stages.{PartsHeld, parts_at}
-use Rattle.transformations.specs.Transformations.{equation_of}
+use Rattle.stages.specs.transformations.Transformations.{equation_of}
 use Rattle.stages.specs.Lifted.{IsDerived}
 use Rattle.stages.proofs.CarriedTasks.{task_there_held, task_there_valid}
 use Rattle.stages.proofs.NextTask.{Far, far_none, far_done, counted, group_is, later_is, group_held, group_parts_held, slice_group, next_fits, next_end, next_gives, next_close, next_far, held_next}

@@ -1,7 +1,7 @@
 use Rattle.std.proofs.Common.{◌≡◌, drop, reverse}
 use Rattle.tasks.specs.trees.Node.{Grows}
 use Rattle.evidence.specs.Stages.{PartsHeld}
-use Rattle.transformations.specs.Transformations.{equation_of}
+use Rattle.stages.specs.transformations.Transformations.{equation_of}
 use Rattle.stages.proofs.NextTask.{Far}
 use Rattle.stages.proofs.lifting.lift_level.Given as goal
 

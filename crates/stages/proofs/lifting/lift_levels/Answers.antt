@@ -1,9 +1,9 @@
 use Rattle.std.proofs.Common.{rules, ◌≡◌, ℕ, List, length, get_or, sym, subst, arith}
 use Rattle.tasks.specs.declared.task.Task.{Task}
 use Rattle.tasks.specs.Meaning.{tasks_at}
-use Rattle.kernel.specs.rule_rows.declared.rule.Step.{Step}
+use Rattle.kernel.specs.rules.declared.rule.Step.{Step}
 use Rattle.evidence.specs.Stages.{parts_at}
-use Rattle.transformations.specs.Transformations.{equation_of}
+use Rattle.stages.specs.transformations.Transformations.{equation_of}
 use Rattle.stages.specs.Lifted.{AreDerived}
 use Rattle.stages.specs.Levels.{IsRefutedLevel}
 use Rattle.stages.proofs.LiftedLevels.{lifted_none, lifted_more, lifted_all, level_refuted}

@@ -4,7 +4,7 @@ use Rattle.tasks.specs.Task.{TaskTree}
 use Rattle.tasks.specs.Meaning.{task_at, tasks_at}
 use Rattle.tasks.specs.Valid.{IsValid}
 use Rattle.evidence.specs.Stages.{Gives, parts_at}
-use Rattle.transformations.specs.Transformations.{task_equation_of}
+use Rattle.stages.specs.transformations.Transformations.{task_equation_of}
 use Rattle.stages.specs.Lifted.{HandedHasSequents}
 use Rattle.stages.proofs.Copies.{copy_moved, begun_own, begun_task, begun_trees, derived_of}
 use Rattle.stages.proofs.lifting.lift_one.Goals as goal

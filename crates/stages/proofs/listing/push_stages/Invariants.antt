@@ -1,5 +1,5 @@
 use Rattle.std.proofs.Common.{◌≡◌, ◌++◌, map, take}
-use Rattle.transformations.specs.Words.{transformation_of}
+use Rattle.stages.specs.transformations.Words.{transformation_of}
 use Rattle.stages.proofs.listing.push_stages.Given as goal
 
 abbrev pub invariant-loop-name : goal.invariant-loop-name

@@ -1,5 +1,5 @@
 use Rattle.std.proofs.lemmas.List.Elements.{All-push}
-use Rattle.term_store.specs.trees.declared.TermId.{TermId}
+use Rattle.trees.specs.declared.TermId.{TermId}
 use Rattle.step_lines.specs.rule_words.Arguments.{ArgumentHeld}
 use Rattle.step_lines.proofs.tree_lines.Growing.{type_there}
 use Rattle.step_lines.proofs.Taking.{type_taken, type_is_held}

@@ -1,10 +1,10 @@
 use Rattle.std.proofs.Common.{◌+◌, ℕ, List, take, drop, Some, Option, ap, ◌∙◌}
 use Rattle.std.specs.Borrow.{Bor}
-use Rattle.term_store.specs.trees.Tree.{Tree}
+use Rattle.trees.specs.Tree.{Tree}
 use Rattle.tasks.specs.Meaning.{task_at, trees_at}
 use Rattle.tasks.proofs.Growth.{trees_later}
-use Rattle.rule_rows.specs.Trees.{StepTree}
-use Rattle.rule_rows.specs.Meaning.{rule_at}
+use Rattle.rules.specs.Trees.{StepTree}
+use Rattle.rules.specs.Meaning.{rule_at}
 use Rattle.step_lines.specs.tree_lines.Words.{LineWord, texts, number, each}
 use Rattle.step_lines.specs.tree_lines.Made.{earlier_at}
 use Rattle.step_lines.proofs.tree_lines.Making.{slice_left}

@@ -1,11 +1,11 @@
 use Rattle.std.proofs.Common.{◌≡◌, ◌+◌, List, take, drop, All, IfOk, IfSome, Option, sym, ap, subst, ◌∙◌}
 use Rattle.std.specs.Option.{option_map}
 use Rattle.std.specs.Borrow.{Bor}
-use Rattle.term_store.specs.trees.declared.TermId.{TermId}
-use Rattle.term_store.specs.trees.Node.{Holds}
+use Rattle.trees.specs.declared.TermId.{TermId}
+use Rattle.trees.specs.Node.{Holds}
 use Rattle.tasks.specs.Meaning.{task_at, trees_at}
-use Rattle.rule_rows.specs.Trees.{StepTree}
-use Rattle.rule_rows.specs.Meaning.{step_at}
+use Rattle.rules.specs.Trees.{StepTree}
+use Rattle.rules.specs.Meaning.{step_at}
 use Rattle.step_lines.specs.tree_lines.Words.{LineWord, texts}
 use Rattle.step_lines.specs.tree_lines.Made.{earlier_at}
 use Rattle.step_lines.proofs.tree_lines.Making.{slice_left, each_trees, each_held}

@@ -1,7 +1,7 @@
 use Rattle.std.proofs.Common.{sym, subst}
 use Rattle.tasks.specs.Meaning.{task_at}
 use Rattle.kernel.specs.Right.{last_starts}
-use Rattle.rule_rows.specs.Meaning.{steps_at}
+use Rattle.rules.specs.Meaning.{steps_at}
 use Rattle.step_reading.proofs.Progress.{no_true}
 use Rattle.step_reading.proofs.ended.last_steps.Goals as goal
 

@@ -5,7 +5,7 @@ use Rattle.tasks.specs.Meaning.{task_at}
 use Rattle.tasks.proofs.trees.Nodes.{Grows_trans}
 use Rattle.tasks.proofs.Growth.{task_held_later, task_later}
 use Rattle.kernel.specs.Right.{Closes}
-use Rattle.rule_rows.specs.Meaning.{steps_at}
+use Rattle.rules.specs.Meaning.{steps_at}
 use Rattle.step_reading.specs.Lines.{StepsOf}
 use Rattle.step_reading.specs.Reading.{IsReadFault}
 use Rattle.step_reading.proofs.Exact.{refused_for_memory}

@@ -3,8 +3,8 @@ use Rattle.std.specs.Prelude.{IsTrue}
 use Rattle.tasks.specs.Task.{TaskTree}
 use Rattle.tasks.specs.Meaning.{task_at}
 use Rattle.tasks.proofs.Growth.{task_held_later, task_later}
-use Rattle.rule_rows.specs.declared.rule.Step.{Step}
-use Rattle.rule_rows.specs.Meaning.{steps_at}
+use Rattle.rules.specs.declared.rule.Step.{Step}
+use Rattle.rules.specs.Meaning.{steps_at}
 use Rattle.step_lines.specs.Made.{IsMadeThing, thing_at}
 use Rattle.step_lines.specs.Steps.{Thing}
 use Rattle.step_reading.specs.Marks.{AreMarkedTyped}

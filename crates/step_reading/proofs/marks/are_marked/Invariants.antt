@@ -1,6 +1,6 @@
 use Rattle.std.proofs.Common.{ℕ, ◌<◌, get_or}
 use Rattle.tasks.specs.Meaning.{task_at}
-use Rattle.rule_rows.specs.Meaning.{no_id}
+use Rattle.rules.specs.Meaning.{no_id}
 use Rattle.kernel.specs.Open.{IsOpen}
 use Rattle.step_reading.proofs.marks.are_marked.Given as goal
 

@@ -4,7 +4,7 @@ use Rattle.tasks.specs.Task.{TaskTree}
 use Rattle.tasks.specs.Meaning.{task_at}
 use Rattle.tasks.proofs.Growth.{task_held_later, task_later}
 use Rattle.step_writing.specs.kernel.Right.{Closes}
-use Rattle.rule_rows.specs.Meaning.{steps_at}
+use Rattle.rules.specs.Meaning.{steps_at}
 use Rattle.step_rows.proofs.files.finish_file.Goals as goal
 
 pub returns-clause-task : goal.returns-clause-task

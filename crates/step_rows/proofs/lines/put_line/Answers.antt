@@ -5,7 +5,7 @@ use Rattle.step_lines.specs.Made.{ThingHeld}
 use Rattle.step_rows.specs.Read.{RowReadHeld}
 use Rattle.step_rows.proofs.Growth.{read_later, kept_held}
 use Rattle.step_rows.proofs.lines.put_line.Goals as goal
-use Rattle.elab_parts.proofs.unify_types.Resolved.{on_ok}
+use Rattle.elab_groups.proofs.open_types.unify_types.Resolved.{on_ok}
 
 pub put_thing-requires-clause-task : goal.put_thing-requires-clause-task
 put_thing-requires-clause-task c = task_held_later c.args.store.now c.made_by.new.store c.in_ok-thing.ensures.grows c.args.task.now c.requires.task

@@ -1,5 +1,5 @@
 use Rattle.std.proofs.Common.{subst, refl, arith}
-use Rattle.name_tables.specs.name_entries.declared.names.NameEntry.{NameEntry}
+use Rattle.name_tables.specs.declared.name_entries.names.NameEntry.{NameEntry}
 use Rattle.step_writing.specs.Named.{IsName}
 use Rattle.step_writing.proofs.Naming.{all_more, all_done}
 use Rattle.step_writing.proofs.named.are_words.Goals as goal

@@ -1,8 +1,8 @@
 use Rattle.std.proofs.Common.{◌≡◌, ◌<◌, List, ℕ, false, length, get_or, subst, sym, ap, refl, ◌∙◌, arith}
 use Rattle.std.proofs.lemmas.List.{get_or-map, length-map}
-use Rattle.kernel.specs.rule_rows.declared.rule.Step.{Step}
-use Rattle.kernel.specs.rule_rows.Trees.{no_step}
-use Rattle.kernel.specs.rule_rows.Meaning.{step_at, steps_at}
+use Rattle.kernel.specs.rules.declared.rule.Step.{Step}
+use Rattle.kernel.specs.rules.Trees.{no_step}
+use Rattle.kernel.specs.rules.Meaning.{step_at, steps_at}
 use Rattle.kernel.specs.trees.Tree.{Tree}
 use Rattle.step_writing.specs.Named.{SymbolsNamed}
 use Rattle.step_writing.proofs.Naming.{all_more, all_done, no_true}

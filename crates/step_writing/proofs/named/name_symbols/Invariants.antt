@@ -1,5 +1,5 @@
 use Rattle.std.proofs.Common.{All, take}
-use Rattle.kernel.specs.rule_rows.Meaning.{steps_at}
+use Rattle.kernel.specs.rules.Meaning.{steps_at}
 use Rattle.step_writing.specs.Named.{SymbolsNamed}
 use Rattle.step_writing.proofs.named.name_symbols.Given as goal
 

@@ -1,8 +1,8 @@
 use Rattle.std.proofs.Common.{[], All, IsTrue, sym, subst}
 use Rattle.kernel.specs.trees.Node.{tree_at}
-use Rattle.name_tables.specs.name_entries.declared.names.NameOf.TheVariants.{Symbol}
-use Rattle.kernel.specs.rule_rows.declared.rule.Rule.{Rule}
-use Rattle.kernel.specs.rule_rows.Meaning.{rule_at}
+use Rattle.name_tables.specs.declared.name_entries.names.NameOf.TheVariants.{Symbol}
+use Rattle.kernel.specs.rules.declared.rule.Rule.{Rule}
+use Rattle.kernel.specs.rules.Meaning.{rule_at}
 use Rattle.step_writing.specs.tree_writing.Spelt.{IsSpelt}
 use Rattle.step_writing.specs.Named.{rule_symbols}
 use Rattle.step_writing.proofs.Naming.{only}

@@ -2,7 +2,7 @@ use Rattle.std.proofs.Common.{◌≡◌, All, take}
 use Rattle.std.specs.Prelude.{flat_map}
 use Rattle.kernel.specs.trees.Node.{Holds}
 use Rattle.kernel.specs.tasks.Meaning.{trees_at}
-use Rattle.kernel.specs.rule_rows.Meaning.{steps_at}
+use Rattle.kernel.specs.rules.Meaning.{steps_at}
 use Rattle.step_writing.specs.Named.{step_trees}
 use Rattle.step_writing.proofs.roots.step_roots.Given as goal
 

@@ -2,7 +2,7 @@ use Rattle.std.specs.Int.{w128}
 use Rattle.std.proofs.lemmas.Int.{to_z-of_z}
 use Rattle.std.proofs.Common.{rules, FitsSigned, ◌≡◌, [], ◌∷◌, Some, sym, subst, ap, ◌∙◌}
 use Rattle.kernel.specs.trees.Node.{tree_at}
-use Rattle.step_lines.specs.integer_words.Integers.{integer}
+use Rattle.step_lines.specs.word_tables.integers.Integers.{integer}
 use Rattle.step_lines.specs.declared.rule_words.argument.Argument.{Argument}
 use Rattle.step_lines.specs.rule_words.Arguments.{argument_at}
 use Rattle.step_writing.proofs.tree_writing.Reading.{on_ok}

@@ -1,5 +1,5 @@
 use Rattle.std.proofs.Common.{List, All, ap, subst, sym, ◌∙◌}
-use Rattle.kernel.specs.rule_rows.Meaning.{rule_at}
+use Rattle.kernel.specs.rules.Meaning.{rule_at}
 use Rattle.step_lines.specs.declared.rule_words.argument.Argument.{Argument}
 use Rattle.step_lines.specs.rule_words.Arguments.{arguments_at}
 use Rattle.step_lines.specs.rule_words.Rules.{name_by_word}

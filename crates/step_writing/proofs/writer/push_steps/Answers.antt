@@ -1,7 +1,7 @@
 use Rattle.std.proofs.Common.{◌≡◌, ◌<◌, length, get_or, sym, ap, subst, ◌∙◌, arith}
 use Rattle.std.proofs.lemmas.List.{get_or-map, length-map}
-use Rattle.kernel.specs.rule_rows.Trees.{no_step}
-use Rattle.kernel.specs.rule_rows.Meaning.{step_at, steps_at}
+use Rattle.kernel.specs.rules.Trees.{no_step}
+use Rattle.kernel.specs.rules.Meaning.{step_at, steps_at}
 use Rattle.step_writing.specs.Words.{StepReady}
 use Rattle.step_writing.proofs.Texts.{first_more}
 use Rattle.step_writing.proofs.writer.push_steps.Goals as goal

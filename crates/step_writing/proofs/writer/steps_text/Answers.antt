@@ -1,7 +1,7 @@
 use Rattle.std.proofs.Common.{◌≡◌, ℕ, List, Option, sym, ap, subst, ◌∙◌}
 use Rattle.std.specs.Prelude.{IfSome, IfNone, flat_map}
 use Rattle.kernel.specs.tasks.Meaning.{trees_at}
-use Rattle.kernel.specs.rule_rows.Meaning.{steps_at}
+use Rattle.kernel.specs.rules.Meaning.{steps_at}
 use Rattle.step_writing.specs.declared.tree_writing.writer.WrittenLines.{WrittenLines}
 use Rattle.step_writing.specs.tree_writing.Whole.{IsWritten, HaveLines, LacksName}
 use Rattle.step_writing.specs.declared.words.Lines.{Lines}

@@ -1,6 +1,6 @@
 use Rattle.std.proofs.Common.{◌≡◌, ◌≤◌, ◌^◌, length, sym, ap, subst, ◌∙◌, arith}
 use Rattle.kernel.specs.tasks.Meaning.{task_at}
-use Rattle.kernel.specs.rule_rows.Meaning.{steps_at}
+use Rattle.kernel.specs.rules.Meaning.{steps_at}
 use Rattle.name_tables.specs.Tables.{task_names, NamesDiffer}
 use Rattle.step_writing.proofs.Derivations.{table_words, table_named}
 use Rattle.step_writing.proofs.writer.write_derivation.Goals as goal

@@ -1,6 +1,6 @@
 use Rattle.std.proofs.Common.{None, subst}
 use Rattle.std.specs.Prelude.{IfSome, IfNone}
-use Rattle.kernel.specs.rule_rows.Meaning.{steps_at}
+use Rattle.kernel.specs.rules.Meaning.{steps_at}
 use Rattle.kernel.specs.tasks.Meaning.{task_at}
 use Rattle.step_writing.specs.Named.{AreWords, AreNamed}
 use Rattle.step_writing.specs.Written.{StepsReadBack}

@@ -1,8 +1,8 @@
 use Rattle.std.proofs.Common.{List, Option, Some, None, sym, subst}
 use Rattle.std.specs.Prelude.{IfOk, IfSome, IfNone}
 use Rattle.kernel.proofs.Growth.{steps_later}
-use Rattle.kernel.specs.rule_rows.Trees.{StepTree}
-use Rattle.kernel.specs.rule_rows.Meaning.{steps_at}
+use Rattle.kernel.specs.rules.Trees.{StepTree}
+use Rattle.kernel.specs.rules.Meaning.{steps_at}
 use Rattle.kernel.specs.tasks.Meaning.{task_at}
 use Rattle.step_writing.proofs.tree_writing.Reading.{if_ok}
 use Rattle.step_writing.specs.Named.{AreNamed, AreSorted}

@@ -1,16 +1,16 @@
 use Rattle.std.proofs.Common.{◌≡◌, ℕ, List, map, subst, ◌∙◌, inl, inr}
 use Rattle.std.proofs.lemmas.Result.{err_from_is_err_and, on_ok_weaker}
 use Rattle.tasks.proofs.trees.Nodes.{Grows_refl, Grows_trans}
-use Rattle.syntax_why.specs.declared.declarations.DeclTree.{DeclTree}
-use Rattle.syntax_why.specs.declared.declarations.DeclNode.TheVariants as dv
-use Rattle.syntax_why.specs.Declarations.{use_decl, clone_decl, scope_decl}
-use Rattle.syntax_why.specs.SurfaceDeclarations.{decl_of, decls, element_of}
-use Rattle.syntax_why.proofs.DeclLemmas.{decl_is, decl_of_node-UseTheory, decl_of_node-CloneTheory, decl_of_node-ScopeDecl}
+use Rattle.surface.specs.declared.declarations.DeclTree.{DeclTree}
+use Rattle.surface.specs.declared.declarations.DeclNode.TheVariants as dv
+use Rattle.surface.specs.Declarations.{use_decl, clone_decl, scope_decl}
+use Rattle.surface.specs.SurfaceDeclarations.{decl_of, decls, element_of}
+use Rattle.surface.proofs.DeclLemmas.{decl_is, decl_of_node-UseTheory, decl_of_node-CloneTheory, decl_of_node-ScopeDecl}
 use Rattle.theory_states.specs.declared.fault.SourceFault.{SourceFault}
 use Rattle.theory_states.specs.Meaning.{state_at}
 use Rattle.theory_states.specs.Uses.{IsUnknownTheory}
-use Rattle.theory_declarations.specs.Declared.{IsDeclaredFault}
-use Rattle.clone_theories.specs.Cloned.{IsCloneFault}
+use Rattle.theories.specs.declaring.Declared.{IsDeclaredFault}
+use Rattle.theories.specs.cloning.Cloned.{IsCloneFault}
 use Rattle.theories.specs.Typing.{IsTwice, IsLeft, AreFaulty, IsDeclarationFault}
 use Rattle.theories.specs.Sound.{AreSoundlyTyped}
 use Rattle.theories.proofs.Walking.{walk_begins, walk_next, walk_fails, walk_ends, logical_typed, logical_fault, fault_so, answer_so}

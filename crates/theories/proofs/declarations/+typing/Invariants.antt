@@ -1,6 +1,6 @@
 use Rattle.std.proofs.Common.{map, drop}
 use Rattle.tasks.specs.trees.Node.{Grows}
-use Rattle.syntax_why.specs.SurfaceDeclarations.{decl_of, decls}
+use Rattle.surface.specs.SurfaceDeclarations.{decl_of, decls}
 use Rattle.theory_states.specs.Meaning.{state_at}
 use Rattle.theories.specs.Right.{IsStateRight}
 use Rattle.theories.proofs.Walking.{Walk}

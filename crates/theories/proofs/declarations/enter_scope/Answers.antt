@@ -2,7 +2,7 @@ use Rattle.std.proofs.Common.{◌+◌, refl, sym, subst}
 use Rattle.std.proofs.lemmas.Result.{err_from_is_err_and}
 use Rattle.tasks.specs.Vocabulary.{of_signature}
 use Rattle.tasks.specs.Meaning.{symbols_at}
-use Rattle.valid_tasks.specs.Scopes.{AreTypedScopes}
+use Rattle.elaboration_laws.specs.Scopes.{AreTypedScopes}
 use Rattle.theory_states.specs.declared.states.Opened.{Opened}
 use Rattle.theory_states.specs.Meaning.{state_at}
 use Rattle.theories.specs.Typing.{IsTwice}

@@ -1,8 +1,8 @@
 use Rattle.std.proofs.Common.{◌+◌, map}
 use Rattle.std.proofs.lemmas.Result.{err_from_is_err_and, on_ok_weaker}
-use Rattle.syntax_why.specs.SurfaceDeclarations.{element_of}
+use Rattle.surface.specs.SurfaceDeclarations.{element_of}
 use Rattle.theory_states.specs.Meaning.{state_at}
-use Rattle.clone_theories.specs.Cloned.{IsCloneFault}
+use Rattle.theories.specs.cloning.Cloned.{IsCloneFault}
 use Rattle.theories.proofs.Passing.{passed_right, passed_is}
 use Rattle.theories.proofs.Passed.{only_memory}
 use Rattle.theories.proofs.declarations.type_clone.Goals as goal

@@ -1,8 +1,8 @@
 use Rattle.std.proofs.Common.{◌+◌}
 use Rattle.std.proofs.lemmas.Result.{err_from_is_err_and, on_ok_weaker}
-use Rattle.syntax_why.specs.SurfaceDeclarations.{decl_of}
+use Rattle.surface.specs.SurfaceDeclarations.{decl_of}
 use Rattle.theory_states.specs.Meaning.{state_at}
-use Rattle.theory_declarations.specs.Declared.{IsDeclaredFault}
+use Rattle.theories.specs.declaring.Declared.{IsDeclaredFault}
 use Rattle.theories.proofs.Passing.{passed_right, passed_is}
 use Rattle.theories.proofs.Placing.{declared_placed}
 use Rattle.theories.proofs.Passed.{only_memory}

@@ -2,7 +2,7 @@ use Rattle.std.proofs.Common.{◌+◌, map}
 use Rattle.std.proofs.lemmas.Result.{err_from_is_err_and, on_ok_weaker}
 use Rattle.theory_states.specs.Meaning.{known_at, state_at}
 use Rattle.theory_states.specs.Uses.{IsUnknownTheory}
-use Rattle.valid_tasks.proofs.Keeping.{used_typed}
+use Rattle.elaboration_laws.proofs.Keeping.{used_typed}
 use Rattle.theories.proofs.Passing.{passed_right, passed_is}
 use Rattle.theories.proofs.Passed.{only_memory}
 use Rattle.theories.proofs.declarations.type_use.Goals as goal

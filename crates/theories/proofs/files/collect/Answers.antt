@@ -2,7 +2,7 @@ use Rattle.std.proofs.Common.{◌≡◌, Some, map, All, sym, ap, subst, ◌∙�
 use Rattle.tasks.specs.trees.declared.ints.Ints.{Ints}
 use Rattle.tasks.specs.declared.signature.Signature.{Signature}
 use Rattle.tasks.specs.Meaning.{symbols_at, SymbolHeld}
-use Rattle.valid_tasks.specs.goal_tasks.Meaning.{AreTuples}
+use Rattle.elaboration_laws.specs.theory_states.goal_tasks.Meaning.{AreTuples}
 use Rattle.theory_states.specs.declared.states.KnownTheory.{KnownTheory}
 use Rattle.theories.specs.Ints.{int_entries}
 use Rattle.theories.proofs.Ending.{collected_is, collected_held, symbols_held}

@@ -1,6 +1,6 @@
 use Rattle.std.proofs.Common.{◌≡◌, ◌<◌, ℕ, List, map, length, All, refl, sym, ap, subst, ◌∙◌}
 use Rattle.theory_states.specs.declared.moves.Move.{Move}
-use Rattle.valid_tasks.specs.goal_tasks.Meaning.{goal_at}
+use Rattle.elaboration_laws.specs.theory_states.goal_tasks.Meaning.{goal_at}
 use Rattle.theory_states.specs.declared.states.KnownTheory.{KnownTheory}
 use Rattle.theory_states.specs.declared.states.Typed.{Typed}
 use Rattle.theory_states.specs.States.{KnownTree, known_as}

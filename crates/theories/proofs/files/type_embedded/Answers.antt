@@ -1,9 +1,9 @@
 use Rattle.std.proofs.Common.{ℕ, List, map, refl, subst}
 use Rattle.std.proofs.lemmas.Result.{err_from_is_err_and}
 use Rattle.tasks.proofs.trees.Nodes.{Grows_refl, Grows_trans}
-use Rattle.syntax_why.specs.declared.declarations.TheoryTree.{TheoryTree}
-use Rattle.syntax_why.specs.Declarations.{SyntaxTheory}
-use Rattle.syntax_why.specs.SurfaceDeclarations.{theory_of}
+use Rattle.surface.specs.declared.declarations.TheoryTree.{TheoryTree}
+use Rattle.surface.specs.Declarations.{SyntaxTheory}
+use Rattle.surface.specs.SurfaceDeclarations.{theory_of}
 use Rattle.theory_states.specs.declared.fault.SourceFault.{SourceFault}
 use Rattle.theory_states.specs.States.{StateTree}
 use Rattle.theory_states.specs.Uses.{OrMemory}

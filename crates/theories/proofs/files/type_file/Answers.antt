@@ -2,9 +2,9 @@ use Rattle.std.proofs.Common.{◌≡◌, ℕ, map, length, inl, inr, sym, ap, �
 use Rattle.std.proofs.lemmas.Result.{err_from_is_err_and, IfOk-weaker}
 use Rattle.std.proofs.lemmas.List.{length-map}
 use Rattle.tasks.proofs.trees.Nodes.{Grows_refl, Grows_trans}
-use Rattle.syntax_why.specs.SurfaceDeclarations.{file_of}
-use Rattle.valid_tasks.specs.goal_tasks.declared.theories.Theories.{Theories}
-use Rattle.valid_tasks.specs.goal_tasks.Meaning.{theories_at}
+use Rattle.surface.specs.SurfaceDeclarations.{file_of}
+use Rattle.elaboration_laws.specs.theory_states.declared.goal_tasks.theories.Theories.{Theories}
+use Rattle.elaboration_laws.specs.theory_states.goal_tasks.Meaning.{theories_at}
 use Rattle.theory_states.specs.declared.fault.SourceFault.{SourceFault}
 use Rattle.theory_states.specs.Meaning.{known_at}
 use Rattle.theories.specs.Files.{AreFaultyIn, theories_of, TheoriesOf, IsLibraryFault, IsFirstSourceFault}

@@ -1,8 +1,8 @@
 use Rattle.std.proofs.Common.{ℕ, List}
 use Rattle.std.proofs.lemmas.Result.{err_from_is_err_and}
 use Rattle.tasks.proofs.trees.Nodes.{Grows_refl, Grows_trans}
-use Rattle.syntax_why.specs.declared.declarations.File.{File}
-use Rattle.syntax_why.specs.SurfaceDeclarations.{file_of}
+use Rattle.surface.specs.declared.declarations.File.{File}
+use Rattle.surface.specs.SurfaceDeclarations.{file_of}
 use Rattle.theory_states.specs.declared.fault.SourceFault.{SourceFault}
 use Rattle.theory_states.specs.States.{StateTree}
 use Rattle.theories.specs.Files.{AreEmbeddedInBy, AreEmbeddedIn, AreEmbeddedFaultyIn, AreEmbeddedFaulty}

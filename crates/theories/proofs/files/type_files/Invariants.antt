@@ -1,7 +1,7 @@
 use Rattle.std.proofs.Common.{ℕ, List, drop}
 use Rattle.tasks.specs.trees.Node.{Grows}
-use Rattle.syntax_why.specs.declared.declarations.File.{File}
-use Rattle.syntax_why.specs.SurfaceDeclarations.{file_of}
+use Rattle.surface.specs.declared.declarations.File.{File}
+use Rattle.surface.specs.SurfaceDeclarations.{file_of}
 use Rattle.theories.specs.Files.{AreEmbeddedInBy, AreEmbeddedFaultyIn}
 use Rattle.theories.specs.Sound.{AreSoundlyTyped}
 use Rattle.theories.specs.Right.{between_at, AreTheoriesRight}

@@ -2,7 +2,7 @@ use Rattle.std.proofs.Common.{sym, subst}
 use Rattle.std.proofs.lemmas.Result.{on_ok_weaker}
 use Rattle.tasks.proofs.trees.Nodes.{Grows_refl}
 use Rattle.theory_states.specs.States.{StateTree}
-use Rattle.std_theories.specs.Library.{AreFilesOf, library}
+use Rattle.parser.specs.std_theories.Library.{AreFilesOf, library}
 use Rattle.theories.specs.Files.{AreEmbeddedBy, AreEmbeddedFaulty, IsLibraryFault}
 use Rattle.theories.specs.Sound.{AreSoundlyTyped}
 use Rattle.theories.specs.Right.{between_at}

@@ -1,6 +1,6 @@
 use Rattle.std.proofs.Common.{◌≡◌, ℕ, false, List, refl, sym, ap, ◌∙◌}
 use Rattle.std.proofs.lemmas.Result.{IfOk-weaker}
-use Rattle.syntax_why.specs.SurfaceDeclarations.{theory_of}
+use Rattle.surface.specs.SurfaceDeclarations.{theory_of}
 use Rattle.theories.specs.Files.{IsTypedTheoryBy, is_path_taken, IsNewTheoryBy, IsTheoryFault, IsNewFault, twice, inside}
 use Rattle.theories.specs.Sound.{AreSoundlyTyped}
 use Rattle.theories.specs.Right.{between_at}

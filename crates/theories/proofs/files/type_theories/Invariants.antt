@@ -1,7 +1,7 @@
 use Rattle.std.proofs.Common.{drop}
 use Rattle.tasks.specs.trees.Node.{Grows}
-use Rattle.syntax_why.specs.declared.declarations.TheoryTree.{TheoryTree}
-use Rattle.syntax_why.specs.SurfaceDeclarations.{theory_of}
+use Rattle.surface.specs.declared.declarations.TheoryTree.{TheoryTree}
+use Rattle.surface.specs.SurfaceDeclarations.{theory_of}
 use Rattle.theories.specs.Files.{IsNewTheoryBy, IsNewFault}
 use Rattle.theories.specs.Sound.{AreSoundlyTyped}
 use Rattle.theories.specs.Right.{between_at, AreTheoriesRight}

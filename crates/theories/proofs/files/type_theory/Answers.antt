@@ -1,8 +1,8 @@
 use Rattle.std.proofs.Common.{ℕ, List, map, subst}
 use Rattle.std.proofs.lemmas.Result.{err_from_is_err_and, IfOk-weaker}
 use Rattle.tasks.proofs.trees.Nodes.{Grows_refl}
-use Rattle.syntax_why.specs.declared.declarations.DeclTree.{DeclTree}
-use Rattle.syntax_why.specs.SurfaceDeclarations.{decl_of, decls, theory_of}
+use Rattle.surface.specs.declared.declarations.DeclTree.{DeclTree}
+use Rattle.surface.specs.SurfaceDeclarations.{decl_of, decls, theory_of}
 use Rattle.theory_states.specs.declared.fault.SourceFault.{SourceFault}
 use Rattle.theory_states.specs.Meaning.{state_at}
 use Rattle.theories.specs.Typing.{AreFaulty}

@@ -1,7 +1,7 @@
 use Rattle.std.proofs.Common.{◌++◌, List, sym, ap, ◌∙◌}
 use Rattle.std.proofs.lemmas.Result.{on_ok_weaker}
 use Rattle.std.proofs.lemmas.List.Elements.{same_from_all_zip}
-use Rattle.syntax_why.specs.declared.declarations.Link.{Link}
+use Rattle.surface.specs.declared.declarations.Link.{Link}
 use Rattle.theory_states.specs.declared.moves.Move.{Move}
 use Rattle.theory_states.specs.Moves.{handed}
 use Rattle.theory_states.proofs.moves.hand_on.Goals as goal

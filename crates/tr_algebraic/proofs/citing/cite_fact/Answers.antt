@@ -1,7 +1,7 @@
 use Rattle.std.proofs.Common.{◌≡◌, Some, None, ◌∙◌}
 use Rattle.tasks.specs.trees.Node.{tree_at}
 use Rattle.tasks.specs.Meaning.{trees_at, task_at}
-use Rattle.algebraic_tasks.specs.declared.origins.PropositionOrigin.TheVariants.{Proposition, Law}
+use Rattle.tr_algebraic.specs.declared.algebraic_tasks.origins.PropositionOrigin.TheVariants.{Proposition, Law}
 use Rattle.tr_algebraic.proofs.Facts.{origin_is, other_old, image_there, law_there, law_below, none_there}
 use Rattle.tr_algebraic.proofs.citing.cite_fact.Goals as goal
 

@@ -3,7 +3,7 @@ use Rattle.tasks.specs.declared.task.Task.{Task}
 use Rattle.tasks.specs.Task.{TaskTree}
 use Rattle.tasks.specs.Meaning.{task_at, tasks_at}
 use Rattle.tasks.specs.Valid.{IsValid}
-use Rattle.draft_images.proofs.rewriting.Faults.{err_passed}
+use Rattle.walking.proofs.rewriting.Faults.{err_passed}
 use Rattle.tr_algebraic.proofs.Composed.{refused_is, plain_fault, plain_alone, is_answer}
 use Rattle.tr_algebraic.proofs.making.algebraic_tasks.Goals as goal
 

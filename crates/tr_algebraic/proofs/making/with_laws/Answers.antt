@@ -1,7 +1,7 @@
 use Rattle.std.proofs.Common.{List, ◌∷◌, [], sym, ap, subst, ◌∙◌}
 use Rattle.tasks.specs.Task.{TaskTree}
 use Rattle.tasks.specs.Valid.{IsValid}
-use Rattle.algebraic_tasks.specs.Plain.{task_with_laws}
+use Rattle.tr_algebraic.specs.algebraic_tasks.Plain.{task_with_laws}
 use Rattle.tr_algebraic.proofs.Composed.{first_at, first_there}
 use Rattle.tr_algebraic.proofs.making.with_laws.Goals as goal
 

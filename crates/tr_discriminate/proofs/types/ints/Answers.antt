@@ -4,7 +4,7 @@ use Rattle.tasks.specs.trees.Tree.{Tree}
 use Rattle.tasks.specs.trees.Sorts.{sort_of, int_type}
 use Rattle.tasks.specs.trees.Node.{tree_at}
 use Rattle.tasks.specs.Meaning.{trees_at}
-use Rattle.binders.specs.Visits.{HoldTypes}
+use Rattle.trees.specs.binders.Visits.{HoldTypes}
 use Rattle.tr_discriminate.proofs.Searching.{hold_push, ints_more}
 use Rattle.tr_discriminate.proofs.types.ints.Goals as goal
 

@@ -1,6 +1,6 @@
 use Rattle.std.proofs.Common.{◌≡◌}
 use Rattle.tasks.specs.Meaning.{trees_at}
-use Rattle.binders.specs.Visits.{HoldTypes}
+use Rattle.trees.specs.binders.Visits.{HoldTypes}
 use Rattle.tr_discriminate.specs.Found.{ints}
 use Rattle.tr_discriminate.proofs.types.ints.Given as goal
 

@@ -1,7 +1,7 @@
 use Rattle.std.proofs.Common.{sym, subst, ap, ◌∙◌}
 use Rattle.tasks.specs.Meaning.{trees_at}
 use Rattle.tasks.specs.trees.Node.{tree_at}
-use Rattle.binders.specs.Visits.{HoldTypes}
+use Rattle.trees.specs.binders.Visits.{HoldTypes}
 use Rattle.tr_discriminate.proofs.Searching.{hold_set, noted_set, noted_other}
 use Rattle.tr_discriminate.proofs.types.note_type.Goals as goal
 

@@ -2,7 +2,7 @@ use Rattle.std.proofs.Common.{◌≡◌, [], ◌∷◌, sym, ap, subst, ◌∙�
 use Rattle.tasks.specs.trees.Tree.{Tree}
 use Rattle.tasks.specs.trees.Node.{tree_at}
 use Rattle.tasks.specs.Task.{neg}
-use Rattle.congruence.specs.kernel.rule_rows.Forms.{alike}
+use Rattle.congruence.specs.kernel.rules.Forms.{alike}
 use Rattle.evidence.specs.Drafts.{Refutes}
 use Rattle.evidence.specs.Laws.{Extends_trans, AddsTrees_extends}
 use Rattle.evidence.proofs.Rules.{refutes_later}

@@ -3,8 +3,8 @@ use Rattle.trees.specs.Tree.{Tree}
 use Rattle.trees.specs.Node.{tree_at}
 use Rattle.tasks.specs.Meaning.{task_at}
 use Rattle.tasks.specs.Vocabulary.{of_task}
-use Rattle.rewriting.specs.changed_tasks.Limits.{IsLarge}
-use Rattle.full_bodies.proofs.inlining.typing_laws.Sorted.{typed_has}
+use Rattle.walking.specs.evidence.changed_tasks.Limits.{IsLarge}
+use Rattle.full_bodies.proofs.inlining.images.typing_laws.Sorted.{typed_has}
 use Rattle.full_bodies.specs.inlining.images.Images.{image}
 use Rattle.full_bodies.specs.declared.fault.InlineFault.TheVariants as fault
 use Rattle.full_bodies.specs.FullBodies.{rule_after}

@@ -13,7 +13,7 @@ use Rattle.tr_introduce.specs.Introduce.{prefix}
 use Rattle.tr_introduce.specs.Steps.{AreParamsBelow, EndsDraftAt}
 use Rattle.tr_introduce.proofs.Introduced.{prefix_inst}
 use Rattle.evidence.proofs.Ends.{wider_formulas, neg_back}
-use Rattle.task_parts.proofs.Opened.{kind, opened_formula, opened_below, below_later, left_formula, right_formula}
+use Rattle.evidence.proofs.task_parts.Opened.{kind, opened_formula, opened_below, below_later, left_formula, right_formula}
 use Rattle.tr_introduce.proofs.Opening.{opened_ends, opens_universal, opens_implication, wider_trees, wider_below, wider_ends, ends_here}
 use Rattle.tr_introduce.proofs.gluing.+glue.Goals as goal
 use Rattle.outside.proofs.Passed.{no_value}

@@ -1,4 +1,4 @@
-use Rattle.task_parts.proofs.One.{one_tree, one_held}
+use Rattle.evidence.proofs.task_parts.One.{one_tree, one_held}
 use Rattle.tr_introduce.proofs.introducing.introduced_tasks.Goals as goal
 use Rattle.outside.proofs.Passed.{no_value}
 

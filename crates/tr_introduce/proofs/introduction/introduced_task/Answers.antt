@@ -6,7 +6,7 @@ use Rattle.tasks.specs.Task.{TaskTree}
 use Rattle.tasks.specs.declared.declaration.Decl.{Decl}
 use Rattle.tasks.specs.Meaning.{task_at, trees_at, declarations_at, DeclHeld}
 use Rattle.tasks.proofs.Growth.{task_held_later, task_later}
-use Rattle.task_parts.specs.Parts.{task_with, ArePartsHeld}
+use Rattle.evidence.specs.task_parts.Parts.{task_with, ArePartsHeld}
 use Rattle.tr_introduce.specs.Introduce.{Judgement, introduced, judgement_of, with_judgement, judgement_at, prefix}
 use Rattle.tr_introduce.proofs.Introduced.{nothing_left}
 use Rattle.trees.proofs.Nodes.{Grows_refl}

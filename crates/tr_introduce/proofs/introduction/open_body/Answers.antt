@@ -3,7 +3,7 @@ use Rattle.std.proofs.lemmas.Result.{IfOk-weaker}
 use Rattle.trees.specs.Tree.{Tree}
 use Rattle.trees.specs.Node.{tree_at, Grows}
 use Rattle.trees.specs.Binding.{inst, Param}
-use Rattle.instances.specs.Instances.{IsInstance}
+use Rattle.tasks.specs.typed_trees.instances.Instances.{IsInstance}
 use Rattle.tr_introduce.proofs.introduction.open_body.Goals as goal
 use Rattle.outside.proofs.Passed.{no_value}
 

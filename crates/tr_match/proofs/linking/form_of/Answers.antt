@@ -1,9 +1,9 @@
 use Rattle.std.proofs.Common.{◌≡◌, sym, ap, subst, ◌∙◌}
-use Rattle.trees.specs.Node.{tree_at}
+use Rattle.tasks.specs.trees.Node.{tree_at}
 use Rattle.tasks.specs.Task.{TaskTree}
 use Rattle.tasks.specs.Vocabulary.{of_task}
 use Rattle.tasks.specs.Meaning.{task_at}
-use Rattle.rule_rewriting.specs.Rules.{HasTypingSomewhere}
+use Rattle.walking.specs.rule_rewriting.Rules.{HasTypingSomewhere}
 use Rattle.tr_match.proofs.linking.form_of.Goals as goal
 
 pub match_node-requires-clause-typed : goal.match_node-requires-clause-typed

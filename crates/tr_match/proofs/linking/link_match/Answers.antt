@@ -1,5 +1,5 @@
 use Rattle.std.proofs.Common.{◌∙◌, []}
-use Rattle.trees.specs.Node.{trees_at}
+use Rattle.tasks.specs.trees.Node.{trees_at}
 use Rattle.evidence.specs.Laws.{Extends_trans, AddsTrees_extends}
 use Rattle.congruence.proofs.Later.{tree_later}
 use Rattle.walking.specs.Places.{types_for}

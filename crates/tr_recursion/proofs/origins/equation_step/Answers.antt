@@ -2,7 +2,7 @@ use Rattle.std.proofs.Common.{◌≡◌, List, sym, subst}
 use Rattle.tasks.specs.trees.Node.{tree_at, trees_at}
 use Rattle.tasks.specs.trees.Tree.{Tree}
 use Rattle.tasks.specs.trees.Binding.{inst_types}
-use Rattle.binders.specs.Visits.{HoldTypes}
+use Rattle.trees.specs.binders.Visits.{HoldTypes}
 use Rattle.tr_recursion.proofs.Equations.{is_defined, ground_types, hold_types, branch_defined, branch_at}
 use Rattle.tr_recursion.proofs.origins.equation_step.Goals as goal
 

@@ -1,9 +1,9 @@
 use Rattle.std.proofs.Common.{List, [], ◌∷◌, sym, subst, ◌∙◌}
 use Rattle.trees.specs.Node.{tree_at}
 use Rattle.tasks.specs.Task.{neg}
-use Rattle.rule_rows.specs.Forms.{alike}
-use Rattle.proof_scripts.specs.declared.line.Line.{Line}
-use Rattle.proof_scripts.specs.Scripts.{LinesHeld, Follows, lines_at}
+use Rattle.rules.specs.Forms.{alike}
+use Rattle.evidence.specs.declared.proof_scripts.line.Line.{Line}
+use Rattle.evidence.specs.proof_scripts.Scripts.{LinesHeld, Follows, lines_at}
 use Rattle.tr_simplify.proofs.Evidence.{not_law, not_held, not_stays}
 use Rattle.tr_simplify.proofs.evidence_of_laws.alike_not.Goals as goal
 

@@ -1,7 +1,7 @@
 use Rattle.std.proofs.Common.{[], ◌∷◌, sym, subst}
 use Rattle.trees.specs.Tree.{Tree}
 use Rattle.evidence.specs.Laws.{AddsTrees_extends}
-use Rattle.proof_scripts.specs.Scripts.{Follows, lines_at}
+use Rattle.evidence.specs.proof_scripts.Scripts.{Follows, lines_at}
 use Rattle.tr_simplify.proofs.evidence_of_laws.refute_denial.Goals as goal
 
 pub derive-requires-clause-follow : goal.derive-requires-clause-follow

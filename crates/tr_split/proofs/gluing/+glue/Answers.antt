@@ -7,14 +7,14 @@ use Rattle.tasks.specs.trees.Node.{tree_at}
 use Rattle.tasks.specs.Task.{TaskTree, neg}
 use Rattle.tasks.specs.Valid.{IsGroundFormula}
 use Rattle.tasks.specs.Meaning.{trees_at}
-use Rattle.kernel.specs.rule_rows.Forms.{join}
-use Rattle.kernel.specs.rule_rows.Rows.{IsNew}
+use Rattle.kernel.specs.rules.Forms.{join}
+use Rattle.kernel.specs.rules.Rows.{IsNew}
 use Rattle.evidence.specs.Drafts.{Extends}
 use Rattle.evidence.proofs.Typed.{as_expression}
 use Rattle.evidence.specs.Laws.{Extends_trans, AddsTrees_extends, AddsTrees_refl, AddsTrees_trans}
 use Rattle.evidence.proofs.Formulas.{same, formulas_later, formula_later}
-use Rattle.proof_scripts.specs.declared.line.Line.TheVariants as line
-use Rattle.proof_scripts.specs.declared.line.Word.TheVariants as word
+use Rattle.evidence.specs.declared.proof_scripts.line.Line.TheVariants as line
+use Rattle.evidence.specs.declared.proof_scripts.line.Word.TheVariants as word
 use Rattle.tr_split.specs.parts.Split.{imp, split}
 use Rattle.tr_split.specs.parts.Glue.{EndsOfParts}
 use Rattle.tr_split.proofs.parts.Gained.{split_later}
@@ -23,7 +23,7 @@ use Rattle.tr_split.specs.Goals.{AreParamsBelow, splits}
 use Rattle.tr_split.proofs.Values.{left_below, joined_below, same_parts, opened_splits, valued_splits, then_below, else_below}
 use Rattle.tr_split.proofs.Glued.{lines_held, glued_none, glued_before, end_trees, regroup_back, opened_can}
 use Rattle.tr_split.proofs.Scripts.{true_follows, and_follows, and_then_follows, imp_follows, forall_at, let_at, if_at}
-use Rattle.task_parts.proofs.Opened.{premise_below, below_later, new_below}
+use Rattle.evidence.proofs.task_parts.Opened.{premise_below, below_later, new_below}
 use Rattle.evidence.proofs.Ends.{neg_back, wider_formulas, wider_is}
 use Rattle.tr_split.proofs.gluing.+glue.Goals as goal
 use Rattle.tasks.proofs.outside.Passed.{no_value}

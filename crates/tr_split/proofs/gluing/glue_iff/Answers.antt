@@ -2,13 +2,13 @@ use Rattle.std.proofs.Common.{◌≡◌, ◌∙◌, ◌∷◌, [], get_or, refl,
 use Rattle.tasks.specs.trees.declared.Op.TheVariants.{Iff, Imp}
 use Rattle.tasks.specs.trees.Node.{tree_at}
 use Rattle.tasks.specs.Meaning.{trees_at}
-use Rattle.kernel.specs.rule_rows.Forms.{join}
+use Rattle.kernel.specs.rules.Forms.{join}
 use Rattle.evidence.specs.Drafts.{Extends}
 use Rattle.evidence.specs.Laws.{Extends_trans, AddsTrees_extends, AddsTrees_trans}
 use Rattle.evidence.proofs.Rules.{refutes_later}
 use Rattle.evidence.proofs.Formulas.{same, formulas_later, formula_later}
-use Rattle.proof_scripts.specs.declared.line.Line.TheVariants as line
-use Rattle.proof_scripts.specs.declared.line.Word.TheVariants as word
+use Rattle.evidence.specs.declared.proof_scripts.line.Line.TheVariants as line
+use Rattle.evidence.specs.declared.proof_scripts.line.Word.TheVariants as word
 use Rattle.tr_split.specs.parts.Split.{imp, split}
 use Rattle.tr_split.specs.parts.Glue.{EndsOfParts}
 use Rattle.tr_split.proofs.parts.Pieces.{sides_of}

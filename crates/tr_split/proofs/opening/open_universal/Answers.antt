@@ -5,8 +5,8 @@ use Rattle.tasks.specs.trees.Binding.{inst, Param}
 use Rattle.tasks.specs.Meaning.{trees_at}
 use Rattle.evidence.specs.Laws.{Extends_trans, AddsTrees_extends, AddsTrees_trans}
 use Rattle.evidence.proofs.Formulas.{same, formulas_later, formula_later}
-use Rattle.instances.specs.Instances.{IsInstance}
-use Rattle.task_parts.proofs.Opened.{kind, opened_below}
+use Rattle.tasks.specs.typed_trees.instances.Instances.{IsInstance}
+use Rattle.evidence.proofs.task_parts.Opened.{kind, opened_below}
 use Rattle.tr_split.specs.parts.Split.{split}
 use Rattle.tr_split.specs.declared.over.Over.TheVariants as stands
 use Rattle.tr_split.specs.Over.{wholes, inners}

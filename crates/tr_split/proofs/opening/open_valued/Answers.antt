@@ -5,7 +5,7 @@ use Rattle.tasks.specs.trees.Binding.{inst}
 use Rattle.tasks.specs.Meaning.{trees_at}
 use Rattle.evidence.specs.Laws.{AddsTrees_extends, Extends_trans}
 use Rattle.evidence.proofs.Formulas.{same, formulas_later, formula_later}
-use Rattle.instances.specs.Instances.{IsInstance}
+use Rattle.tasks.specs.typed_trees.instances.Instances.{IsInstance}
 use Rattle.tr_split.specs.parts.Split.{split}
 use Rattle.tr_split.specs.declared.over.Over.TheVariants as stands
 use Rattle.tr_split.specs.Over.{wholes, inners}

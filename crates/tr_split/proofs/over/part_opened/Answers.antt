@@ -9,8 +9,8 @@ use Rattle.kernel.specs.Right.{IsGroundExpression}
 use Rattle.evidence.specs.Laws.{Extends_trans, AddsTrees_extends}
 use Rattle.evidence.proofs.Rules.{refutes_later}
 use Rattle.evidence.proofs.Formulas.{same, formulas_later, formula_later, one_formula}
-use Rattle.proof_scripts.specs.declared.line.Line.TheVariants as line
-use Rattle.proof_scripts.specs.declared.line.Word.TheVariants as word
+use Rattle.evidence.specs.declared.proof_scripts.line.Line.TheVariants as line
+use Rattle.evidence.specs.declared.proof_scripts.line.Word.TheVariants as word
 use Rattle.tr_split.specs.Over.{IsClosedIn}
 use Rattle.tr_split.proofs.Glued.{lines_held, end_trees}
 use Rattle.tr_split.proofs.Inner.{term_expression}

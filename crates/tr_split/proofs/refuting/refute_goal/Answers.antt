@@ -4,8 +4,8 @@ use Rattle.tasks.specs.Task.{neg}
 use Rattle.tasks.specs.Meaning.{trees_at}
 use Rattle.evidence.specs.Laws.{Extends_trans, AddsTrees_extends}
 use Rattle.evidence.proofs.Formulas.{same, formulas_later, one_formula}
-use Rattle.proof_scripts.specs.Scripts.{lines_at}
-use Rattle.proof_scripts.proofs.Following.{follows_later, lines_later, lines_same}
+use Rattle.evidence.specs.proof_scripts.Scripts.{lines_at}
+use Rattle.evidence.proofs.proof_scripts.Following.{follows_later, lines_later, lines_same}
 use Rattle.tr_split.proofs.Glued.{glued_none}
 use Rattle.evidence.proofs.Ends.{end_back}
 use Rattle.tr_split.proofs.refuting.refute_goal.Goals as goal

@@ -1,6 +1,6 @@
 use Rattle.std.proofs.Common.{[], ◌∷◌, sym, subst, All}
 use Rattle.trees.specs.Node.{Holds}
-use Rattle.rule_rows.specs.declared.rule.Rule.TheVariants as rule
+use Rattle.rules.specs.declared.rule.Rule.TheVariants as rule
 use Rattle.evidence.proofs.Rules.{step_right}
 use Rattle.evidence.proofs.Formulas.{none_formulas, cut_names, cut_added}
 use Rattle.evidence.proofs.draft.Draft.cut.Goals as goal

@@ -1,7 +1,7 @@
 use Rattle.std.proofs.Common.{[], ◌∷◌, sym, subst, All}
 use Rattle.trees.specs.Node.{Holds}
 use Rattle.tasks.specs.Meaning.{trees_at}
-use Rattle.rule_rows.specs.declared.rule.Rule.TheVariants as rule
+use Rattle.rules.specs.declared.rule.Rule.TheVariants as rule
 use Rattle.evidence.proofs.Rules.{step_right}
 use Rattle.evidence.proofs.Formulas.{none_formulas, keep_names, kept_added}
 use Rattle.evidence.proofs.draft.Draft.keep.Goals as goal

@@ -3,7 +3,7 @@ use Rattle.printed_problems.specs.printed_terms.Meaning.{printing}
 use Rattle.part_texts.specs.smt_texts.Text.{assertion}
 use Rattle.part_texts.proofs.smt_texts.Joins.{mapped_step}
 use Rattle.part_texts.proofs.smt_texts.lines.push_assertions.Goals as goal
-use Rattle.term_store.proofs.trees.plain_laws.Lists.{then_piece}
+use Rattle.tasks.proofs.plain_laws.Lists.{then_piece}
 use Rattle.tasks.proofs.outside.Passed.{no_ok}
 
 pub loop-formula-preserved : goal.loop-formula-preserved

@@ -1,10 +1,10 @@
 use Rattle.std.proofs.Common.{◌++◌, codes}
-use Rattle.term_store.specs.trees.Node.{tree_at}
+use Rattle.trees.specs.Node.{tree_at}
 use Rattle.printed_problems.specs.printed_terms.Texts.{formula_text}
 use Rattle.printed_problems.specs.printed_terms.Meaning.{printing}
 use Rattle.part_texts.proofs.smt_texts.Joins.{last_piece}
 use Rattle.part_texts.proofs.smt_texts.lines.push_goal.Goals as goal
-use Rattle.term_store.proofs.trees.plain_laws.Results.{ok_items}
+use Rattle.tasks.proofs.plain_laws.Results.{ok_items}
 use Rattle.tasks.proofs.outside.Passed.{no_ok}
 
 pub returns : goal.returns

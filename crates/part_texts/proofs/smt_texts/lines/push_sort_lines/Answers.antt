@@ -3,7 +3,7 @@ use Rattle.printed_problems.specs.printed_terms.Texts.{name_at}
 use Rattle.printed_problems.specs.printed_terms.Meaning.{printing}
 use Rattle.part_texts.specs.smt_texts.Text.{smt_sort_line}
 use Rattle.part_texts.proofs.smt_texts.lines.push_sort_lines.Goals as goal
-use Rattle.term_store.proofs.trees.plain_laws.Lists.{then_piece, lines_step}
+use Rattle.tasks.proofs.plain_laws.Lists.{then_piece, lines_step}
 use Rattle.tasks.proofs.outside.Passed.{no_ok}
 
 pub loop-place-preserved : goal.loop-place-preserved

@@ -1,7 +1,7 @@
 use Rattle.std.proofs.Common.{ℕ, List, ◌++◌, codes, ap, ◌∙◌}
 use Rattle.std.specs.List.{flat_map}
-use Rattle.term_store.specs.trees.declared.TermId.{TermId}
-use Rattle.term_store.specs.trees.Node.{tree_at}
+use Rattle.trees.specs.declared.TermId.{TermId}
+use Rattle.trees.specs.Node.{tree_at}
 use Rattle.tasks.specs.declared.signature.Signature.{Signature}
 use Rattle.tasks.specs.Meaning.{trees_at, symbols_at}
 use Rattle.printed_problems.specs.printed_terms.Problems.{line}
@@ -9,8 +9,8 @@ use Rattle.printed_problems.specs.printed_terms.Meaning.{printing}
 use Rattle.part_texts.specs.smt_texts.Text.{smt_head_line, smt_sort_line, smt_symbol_line, smt_parameter_lines, assertion, smt_goal_line}
 use Rattle.part_texts.proofs.smt_texts.Joins.{last_piece}
 use Rattle.part_texts.proofs.smt_texts.text.push_problem.Goals as goal
-use Rattle.term_store.proofs.trees.plain_laws.Lists.{then_piece}
-use Rattle.term_store.proofs.trees.plain_laws.Results.{ok_items}
+use Rattle.tasks.proofs.plain_laws.Lists.{then_piece}
+use Rattle.tasks.proofs.plain_laws.Results.{ok_items}
 use Rattle.tasks.proofs.outside.Passed.{no_ok}
 
 pub returns : goal.returns

@@ -3,7 +3,7 @@ use Rattle.std.specs.Fmt.{decimal}
 use Rattle.printed_problems.specs.printed_terms.Meaning.{printing}
 use Rattle.part_texts.proofs.tff_texts.Joins.{axiom_step}
 use Rattle.part_texts.proofs.tff_texts.lines.push_axioms.Goals as goal
-use Rattle.term_store.proofs.trees.plain_laws.Lists.{then_piece}
+use Rattle.tasks.proofs.plain_laws.Lists.{then_piece}
 use Rattle.tasks.proofs.outside.Passed.{no_ok}
 
 pub loop-number-preserved : goal.loop-number-preserved

@@ -4,8 +4,8 @@ use Rattle.printed_problems.specs.printed_terms.Meaning.{printing}
 use Rattle.part_texts.specs.tff_texts.Text.{tff_typed, arguments_text, tff_result_text}
 use Rattle.part_texts.proofs.tff_texts.Joins.{last_piece}
 use Rattle.part_texts.proofs.tff_texts.lines.push_rank.Goals as goal
-use Rattle.term_store.proofs.trees.plain_laws.Lists.{then_piece}
-use Rattle.term_store.proofs.trees.plain_laws.Results.{ok_items}
+use Rattle.tasks.proofs.plain_laws.Lists.{then_piece}
+use Rattle.tasks.proofs.plain_laws.Results.{ok_items}
 use Rattle.tasks.proofs.outside.Passed.{no_ok}
 
 pub returns : goal.returns

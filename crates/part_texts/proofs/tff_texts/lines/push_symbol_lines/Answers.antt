@@ -2,7 +2,7 @@ use Rattle.tasks.specs.Meaning.{symbols_at}
 use Rattle.printed_problems.specs.printed_terms.Meaning.{printing}
 use Rattle.part_texts.specs.tff_texts.Text.{tff_symbol_line}
 use Rattle.part_texts.proofs.tff_texts.lines.push_symbol_lines.Goals as goal
-use Rattle.term_store.proofs.trees.plain_laws.Lists.{lines_step}
+use Rattle.tasks.proofs.plain_laws.Lists.{lines_step}
 use Rattle.tasks.proofs.outside.Passed.{no_ok}
 
 pub loop-place-preserved : goal.loop-place-preserved

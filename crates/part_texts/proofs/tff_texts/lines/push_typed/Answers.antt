@@ -1,8 +1,8 @@
 use Rattle.std.proofs.Common.{◌++◌, codes}
 use Rattle.part_texts.proofs.tff_texts.Joins.{last_piece}
 use Rattle.part_texts.proofs.tff_texts.lines.push_typed.Goals as goal
-use Rattle.term_store.proofs.trees.plain_laws.Lists.{then_piece}
-use Rattle.term_store.proofs.trees.plain_laws.Results.{ok_items}
+use Rattle.tasks.proofs.plain_laws.Lists.{then_piece}
+use Rattle.tasks.proofs.plain_laws.Results.{ok_items}
 use Rattle.tasks.proofs.outside.Passed.{no_ok}
 
 pub returns : goal.returns

@@ -1,7 +1,7 @@
 use Rattle.std.proofs.Common.{ℕ, List, ◌++◌, ap, ◌∙◌}
 use Rattle.std.specs.List.{flat_map}
-use Rattle.term_store.specs.trees.declared.TermId.{TermId}
-use Rattle.term_store.specs.trees.Node.{tree_at}
+use Rattle.trees.specs.declared.TermId.{TermId}
+use Rattle.trees.specs.Node.{tree_at}
 use Rattle.tasks.specs.declared.signature.Signature.{Signature}
 use Rattle.tasks.specs.Meaning.{trees_at, symbols_at}
 use Rattle.printed_problems.specs.printed_terms.Problems.{line}
@@ -9,7 +9,7 @@ use Rattle.printed_problems.specs.printed_terms.Meaning.{printing}
 use Rattle.part_texts.specs.tff_texts.Text.{tff_head_line, tff_sort_line, tff_symbol_line, tff_parameter_lines, axiom_lines, tff_goal_line}
 use Rattle.part_texts.proofs.tff_texts.Joins.{last_piece}
 use Rattle.part_texts.proofs.tff_texts.text.push_problem.Goals as goal
-use Rattle.term_store.proofs.trees.plain_laws.Lists.{then_piece}
+use Rattle.tasks.proofs.plain_laws.Lists.{then_piece}
 use Rattle.tasks.proofs.outside.Passed.{no_ok}
 
 pub returns : goal.returns

@@ -1,5 +1,5 @@
 use Rattle.std.proofs.Common.{◌≡◌, map, List, OnOk, sym, ap, subst, ◌∙◌}
-use Rattle.term_store.specs.trees.declared.TermId.{TermId}
+use Rattle.trees.specs.declared.TermId.{TermId}
 use Rattle.tasks.specs.Meaning.{trees_at}
 use Rattle.name_tables.specs.Seen.{occurrence_at}
 use Rattle.printed_problems.specs.printed_terms.Texts.{sort_by, printed_sort, sort_text}

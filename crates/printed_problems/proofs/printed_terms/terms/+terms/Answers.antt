@@ -1,7 +1,7 @@
 use Rattle.std.proofs.Common.{◌≡◌, ℕ, ◌++◌, map, List, Vec, Global, OnOk, sym, ap, subst, ◌∙◌}
 use Rattle.std.proofs.lemmas.List.{append-nil}
-use Rattle.term_store.specs.trees.declared.TermId.{TermId}
-use Rattle.term_store.specs.trees.Node.{tree_at}
+use Rattle.trees.specs.declared.TermId.{TermId}
+use Rattle.trees.specs.Node.{tree_at}
 use Rattle.tasks.specs.Meaning.{trees_at}
 use Rattle.name_tables.specs.Occurrences.{occurrence}
 use Rattle.printed_problems.specs.printed_terms.Texts.{symbol_text, printed, term_text}

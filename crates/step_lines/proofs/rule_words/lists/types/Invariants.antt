@@ -1,5 +1,5 @@
 use Rattle.std.proofs.Common.{◌≡◌, All, drop}
-use Rattle.term_store.specs.trees.Node.{Holds}
+use Rattle.trees.specs.Node.{Holds}
 use Rattle.tasks.specs.Meaning.{trees_at}
 use Rattle.step_lines.specs.rule_words.Arguments.{arguments_at, type_in}
 use Rattle.step_lines.specs.rule_words.Forms.{each_argument, each_from}

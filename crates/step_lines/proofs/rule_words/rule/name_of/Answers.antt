@@ -1,5 +1,5 @@
 use Rattle.std.proofs.Common.{◌≡◌, sym, ap}
-use Rattle.rule_rows.specs.declared.rule.Rule.{Rule}
+use Rattle.rules.specs.declared.rule.Rule.{Rule}
 use Rattle.step_lines.specs.rule_words.Written.{name_and_arguments}
 use Rattle.step_lines.proofs.rule_words.rule.name_of.Goals as goal
 

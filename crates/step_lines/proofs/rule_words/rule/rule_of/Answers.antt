@@ -1,5 +1,5 @@
 use Rattle.std.proofs.Common.{◌≡◌, List, Option, sym, ap, ◌∙◌}
-use Rattle.rule_rows.specs.Trees.{RuleTree, RAnd, RAndThen, RCase, RClash, RCut, RDistinct, RExists, RFalse, RForall, RIfDef, RIff, RImp, RInject, RIrrefl, RLetDef, RMatchDef, RNotAnd, RNotAndThen, RNotExists, RNotForall, RNotIff, RNotImp, RNotNot, RNotOr, RNotOrElse, RNotTrue, ROr, ROrElse, RProject, RRefl, RReplace, RTrichotomy}
+use Rattle.rules.specs.Trees.{RuleTree, RAnd, RAndThen, RCase, RClash, RCut, RDistinct, RExists, RFalse, RForall, RIfDef, RIff, RImp, RInject, RIrrefl, RLetDef, RMatchDef, RNotAnd, RNotAndThen, RNotExists, RNotForall, RNotIff, RNotImp, RNotNot, RNotOr, RNotOrElse, RNotTrue, ROr, ROrElse, RProject, RRefl, RReplace, RTrichotomy}
 use Rattle.step_lines.specs.declared.rule_words.name.RuleName.{RuleName}
 use Rattle.step_lines.specs.rule_words.Arguments.{ArgumentTree, arguments_at}
 use Rattle.step_lines.specs.rule_words.Rules.{rule_from}

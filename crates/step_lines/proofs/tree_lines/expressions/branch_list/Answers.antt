@@ -1,8 +1,8 @@
 use Rattle.std.proofs.Common.{◌≡◌, ◌-◌, ◌<◌, Some, Option, List, get_or, subst, ◌∙◌, arith}
-use Rattle.term_store.specs.trees.declared.TermId.{TermId}
-use Rattle.term_store.specs.trees.Tree.{Tree, Two, HCell}
-use Rattle.term_store.specs.trees.Node.{tree_at}
-use Rattle.term_store.proofs.trees.Nodes.{Grows_trans}
+use Rattle.trees.specs.declared.TermId.{TermId}
+use Rattle.trees.specs.Tree.{Tree, Two, HCell}
+use Rattle.trees.specs.Node.{tree_at}
+use Rattle.trees.proofs.Nodes.{Grows_trans}
 use Rattle.step_lines.specs.tree_lines.Made.{IsTreeMade, branch_at}
 use Rattle.step_lines.proofs.tree_lines.Growing.{branch_more, branches_refused}
 use Rattle.step_lines.proofs.tree_lines.expressions.branch_list.Goals as goal

@@ -1,5 +1,5 @@
 use Rattle.std.proofs.Common.{◌≡◌, ◌≤◌, length, map, drop}
-use Rattle.term_store.specs.trees.Node.{tree_at, Holds, Grows}
+use Rattle.trees.specs.Node.{tree_at, Holds, Grows}
 use Rattle.step_lines.specs.tree_lines.Named.{cells}
 use Rattle.step_lines.specs.tree_lines.Made.{branch_at}
 use Rattle.step_lines.proofs.tree_lines.expressions.branch_list.Given as goal

@@ -1,5 +1,5 @@
 use Rattle.std.proofs.Common.{Option, IfOk, subst}
-use Rattle.term_store.specs.trees.Tree.{Tree}
+use Rattle.trees.specs.Tree.{Tree}
 use Rattle.step_lines.specs.tree_lines.Made.{IsTreeMade}
 use Rattle.step_lines.proofs.tree_lines.Branches.{case_made, case_refused}
 use Rattle.step_lines.proofs.tree_lines.expressions.case_of_branches.Goals as goal

@@ -1,5 +1,5 @@
 use Rattle.std.proofs.Common.{Option, IfOk, subst}
-use Rattle.term_store.specs.trees.Tree.{Tree}
+use Rattle.trees.specs.Tree.{Tree}
 use Rattle.tasks.specs.Meaning.{task_at}
 use Rattle.step_lines.specs.tree_lines.Words.{texts}
 use Rattle.step_lines.specs.tree_lines.Made.{IsTreeMade, earlier_at}

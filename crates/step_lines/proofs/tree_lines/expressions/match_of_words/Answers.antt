@@ -3,9 +3,9 @@ use Rattle.std.proofs.lemmas.Option.{none-some}
 use Rattle.std.specs.Option.{option_map}
 use Rattle.std.specs.Borrow.{Bor}
 use Rattle.step_lines.proofs.tree_lines.Making.{slice_left}
-use Rattle.term_store.specs.trees.declared.TermId.{TermId}
-use Rattle.term_store.specs.trees.Tree.{Tree}
-use Rattle.term_store.specs.trees.Node.{tree_at}
+use Rattle.trees.specs.declared.TermId.{TermId}
+use Rattle.trees.specs.Tree.{Tree}
+use Rattle.trees.specs.Node.{tree_at}
 use Rattle.tasks.specs.Meaning.{task_at}
 use Rattle.step_lines.specs.tree_lines.Words.{LineWord, texts, at_number, pairs}
 use Rattle.step_lines.specs.tree_lines.Lines.{match_tree}

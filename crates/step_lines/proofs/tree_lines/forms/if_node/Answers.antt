@@ -1,4 +1,4 @@
-use Rattle.term_store.specs.trees.Tree.{Three, HIf}
+use Rattle.trees.specs.Tree.{Three, HIf}
 use Rattle.tasks.specs.Meaning.{trees_at}
 use Rattle.step_lines.specs.tree_lines.Words.{at_number}
 use Rattle.step_lines.proofs.tree_lines.Others.{three_short, three_long}

@@ -1,4 +1,4 @@
-use Rattle.term_store.specs.trees.Node.{tree_at}
+use Rattle.trees.specs.Node.{tree_at}
 use Rattle.step_lines.proofs.tree_lines.Others.{variable_other}
 use Rattle.step_lines.proofs.tree_lines.forms.over_number.Goals as goal
 

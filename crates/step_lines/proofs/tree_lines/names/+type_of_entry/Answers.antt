@@ -1,10 +1,10 @@
 use Rattle.std.proofs.Common.{◌≡◌, ℕ, ◌-◌, ◌<◌, None, get_or, IfOk, Option, List, sym, ap, subst, ◌∙◌, arith}
 use Rattle.std.specs.Option.{option_map}
-use Rattle.term_store.specs.trees.declared.TermId.{TermId}
-use Rattle.term_store.specs.trees.Tree.{Tree}
-use Rattle.term_store.specs.trees.Node.{tree_at}
-use Rattle.term_store.proofs.trees.Nodes.{Grows_trans}
-use Rattle.binders.specs.Visits.{HoldTypes}
+use Rattle.trees.specs.declared.TermId.{TermId}
+use Rattle.trees.specs.Tree.{Tree}
+use Rattle.trees.specs.Node.{tree_at}
+use Rattle.trees.proofs.Nodes.{Grows_trans}
+use Rattle.trees.specs.binders.Visits.{HoldTypes}
 use Rattle.tasks.specs.Meaning.{trees_at}
 use Rattle.step_lines.specs.tree_lines.Named.{named_type_at, entry_type}
 use Rattle.step_lines.proofs.tree_lines.Lists.{each_missing, each_done}

@@ -1,7 +1,7 @@
 use Rattle.std.proofs.Common.{◌≡◌, ◌++◌, ◌-◌, drop}
 use Rattle.std.specs.Option.{option_map}
-use Rattle.term_store.specs.trees.Node.{Grows}
-use Rattle.binders.specs.Visits.{HoldTypes}
+use Rattle.trees.specs.Node.{Grows}
+use Rattle.trees.specs.binders.Visits.{HoldTypes}
 use Rattle.tasks.specs.Meaning.{trees_at}
 use Rattle.step_lines.specs.tree_lines.Words.{each}
 use Rattle.step_lines.specs.tree_lines.Named.{entry_type}

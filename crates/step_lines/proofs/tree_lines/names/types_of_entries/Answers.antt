@@ -1,8 +1,8 @@
 use Rattle.std.proofs.Common.{◌≡◌, ℕ, None, Option, length, get_or, sym, ap, ◌∙◌}
 use Rattle.std.specs.Option.{option_map}
-use Rattle.term_store.specs.trees.Tree.{Tree}
-use Rattle.term_store.specs.trees.Node.{tree_at}
-use Rattle.term_store.proofs.trees.Nodes.{Grows_trans}
+use Rattle.trees.specs.Tree.{Tree}
+use Rattle.trees.specs.Node.{tree_at}
+use Rattle.trees.proofs.Nodes.{Grows_trans}
 use Rattle.tasks.specs.Meaning.{trees_at}
 use Rattle.step_lines.specs.tree_lines.Named.{entry_type}
 use Rattle.step_lines.proofs.tree_lines.Lists.{each_missing, each_done}

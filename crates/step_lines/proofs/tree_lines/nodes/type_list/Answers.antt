@@ -1,7 +1,7 @@
 use Rattle.std.proofs.Common.{◌-◌, ◌<◌, length, get_or, arith}
-use Rattle.term_store.specs.trees.declared.TermId.{TermId}
-use Rattle.term_store.specs.trees.Node.{tree_at}
-use Rattle.term_store.proofs.trees.Nodes.{Grows_trans}
+use Rattle.trees.specs.declared.TermId.{TermId}
+use Rattle.trees.specs.Node.{tree_at}
+use Rattle.trees.proofs.Nodes.{Grows_trans}
 use Rattle.step_lines.proofs.tree_lines.Growing.{type_there, type_held, type_fits, list_more, types_sort}
 use Rattle.step_lines.proofs.tree_lines.nodes.type_list.Goals as goal
 

@@ -1,7 +1,7 @@
 use Rattle.std.proofs.Common.{◌≡◌, ◌≤◌, length, drop}
-use Rattle.term_store.specs.trees.declared.Sort.TheVariants.{Kind}
-use Rattle.term_store.specs.trees.Node.{tree_at, Holds, Grows}
-use Rattle.term_store.specs.trees.Sorts.{IsList}
+use Rattle.trees.specs.declared.Sort.TheVariants.{Kind}
+use Rattle.trees.specs.Node.{tree_at, Holds, Grows}
+use Rattle.trees.specs.Sorts.{IsList}
 use Rattle.tasks.specs.Meaning.{trees_at}
 use Rattle.step_lines.specs.tree_lines.Named.{cells}
 use Rattle.step_lines.proofs.tree_lines.nodes.type_list.Given as goal

@@ -1,6 +1,6 @@
 use Rattle.std.proofs.Common.{◌++◌, List, IfSome, Option, sym, ap, subst, ◌∙◌}
-use Rattle.term_store.specs.trees.declared.TermId.{TermId}
-use Rattle.binders.specs.Visits.{HoldTypes}
+use Rattle.trees.specs.declared.TermId.{TermId}
+use Rattle.trees.specs.binders.Visits.{HoldTypes}
 use Rattle.step_lines.specs.tree_lines.Words.{texts}
 use Rattle.step_lines.proofs.tree_lines.Growing.{types_held, types_joined}
 use Rattle.step_lines.proofs.tree_lines.Making.{types_made, types_missing, each_types}

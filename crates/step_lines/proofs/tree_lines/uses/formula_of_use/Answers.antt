@@ -1,6 +1,6 @@
 use Rattle.std.proofs.Common.{Some, List, Option, IfOk, ap, subst, ◌∙◌}
-use Rattle.term_store.specs.trees.declared.TermId.{TermId}
-use Rattle.term_store.specs.trees.Tree.{Tree}
+use Rattle.trees.specs.declared.TermId.{TermId}
+use Rattle.trees.specs.Tree.{Tree}
 use Rattle.tasks.specs.Meaning.{trees_at}
 use Rattle.step_lines.specs.tree_lines.Named.{cells}
 use Rattle.step_lines.specs.tree_lines.Made.{IsTreeMade}

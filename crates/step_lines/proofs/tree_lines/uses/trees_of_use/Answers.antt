@@ -1,8 +1,8 @@
 use Rattle.std.proofs.Common.{Some, List, ap, sym, subst, ◌∙◌}
-use Rattle.term_store.specs.trees.declared.TermId.{TermId}
-use Rattle.term_store.specs.trees.Node.{tree_at}
-use Rattle.term_store.specs.trees.Binding.{inst_types}
-use Rattle.binders.specs.Visits.{HoldTypes, typing_stays_ready}
+use Rattle.trees.specs.declared.TermId.{TermId}
+use Rattle.trees.specs.Node.{tree_at}
+use Rattle.trees.specs.Binding.{inst_types}
+use Rattle.trees.specs.binders.Visits.{HoldTypes, typing_stays_ready}
 use Rattle.tasks.specs.Meaning.{trees_at}
 use Rattle.step_lines.specs.tree_lines.Named.{cells}
 use Rattle.step_lines.specs.tree_lines.Made.{IsTreeMade}

@@ -2,8 +2,8 @@ use Rattle.std.proofs.Common.{◌≡◌, ℕ, ◌-◌, min, List, length, All, I
 use Rattle.std.specs.Option.{option_map}
 use Rattle.std.specs.Borrow.{Bor}
 use Rattle.std.proofs.lemmas.List.{length-map}
-use Rattle.term_store.specs.trees.declared.TermId.{TermId}
-use Rattle.term_store.specs.trees.Node.{tree_at, Holds}
+use Rattle.trees.specs.declared.TermId.{TermId}
+use Rattle.trees.specs.Node.{tree_at, Holds}
 use Rattle.tasks.specs.Meaning.{trees_at, task_at, symbol_at}
 use Rattle.step_lines.specs.tree_lines.Words.{LineWord, texts, at_number, each}
 use Rattle.step_lines.specs.tree_lines.Made.{named_meaning, earlier_at}

@@ -1,6 +1,6 @@
 use Rattle.std.proofs.Common.{sym, ap, ◌∙◌}
 use Rattle.std.proofs.lemmas.List.{drop_all}
-use Rattle.integer_words.specs.Integers.{number_from}
+use Rattle.word_tables.specs.integers.Integers.{number_from}
 use Rattle.step_lines.proofs.tree_lines.Digits.{digit_more, too_low, too_high, too_large}
 use Rattle.step_lines.proofs.tree_lines.words.digits.Goals.{then-c-lt48-via-then-c-lt48, then-c-lt48-via-else-c-lt48+then-c-gt57}
 use Rattle.step_lines.proofs.tree_lines.words.digits.Goals as goal

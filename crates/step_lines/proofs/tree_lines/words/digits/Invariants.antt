@@ -1,5 +1,5 @@
 use Rattle.std.proofs.Common.{◌≡◌, ◌<◌, drop}
-use Rattle.integer_words.specs.Integers.{number_from}
+use Rattle.word_tables.specs.integers.Integers.{number_from}
 use Rattle.step_lines.proofs.tree_lines.words.digits.Given as goal
 
 abbrev pub invariant-loop-c : goal.invariant-loop-c

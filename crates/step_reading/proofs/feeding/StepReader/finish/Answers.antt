@@ -4,8 +4,8 @@ use Rattle.tasks.specs.Task.{TaskTree}
 use Rattle.tasks.specs.Meaning.{task_at}
 use Rattle.tasks.proofs.Growth.{task_held_later, task_later}
 use Rattle.kernel.specs.Right.{last_starts, Closes}
-use Rattle.rule_rows.specs.declared.rule.Step.{Step}
-use Rattle.rule_rows.specs.Meaning.{steps_at, StepsHeld}
+use Rattle.rules.specs.declared.rule.Step.{Step}
+use Rattle.rules.specs.Meaning.{steps_at, StepsHeld}
 use Rattle.step_reading.specs.Words.{lines_of}
 use Rattle.step_reading.specs.Lines.{StepsOf}
 use Rattle.step_reading.specs.Reading.{reading_at}

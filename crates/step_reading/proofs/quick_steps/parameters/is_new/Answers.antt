@@ -2,8 +2,8 @@ use Rattle.std.proofs.Common.{◌≡◌, ℕ, true, false, below_more, sym, ◌�
 use Rattle.tasks.specs.trees.Tree.{Tree}
 use Rattle.tasks.specs.trees.Facts.{has_param}
 use Rattle.tasks.specs.trees.Node.{tree_at}
-use Rattle.rule_rows.specs.Meaning.{no_id}
-use Rattle.rule_rows.proofs.Sequents.{made_yes, made_no}
+use Rattle.rules.specs.Meaning.{no_id}
+use Rattle.rules.proofs.Sequents.{made_yes, made_no}
 use Rattle.step_reading.proofs.quick_steps.parameters.is_new.Goals as goal
 
 abbrev lacks : ℕ → Tree → Type 0

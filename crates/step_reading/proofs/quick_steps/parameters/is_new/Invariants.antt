@@ -1,7 +1,7 @@
 use Rattle.std.proofs.Common.{◌≡◌, ℕ, ◌<◌, get_or, false}
 use Rattle.tasks.specs.trees.Facts.{has_param}
 use Rattle.tasks.specs.trees.Node.{tree_at}
-use Rattle.rule_rows.specs.Meaning.{no_id}
+use Rattle.rules.specs.Meaning.{no_id}
 use Rattle.step_reading.specs.quick_steps.Parameters.{LackParameter}
 use Rattle.step_reading.proofs.quick_steps.parameters.is_new.Given as goal
 

@@ -2,8 +2,8 @@ use Rattle.std.proofs.Common.{below_more, refl}
 use Rattle.tasks.specs.trees.Node.{tree_at}
 use Rattle.tasks.specs.Valid.{IsGroundFormula}
 use Rattle.tasks.specs.Meaning.{task_at}
-use Rattle.rule_rows.specs.Meaning.{no_id}
-use Rattle.rule_rows.proofs.Sequents.{made_yes}
+use Rattle.rules.specs.Meaning.{no_id}
+use Rattle.rules.proofs.Sequents.{made_yes}
 use Rattle.step_reading.proofs.quick_steps.ready.are_sentences.Goals as goal
 
 pub returns : goal.returns

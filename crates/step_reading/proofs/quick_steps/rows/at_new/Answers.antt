@@ -3,8 +3,8 @@ use Rattle.std.specs.Option.{option_map}
 use Rattle.tasks.specs.trees.Binding.{inst}
 use Rattle.tasks.specs.trees.Node.{tree_at}
 use Rattle.tasks.proofs.trees.Nodes.{Grows_trans}
-use Rattle.rule_rows.specs.Meaning.{pair_at, PairHeld}
-use Rattle.rule_rows.proofs.Sequents.{so, not_so}
+use Rattle.rules.specs.Meaning.{pair_at, PairHeld}
+use Rattle.rules.proofs.Sequents.{so, not_so}
 use Rattle.step_reading.specs.quick_steps.Places.{sequent_here, premises_here}
 use Rattle.step_reading.proofs.quick_steps.Places.{place_later}
 use Rattle.step_reading.proofs.quick_steps.Told.{at_new_told, at_old_told}

@@ -1,8 +1,8 @@
 use Rattle.std.proofs.Common.{ap}
 use Rattle.std.specs.Option.{option_map}
 use Rattle.tasks.specs.trees.Node.{tree_at}
-use Rattle.rule_rows.specs.Meaning.{pair_at}
-use Rattle.rule_rows.proofs.Sequents.{so}
+use Rattle.rules.specs.Meaning.{pair_at}
+use Rattle.rules.proofs.Sequents.{so}
 use Rattle.step_reading.proofs.quick_steps.Places.{place_later}
 use Rattle.step_reading.proofs.quick_steps.Told.{at_term_told}
 use Rattle.step_reading.proofs.quick_steps.rows.at_term.Goals as goal

@@ -2,9 +2,9 @@ use Rattle.std.proofs.Common.{◌≡◌, true, sym, ap, ◌∙◌}
 use Rattle.tasks.specs.trees.Binding.{inst}
 use Rattle.tasks.specs.trees.Node.{tree_at}
 use Rattle.tasks.proofs.trees.Nodes.{Grows_trans}
-use Rattle.rule_rows.specs.Rows.{IsTemplate}
-use Rattle.rule_rows.proofs.Sequents.{so, not_so}
-use Rattle.rule_rows.proofs.Templates.{template_is}
+use Rattle.rules.specs.Rows.{IsTemplate}
+use Rattle.rules.proofs.Sequents.{so, not_so}
+use Rattle.rules.proofs.Templates.{template_is}
 use Rattle.step_reading.specs.quick_steps.Places.{task_here, sequent_here, premises_here}
 use Rattle.step_reading.proofs.quick_steps.Places.{place_later}
 use Rattle.step_reading.proofs.quick_steps.Told.{adds_made, other_type, replaced_told}

@@ -3,7 +3,7 @@ use Rattle.std.proofs.lemmas.List.{length-map}
 use Rattle.std.proofs.lemmas.List.Elements.{All-nil}
 use Rattle.tasks.specs.Meaning.{task_at}
 use Rattle.tasks.specs.Valid.{IsTypeOver}
-use Rattle.rule_rows.specs.Meaning.{steps_at}
+use Rattle.rules.specs.Meaning.{steps_at}
 use Rattle.kernel.proofs.Complete.{all_closed, step_right}
 use Rattle.step_reading.proofs.quick_steps.steps.is_right_step.Goals as goal
 

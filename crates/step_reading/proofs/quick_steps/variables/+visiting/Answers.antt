@@ -2,7 +2,7 @@ use Rattle.std.proofs.Common.{◌≡◌, sym, subst, ap, ◌∙◌, arith}
 use Rattle.tasks.specs.trees.declared.Parts.TheVariants as parts
 use Rattle.tasks.specs.trees.Tree.{One, Two, Three}
 use Rattle.tasks.specs.trees.Node.{tree_at, parts_of, head_of_node, assemble}
-use Rattle.binders.proofs.Telling.{is_above}
+use Rattle.trees.proofs.binders.Telling.{is_above}
 use Rattle.step_reading.specs.quick_steps.Variables.{types_bound, ToldOfTree}
 use Rattle.step_reading.proofs.quick_steps.Seen.{closed_told, no_variable, one_told, two_first, two_told, three_first, three_second, three_told, seen_more}
 use Rattle.step_reading.proofs.quick_steps.variables.+visiting.Goals as goal

@@ -4,7 +4,7 @@ use Rattle.std.specs.Option.{option_map}
 use Rattle.std.specs.HashMap.{get}
 use Rattle.tasks.specs.trees.declared.TermId.{TermId}
 use Rattle.tasks.specs.Meaning.{trees_at}
-use Rattle.name_tables.specs.name_entries.declared.names.NameEntry.{NameEntry}
+use Rattle.name_tables.specs.declared.name_entries.names.NameEntry.{NameEntry}
 use Rattle.step_lines.specs.tree_lines.Named.{meaning, cells}
 use Rattle.step_lines.specs.tree_lines.Made.{named_meaning}
 use Rattle.step_writing.specs.tree_writing.Spelt.{Key, same_key}

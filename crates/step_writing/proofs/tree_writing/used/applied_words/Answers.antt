@@ -7,7 +7,7 @@ use Rattle.step_writing.specs.tree_writing.Used.{IsUsed}
 use Rattle.step_writing.proofs.tree_writing.UsedBack.{fun_back, pred_back}
 use Rattle.step_writing.proofs.tree_writing.Reading.{if_ok}
 use Rattle.step_writing.proofs.tree_writing.used.applied_words.Goals as goal
-use Rattle.tasks.proofs.trees.plain_laws.Options.{some_and}
+use Rattle.tasks.proofs.plain_laws.Options.{some_and}
 
 pub returns-in-Fun : goal.returns-in-Fun
 returns-in-Fun c =

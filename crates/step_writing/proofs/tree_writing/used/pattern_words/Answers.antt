@@ -7,7 +7,7 @@ use Rattle.step_writing.specs.tree_writing.Used.{IsUsed, HasPatternForm}
 use Rattle.step_writing.proofs.tree_writing.UsedBack.{any_back, var_back, alias_back, con_back, no_other_pattern}
 use Rattle.step_writing.proofs.tree_writing.Reading.{if_ok}
 use Rattle.step_writing.proofs.tree_writing.used.pattern_words.Goals as goal
-use Rattle.tasks.proofs.trees.plain_laws.Options.{some_and}
+use Rattle.tasks.proofs.plain_laws.Options.{some_and}
 
 pub unreachable-requires : goal.unreachable-requires
 unreachable-requires c =

@@ -3,8 +3,8 @@ use Rattle.tasks.specs.trees.Tree.{Tree}
 use Rattle.tasks.specs.trees.Node.{tree_at}
 use Rattle.tasks.specs.trees.Sorts.{WellSorted}
 use Rattle.tasks.specs.Typing.{members}
-use Rattle.name_tables.specs.name_entries.declared.names.NameOf.{NameOf}
-use Rattle.name_tables.specs.name_entries.declared.names.NameOf.TheVariants.{Rigid, Symbol}
+use Rattle.name_tables.specs.declared.name_entries.names.NameOf.{NameOf}
+use Rattle.name_tables.specs.declared.name_entries.names.NameOf.TheVariants.{Rigid, Symbol}
 use Rattle.step_writing.specs.tree_writing.Spelt.{IsSpelt}
 use Rattle.step_writing.specs.tree_writing.Whole.{TopNamed}
 use Rattle.step_writing.proofs.tree_writing.Cells.{is_cells}

@@ -1,6 +1,6 @@
 use Rattle.std.proofs.Common.{sym}
 use Rattle.tasks.specs.Meaning.{task_at}
-use Rattle.task_parts.proofs.One.{one_tree, one_held}
+use Rattle.evidence.proofs.task_parts.One.{one_tree, one_held}
 use Rattle.tr_discriminate.proofs.Early.{large_fault, misplaced_fault, placed_tasks, fault_there}
 use Rattle.tr_discriminate.proofs.discriminate.DiscriminateTransform.make.Goals as goal
 

@@ -8,8 +8,8 @@ use Rattle.tasks.specs.Meaning.{trees_at, tasks_at}
 use Rattle.evidence.specs.Drafts.{Refutes, AreFormulas}
 use Rattle.tr_introduce.specs.Steps.{AreParamsBelow, EndsDraftAt}
 use Rattle.evidence.proofs.Owned.{own_locals, own_goal}
-use Rattle.task_parts.proofs.Own.{own_below}
-use Rattle.task_parts.proofs.One.{end_there}
+use Rattle.evidence.proofs.task_parts.Own.{own_below}
+use Rattle.evidence.proofs.task_parts.One.{end_there}
 use Rattle.tr_introduce.specs.Introduce.{introduced_task}
 use Rattle.tr_introduce.proofs.Tasks.{one_introduced, own_end}
 use Rattle.tr_introduce.proofs.introducing.IntroduceTransform.glue.Goals as goal

@@ -1,6 +1,6 @@
 use Rattle.std.proofs.Common.{◌≡◌, List, refl, sym, ap, ◌∙◌}
-use Rattle.trees.specs.Tree.{Tree, Two, HCase}
-use Rattle.trees.specs.Node.{tree_at}
+use Rattle.tasks.specs.trees.Tree.{Tree, Two, HCase}
+use Rattle.tasks.specs.trees.Node.{tree_at}
 use Rattle.match_forms.proofs.Opening.{node_stays}
 use Rattle.tr_match.proofs.matches.MatchesRewrite.link.Goals as goal
 

@@ -1,10 +1,10 @@
 use Rattle.std.proofs.Common.{sym, ap, subst, ◌∙◌}
-use Rattle.trees.specs.Node.{tree_at}
+use Rattle.tasks.specs.trees.Node.{tree_at}
 use Rattle.tasks.specs.declared.task.Task.{Task}
 use Rattle.tasks.specs.Meaning.{task_at}
 use Rattle.tasks.specs.Vocabulary.{of_task}
 use Rattle.tasks.specs.Valid.{IsValid}
-use Rattle.rule_rewriting.specs.Rules.{HasTypingSomewhere}
+use Rattle.walking.specs.rule_rewriting.Rules.{HasTypingSomewhere}
 use Rattle.match_forms.specs.Forms.{match_rule}
 use Rattle.tr_match.proofs.matches.MatchesTaskRule.at_node.Goals as goal
 

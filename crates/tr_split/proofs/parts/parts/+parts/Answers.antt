@@ -1,11 +1,11 @@
 use Rattle.std.proofs.Common.{◌≡◌, ◌<◌, length, refl, sym, ap, subst, ◌∙◌, arith, rules}
 use Rattle.std.proofs.lemmas.Result.{IfOk-weaker}
-use Rattle.term_store.specs.trees.declared.Op.{Op}
-use Rattle.term_store.specs.trees.declared.Op.TheVariants.{And, AndThen}
-use Rattle.term_store.specs.trees.Tree.{Two, Three, HJoin, HForall, HLet, HIf}
-use Rattle.term_store.specs.trees.Node.{tree_at, head_of_node, Holds, Grows}
-use Rattle.term_store.specs.trees.Sorts.{Fits}
-use Rattle.term_store.proofs.trees.Nodes.{Grows_trans}
+use Rattle.trees.specs.declared.Op.{Op}
+use Rattle.trees.specs.declared.Op.TheVariants.{And, AndThen}
+use Rattle.trees.specs.Tree.{Two, Three, HJoin, HForall, HLet, HIf}
+use Rattle.trees.specs.Node.{tree_at, head_of_node, Holds, Grows}
+use Rattle.trees.specs.Sorts.{Fits}
+use Rattle.trees.proofs.Nodes.{Grows_trans}
 use Rattle.tasks.specs.Task.{neg}
 use Rattle.tasks.proofs.Growth.{all_held_later}
 use Rattle.tr_split.specs.parts.Parts.{IsSentence}

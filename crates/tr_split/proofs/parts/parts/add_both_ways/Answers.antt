@@ -1,6 +1,6 @@
 use Rattle.std.proofs.Common.{◌≡◌, ◌++◌, ◌∷◌, [], List, refl, sym, subst, ap, ◌∙◌}
-use Rattle.term_store.specs.trees.declared.TermId.{TermId}
-use Rattle.term_store.specs.trees.Node.{tree_at}
+use Rattle.trees.specs.declared.TermId.{TermId}
+use Rattle.trees.specs.Node.{tree_at}
 use Rattle.tr_split.specs.parts.Parts.{GainsFormulas}
 use Rattle.tr_split.specs.parts.Split.{imp}
 use Rattle.tr_split.proofs.parts.Gained.{gains_one, gains_both}

@@ -1,8 +1,8 @@
 use Rattle.std.proofs.Common.{sym, subst, get_or}
-use Rattle.term_store.specs.trees.declared.TermId.{TermId}
-use Rattle.term_store.specs.trees.Tree.{Two}
-use Rattle.term_store.specs.trees.Node.{tree_at, head_of_node}
-use Rattle.term_store.proofs.trees.Nodes.{Grows_trans}
+use Rattle.trees.specs.declared.TermId.{TermId}
+use Rattle.trees.specs.Tree.{Two}
+use Rattle.trees.specs.Node.{tree_at, head_of_node}
+use Rattle.trees.proofs.Nodes.{Grows_trans}
 use Rattle.tr_split.specs.parts.Parts.{IsSentence}
 use Rattle.tr_split.proofs.parts.Gained.{sentence_at, gains_wrapped, gains_all}
 use Rattle.tr_split.proofs.parts.parts.add_wrapped.Goals as goal

@@ -1,6 +1,6 @@
 use Rattle.std.proofs.Common.{map, take}
-use Rattle.term_store.specs.trees.Tree.{Two}
-use Rattle.term_store.specs.trees.Node.{tree_at, head_of_node, Grows}
+use Rattle.trees.specs.Tree.{Two}
+use Rattle.trees.specs.Node.{tree_at, head_of_node, Grows}
 use Rattle.tasks.specs.Meaning.{trees_at}
 use Rattle.tr_split.specs.parts.Parts.{GainsFormulas}
 use Rattle.tr_split.proofs.parts.parts.add_wrapped.Given as goal

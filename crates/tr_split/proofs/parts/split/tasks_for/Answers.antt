@@ -1,6 +1,6 @@
 use Rattle.std.proofs.Common.{sym, subst, get_or}
 use Rattle.std.proofs.lemmas.List.Elements.{All-push}
-use Rattle.term_store.specs.trees.declared.TermId.{TermId}
+use Rattle.trees.specs.declared.TermId.{TermId}
 use Rattle.tasks.specs.Copying.{IsWithGoal}
 use Rattle.tasks.specs.Meaning.{TaskHeld, TasksHeld}
 use Rattle.tr_split.proofs.parts.Tasks.{tasks_more}

@@ -11,7 +11,7 @@ use Rattle.tr_split.specs.parts.Kept.{parts_are_split}
 use Rattle.evidence.proofs.Owned.{own_locals, own_goal}
 use Rattle.tr_split.proofs.parts.Glued.{own_ends}
 use Rattle.tr_split.specs.Gluing.{CanGlue}
-use Rattle.task_parts.proofs.Own.{own_below}
+use Rattle.evidence.proofs.task_parts.Own.{own_below}
 use Rattle.tr_split.proofs.splitting.SplitTransform.glue.Goals as goal
 
 pub glue_goal-requires : goal.glue_goal-requires

@@ -1,4 +1,0 @@
-use Rattle.algebraic_tasks.proofs.making.TypesAsSymbolsRewriteDeclarations.origin.Goals as goal
-
-pub returns : goal.returns
-returns c = λ symbols. c.own_origin.ensures c.args.store.now

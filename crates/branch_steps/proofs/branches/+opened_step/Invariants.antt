@@ -1,6 +1,0 @@
-use Rattle.trees.specs.Node.{tree_at}
-use Rattle.branch_equations.specs.Branches.{quantifiers}
-use Rattle.branch_steps.proofs.branches.+opened_step.Given as goal
-
-abbrev pub decreases-opened_step : goal.decreases-opened_step
-decreases-opened_step l = quantifiers (tree_at l.draft.now.trees l.formula)

@@ -1,3 +1,0 @@
-pub use Rattle.typing_laws.proofs as typing_laws
-pub mod Changed
-pub mod Large

@@ -1,0 +1,3 @@
+pub mod decl_checks
+pub mod match_cover
+pub mod recursive_groups

@@ -1,5 +1,0 @@
-use Rattle.std.proofs.Common.{length}
-use Rattle.clone_copies.proofs.places.+push_rigid.Given as goal
-
-abbrev pub decreases-push_rigid : goal.decreases-push_rigid
-decreases-push_rigid l = length l.vars.now

@@ -1,5 +1,0 @@
-use Rattle.std.proofs.Common.{length}
-use Rattle.clone_elements.proofs.elements.+check_sides.Given as goal
-
-abbrev pub decreases-check_sides : goal.decreases-check_sides
-decreases-check_sides l = length l.sides.now

@@ -1,9 +1,0 @@
-use Rattle.std.proofs.Common.{ap, ◌∙◌}
-use Rattle.std.proofs.lemmas.Result.{IfOk-weaker}
-use Rattle.clone_elements.specs.Plans.{kept}
-use Rattle.clone_elements.specs.Origins.{origin_at}
-use Rattle.clone_elements.proofs.Looked.{empty_fates}
-use Rattle.clone_elements.proofs.elements.own_symbols.Goals as goal
-
-pub returns : goal.returns
-returns c = IfOk-weaker c.kept_symbols.result _ _ (λ v h s. h s ∙ ap (kept (origin_at s c.args.source.now)) (empty_fates c.new-none.result c.new-none.ensures.empty)) c.kept_symbols.ensures

@@ -1,4 +1,0 @@
-use Rattle.constructor_matches.proofs.fields.+push_bound.Given as goal
-
-abbrev pub decreases-push_bound : goal.decreases-push_bound
-decreases-push_bound l = l.patterns.0

@@ -1,4 +1,0 @@
-use Rattle.constructor_matches.proofs.fields.+push_terms.Given as goal
-
-abbrev pub decreases-push_terms : goal.decreases-push_terms
-decreases-push_terms l = l.list.0

@@ -1,5 +1,0 @@
-use Rattle.std.proofs.Common.{length}
-use Rattle.decl_checks.proofs.checks.+first_without.Given as goal
-
-abbrev pub decreases-first_without : goal.decreases-first_without
-decreases-first_without l = length l.clauses.now

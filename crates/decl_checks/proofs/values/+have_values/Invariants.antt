@@ -1,5 +1,0 @@
-use Rattle.std.proofs.Common.{length}
-use Rattle.decl_checks.proofs.values.+have_values.Given as goal
-
-abbrev pub decreases-have_values : goal.decreases-have_values
-decreases-have_values l = length l.types.now

@@ -1,5 +1,0 @@
-use Rattle.std.proofs.Common.{length}
-use Rattle.decl_checks.proofs.values.+push_type_symbols.Given as goal
-
-abbrev pub decreases-push_type_symbols : goal.decreases-push_type_symbols
-decreases-push_type_symbols l = length l.types.now

@@ -1,2 +1,0 @@
-pub use Rattle.rewriting.specs as rewriting
-pub mod Images

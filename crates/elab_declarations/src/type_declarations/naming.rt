@@ -1,0 +1,128 @@
+// The names that a group of algebraic types makes.
+ghost use Rattle.std.specs.Prelude.{◌≡◌, ◌+◌, ◌++◌, ◌∷◌, [], ◌<◌, ◌^◌, length, map, true, IfOk, IfErr, OnOk};
+ghost use Rattle.scopes.specs.Names.{with_entry};
+ghost use Rattle.name_resolution.specs.Naming.{Tells};
+ghost use Rattle.elab_groups.specs.parts.Declarations.{word, list_fault};
+ghost use Rattle.elab_groups.specs.parts.Outcomes.{declared_in};
+ghost use Rattle.elab_declarations.specs.type_declarations.Algebraics.{constructors_of, algebraics_of, entry_count, group_count, with_constructors, with_types, name_made, constructor_words, constructors_made, types_made};
+
+use elab_groups::parts::{declare, find_repeated, gather};
+use name_resolution::{NamingFault, variable_named};
+use scopes::{Scope, Table, Text, TypeName};
+use std::alloc::{AllocError, Global};
+use surface::{AlgTree, ConTree, Name};
+
+// A name that neither the scope nor the group has in a table; `before` has those that the group made before.
+fn declare_name(
+    alloc: Global,
+    scope: &mut Scope,
+    table: Table,
+    before: &mut Vec<Text>,
+    name: &Name,
+    number: usize,
+) -> Result<(), NamingFault>
+    ensures scope { OnOk result (scope.new ≡ with_entry table name.now.text number true scope.old) }
+    ensures before { OnOk result (before.new.items ≡ before.old.items ++ name.now.text ∷ []) }
+    ensures told { Tells result (name_made (declared_in scope.old table name.now.text)
+        before.old.items (word name.now)) }
+{
+    if variable_named(before.as_slice(), name.text.as_slice()).is_some() {
+        return Err(NamingFault::Duplicate { token: name.at });
+    }
+    let text = Text::from_slice(alloc, name.text.as_slice())?;
+    before.push(text)?;
+    let thing = TypeName::Entry(number);
+    declare(scope, table, name.text.as_slice(), thing, name.at)
+}
+
+// The number after a constructor and its projections.
+fn number_behind(number: usize, fields: usize) -> Result<usize, NamingFault>
+    ensures next { IfOk result (λ next. next ≡ number + (fields + 1)) }
+    ensures err { IfErr result (λ fault. fault ≡ NamingFault.Memory) }
+{
+    match fields.checked_add(1) {
+        Some(count) => match number.checked_add(count) {
+            Some(next) => Ok(next),
+            None => Err(NamingFault::Memory),
+        },
+        None => Err(NamingFault::Memory),
+    }
+}
+
+// The names of constructors, which stand for the entries from a number on.
+fn declare_constructors(
+    alloc: Global,
+    scope: &mut Scope,
+    before: &mut Vec<Text>,
+    number: &mut usize,
+    cons: &[ConTree],
+) -> Result<(), NamingFault>
+    ensures scope { OnOk result (scope.new ≡ with_constructors number.old (constructors_of cons.now)
+        scope.old) }
+    ensures before { OnOk result (before.new.items ≡ before.old.items ++ constructor_words
+        (constructors_of cons.now)) }
+    ensures number { OnOk result (number.new ≡ number.old + entry_count (constructors_of
+        cons.now)) }
+    ensures told { Tells result (constructors_made (declared_in scope.old Table.Symbols)
+        before.old.items (constructors_of cons.now)) }
+{
+    let Some((first, rest)) = cons.split_first() else {
+        return Ok(());
+    };
+    declare_name(alloc, scope, Table::Symbols, before, &first.name, *number)?;
+    *number = number_behind(*number, first.fields.len())?;
+    declare_constructors(alloc, scope, before, number, rest)
+}
+
+// A type variable that occurs twice among those of a type.
+fn check_variables(alloc: Global, vars: &[Name]) -> Result<(), NamingFault>
+    ensures { Tells result (list_fault [] (map word vars.now)) }
+{
+    let mut list = Vec::new(alloc);
+    gather(&mut list, vars)?;
+    match find_repeated(list.as_slice()) {
+        Some(token) => Err(NamingFault::Duplicate { token }),
+        None => Ok(()),
+    }
+}
+
+/// The names that a group made before.
+#[derive(Drop)]
+pub struct Before {
+    pub types: Vec<Text>,
+    pub constructors: Vec<Text>,
+}
+
+/// The names of types and of their constructors: the types stand for the entries from a number on, the constructors for those
+/// from another.
+pub fn declare_types(
+    alloc: Global,
+    scope: &mut Scope,
+    before: &mut Before,
+    symbol: usize,
+    number: &mut usize,
+    types: &[AlgTree],
+) -> Result<(), NamingFault>
+    requires { symbol + length types.now < 2 ^ 64 }
+    ensures scope { OnOk result (scope.new ≡ with_types symbol number.old (algebraics_of types.now)
+        scope.old) }
+    ensures number { OnOk result (number.new ≡ number.old + group_count (algebraics_of types.now)) }
+    ensures told { Tells result (types_made (declared_in scope.old) before.old.types.items
+        before.old.constructors.items (algebraics_of types.now)) }
+{
+    let Some((first, rest)) = types.split_first() else {
+        return Ok(());
+    };
+    declare_name(
+        alloc,
+        scope,
+        Table::Types,
+        &mut before.types,
+        &first.name,
+        symbol,
+    )?;
+    check_variables(alloc, first.vars.as_slice())?;
+    let cons = first.cons.as_slice();
+    declare_constructors(alloc, scope, &mut before.constructors, number, cons)?;
+    declare_types(alloc, scope, before, symbol + 1, number, rest)
+}

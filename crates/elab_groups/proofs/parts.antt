@@ -1,0 +1,11 @@
+pub mod Alike
+pub mod Scopes
+pub mod Refused
+pub mod Overs
+pub mod Entering
+pub mod Determining
+pub mod MatchesBelow
+pub mod Putting
+pub mod Solving
+pub mod Keeping
+pub mod Tupled

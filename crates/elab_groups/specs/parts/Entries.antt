@@ -1,0 +1,47 @@
+-- What a signature and scopes keep, and the entries of a signature (Why3 manual, "logical declarations").
+use Rattle.std.specs.Prelude.{◌≡◌, ℕ, ◌<◌, List, ◌++◌, slice_get, All, Some}
+use Rattle.tasks.specs.trees.Tree.{Tree}
+use Rattle.tasks.specs.trees.Node.{tree_at}
+use Rattle.tasks.specs.trees.Facts.{TyVarsBelow}
+use Rattle.tasks.specs.declared.signature.SymbolInfo.{SymbolInfo}
+use Rattle.tasks.specs.declared.signature.Signature.{Signature}
+use Rattle.tasks.specs.Task.{SymbolTree, int_symbol}
+use Rattle.tasks.specs.Meaning.{symbols_at}
+use Rattle.scopes.specs.Names.{ScopeNames, ScopeEntry, number_of}
+use Rattle.scopes.specs.declared.Table.{Table}
+use Rattle.scopes.specs.declared.Table.TheVariants.{Types, Symbols}
+use Rattle.scopes.specs.declared.TypeName.{TypeName}
+use Rattle.scopes.specs.declared.TypeName.TheVariants as stands
+pub use Rattle.tasks.specs.Entries.{type_entry, projection_name, projections, constructor_entries, builtin, is_tuple, tuple_from, tuple_in, tuple_entries, wanting_tuple, wanting_tuples}
+use Rattle.open_types.specs.Scoped.{IsScopedEntry}
+use Rattle.open_types.specs.Drafts.{HoldsType, SymbolTyped}
+
+-- ---- what a signature and scopes keep
+-- the types of each entry are types at its own type variables; the first entry is `int`
+pub record IsSignature (s : List Tree) (is : List SymbolInfo) : Type 0 where
+  pub int : slice_get (symbols_at s is) 0 ≡ Some int_symbol
+  pub typed : All (SymbolTyped s) is
+  pub scoped : All IsScopedEntry (symbols_at s is)
+
+-- further entries come after those of a signature, which else stays
+pub record IsExtended (s : List Tree) (g : Signature) (s' : List Tree) (g' : Signature) (more : List SymbolTree) : Type 0 where
+  pub symbols : symbols_at s' g'.symbols ≡ symbols_at s g.symbols ++ more
+  pub signature : IsSignature s' g'.symbols
+  pub ints : g'.ints ≡ g.ints
+
+-- a name of a type stands for one of so many entries, or for a type at its own type variables
+abbrev pub IsTypeNameMeaning : List Tree → ℕ → TypeName → Type 0
+IsTypeNameMeaning s count (stands.Entry k) = k < count
+IsTypeNameMeaning s count (stands.Alias vars ty) = HoldsType s (record { 0 = ty }) × TyVarsBelow vars (tree_at s (record { 0 = ty }))
+
+abbrev pub IsThing : List Tree → ℕ → Table → TypeName → Type 0
+IsThing s count Types thing = IsTypeNameMeaning s count thing
+IsThing s count Symbols thing = number_of thing < count
+IsThing s count _ thing = Unit {0}
+
+abbrev pub IsEntry : List Tree → ℕ → ScopeEntry → Type 0
+IsEntry s count e = IsThing s count e.table e.thing
+
+-- each name of the tables of types and symbols stands for one of so many entries, or for a type
+abbrev pub AreScopes : List Tree → ℕ → ScopeNames → Type 0
+AreScopes s count names = All (λ (es : List ScopeEntry). All (IsEntry s count) es) names.entries

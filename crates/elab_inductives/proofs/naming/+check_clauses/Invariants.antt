@@ -1,5 +1,0 @@
-use Rattle.std.proofs.Common.{length}
-use Rattle.elab_inductives.proofs.naming.+check_clauses.Given as goal
-
-abbrev pub decreases-check_clauses : goal.decreases-check_clauses
-decreases-check_clauses l = length l.clauses.now

@@ -1,5 +1,0 @@
-use Rattle.std.proofs.Common.{length}
-use Rattle.elab_inductives.proofs.sources.+push_predicates.Given as goal
-
-abbrev pub decreases-push_predicates : goal.decreases-push_predicates
-decreases-push_predicates l = length l.inductives.now

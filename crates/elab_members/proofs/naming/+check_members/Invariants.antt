@@ -1,5 +1,0 @@
-use Rattle.std.proofs.Common.{length}
-use Rattle.elab_members.proofs.naming.+check_members.Given as goal
-
-abbrev pub decreases-check_members : goal.decreases-check_members
-decreases-check_members l = length l.members.now

@@ -1,5 +1,0 @@
-use Rattle.std.proofs.Common.{length}
-use Rattle.elab_members.proofs.naming.+declare_members.Given as goal
-
-abbrev pub decreases-declare_members : goal.decreases-declare_members
-decreases-declare_members l = length l.members.now

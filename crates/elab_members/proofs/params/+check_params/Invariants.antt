@@ -1,5 +1,0 @@
-use Rattle.std.proofs.Common.{length}
-use Rattle.elab_members.proofs.params.+check_params.Given as goal
-
-abbrev pub decreases-check_params : goal.decreases-check_params
-decreases-check_params l = length l.params.now

@@ -1,5 +1,0 @@
-use Rattle.std.proofs.Common.{length}
-use Rattle.elab_members.proofs.sources.+gather_members.Given as goal
-
-abbrev pub decreases-gather_members : goal.decreases-gather_members
-decreases-gather_members l = length l.members.now

@@ -1,5 +1,0 @@
-use Rattle.std.proofs.Common.{length}
-use Rattle.elab_names.proofs.patterns.+all_among.Given as goal
-
-abbrev pub decreases-all_among : goal.decreases-all_among
-decreases-all_among l = length l.names.now

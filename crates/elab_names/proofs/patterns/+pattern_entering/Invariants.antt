@@ -1,7 +1,0 @@
-use Rattle.std.proofs.Common.{◌≡◌, ◌++◌, drop}
-use Rattle.elab_names.specs.Abstract.{patterns_of}
-use Rattle.elab_names.specs.Faults.{patterns_names}
-use Rattle.elab_names.proofs.patterns.+pattern_entering.Given as goal
-
-abbrev pub invariant-enter_all_names-loop-p : goal.invariant-enter_all_names-loop-p
-invariant-enter_all_names-loop-p l = l.names ++ patterns_names (patterns_of (drop l.p-index l.list)) ≡ l.fn.names ++ patterns_names (patterns_of l.list)

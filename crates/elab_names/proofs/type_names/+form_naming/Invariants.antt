@@ -1,9 +1,0 @@
-use Rattle.std.proofs.Common.{◌≡◌, List, drop}
-use Rattle.trees.specs.Tree.{Tree}
-use Rattle.elab_names.specs.Abstract.{forms_of}
-use Rattle.elab_names.specs.Faults.{forms_fault}
-use Rattle.elab_names.specs.Naming.{where_at}
-use Rattle.elab_names.proofs.type_names.+form_naming.Given as goal
-
-abbrev pub invariant-check_forms-loop-ty : goal.invariant-check_forms-loop-ty
-invariant-check_forms-loop-ty l = (s : List Tree) → forms_fault (where_at s l.world) l.world.new_vars (forms_of (drop l.ty-index l.list)) ≡ forms_fault (where_at s l.world) l.world.new_vars (forms_of l.list)

@@ -1,5 +1,0 @@
-use Rattle.std.proofs.Common.{length}
-use Rattle.elab_names.proofs.world.+variable_named.Given as goal
-
-abbrev pub decreases-variable_named : goal.decreases-variable_named
-decreases-variable_named l = length l.vars.now

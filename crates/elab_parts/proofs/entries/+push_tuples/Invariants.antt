@@ -1,5 +1,0 @@
-use Rattle.std.proofs.Common.{length}
-use Rattle.elab_parts.proofs.entries.+push_tuples.Given as goal
-
-abbrev pub decreases-push_tuples : goal.decreases-push_tuples
-decreases-push_tuples l = length l.widths.now

@@ -1,5 +1,0 @@
-use Rattle.std.proofs.Common.{length}
-use Rattle.elab_parts.proofs.solution.+put_trees.Given as goal
-
-abbrev pub decreases-put_trees : goal.decreases-put_trees
-decreases-put_trees l = length l.ids.now

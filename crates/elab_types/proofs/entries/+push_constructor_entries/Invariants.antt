@@ -1,5 +1,0 @@
-use Rattle.std.proofs.Common.{length}
-use Rattle.elab_types.proofs.entries.+push_constructor_entries.Given as goal
-
-abbrev pub decreases-push_constructor_entries : goal.decreases-push_constructor_entries
-decreases-push_constructor_entries l = length l.sources.now

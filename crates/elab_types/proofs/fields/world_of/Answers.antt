@@ -1,6 +1,0 @@
-use Rattle.std.proofs.Common.{refl}
-use Rattle.elab_types.proofs.Placed.{placed_held}
-use Rattle.elab_types.proofs.fields.world_of.Goals as goal
-
-pub returns-clause-held : goal.returns-clause-held
-returns-clause-held c = λ s sig h. placed_held s h.0 c.args.scope.now h.1 c.args.sig.now.symbols _ sig c.as_slice.ensures refl

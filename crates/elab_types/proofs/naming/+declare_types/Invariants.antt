@@ -1,5 +1,0 @@
-use Rattle.std.proofs.Common.{length}
-use Rattle.elab_types.proofs.naming.+declare_types.Given as goal
-
-abbrev pub decreases-declare_types : goal.decreases-declare_types
-decreases-declare_types l = length l.types.now

@@ -1,8 +1,0 @@
-use Rattle.std.proofs.Common.{◌≡◌, drop}
-use Rattle.elab_names.specs.Abstract.{forms_of}
-use Rattle.elab_variables.specs.Seen.{forms_seen}
-use Rattle.elab_variables.specs.Entered.{seen_at}
-use Rattle.elab_variables.proofs.variables.+form_entering.Given as goal
-
-abbrev pub invariant-enter_forms-loop-ty : goal.invariant-enter_forms-loop-ty
-invariant-enter_forms-loop-ty l = forms_seen (seen_at l.seen) (forms_of (drop l.ty-index l.types)) ≡ forms_seen (seen_at l.fn.seen) (forms_of l.types)

@@ -1,5 +1,0 @@
-use Rattle.std.proofs.Common.{length}
-use Rattle.elab_variables.proofs.variables.+has_width.Given as goal
-
-abbrev pub decreases-has_width : goal.decreases-has_width
-decreases-has_width l = length l.widths.now

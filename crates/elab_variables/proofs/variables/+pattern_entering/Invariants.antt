@@ -1,8 +1,0 @@
-use Rattle.std.proofs.Common.{◌≡◌, drop}
-use Rattle.elab_names.specs.Abstract.{patterns_of}
-use Rattle.elab_variables.specs.Seen.{patterns_seen}
-use Rattle.elab_variables.specs.Entered.{seen_at}
-use Rattle.elab_variables.proofs.variables.+pattern_entering.Given as goal
-
-abbrev pub invariant-enter_all_patterns-loop-p : goal.invariant-enter_all_patterns-loop-p
-invariant-enter_all_patterns-loop-p l = patterns_seen (seen_at l.seen) (patterns_of (drop l.p-index l.list)) ≡ patterns_seen (seen_at l.fn.seen) (patterns_of l.list)

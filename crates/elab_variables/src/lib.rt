@@ -1,8 +1,0 @@
-//! The type variables of an expression and the widths of its tuples, by first appearance.
-//!
-//! Contract: exactly these lists.
-#![tactic(auto)]
-
-mod variables;
-
-pub use variables::{Seen, enter_form, enter_variables};

@@ -1,5 +1,0 @@
-use Rattle.std.proofs.Common.{length}
-use Rattle.elab_walk.proofs.arms.+push_later_patterns.Given as goal
-
-abbrev pub decreases-push_later_patterns : goal.decreases-push_later_patterns
-decreases-push_later_patterns l = length l.later.now

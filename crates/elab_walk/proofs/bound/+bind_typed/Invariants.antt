@@ -1,5 +1,0 @@
-use Rattle.std.proofs.Common.{length}
-use Rattle.elab_walk.proofs.bound.+bind_typed.Given as goal
-
-abbrev pub decreases-bind_typed : goal.decreases-bind_typed
-decreases-bind_typed l = length l.names.now

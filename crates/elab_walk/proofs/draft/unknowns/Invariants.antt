@@ -1,6 +1,0 @@
-use Rattle.term_store.specs.trees.Node.{Grows}
-use Rattle.elab_walk.specs.Drafts.{IsTaken}
-use Rattle.elab_walk.proofs.draft.unknowns.Given as goal
-
-abbrev pub invariant-loop-number : goal.invariant-loop-number
-invariant-loop-number l = IsTaken l.fn.store l.fn.draft l.store l.draft l.token l._number l.types.items × Grows l.fn.store l.store

@@ -1,7 +1,0 @@
-use Rattle.std.proofs.Common.{sym, ap, ◌∙◌}
-use Rattle.std.specs.Option.{option_copied}
-use Rattle.elab_names.proofs.Nodes.{first_got}
-use Rattle.elab_walk.proofs.patterns.first_token.Goals as goal
-
-pub returns-in-Some : goal.returns-in-Some
-returns-in-Some c = sym (first_got c.args.patterns.now c.in-Some.first.now (sym c.first.ensures.value ∙ ap option_copied c.in-Some.is))

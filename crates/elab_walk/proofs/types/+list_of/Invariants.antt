@@ -1,5 +1,0 @@
-use Rattle.std.proofs.Common.{length}
-use Rattle.elab_walk.proofs.types.+list_of.Given as goal
-
-abbrev pub decreases-list_of : goal.decreases-list_of
-decreases-list_of l = length l.ids.now

@@ -1,6 +1,0 @@
-pub mod Pieces
-pub mod Patterns
-pub mod Reordered
-pub mod Scoped
-pub mod Sizes
-pub mod Drafts

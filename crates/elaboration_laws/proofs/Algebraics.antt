@@ -1,0 +1,194 @@
+-- Algebraic types are valid: their entries are at the numbers that their declaration names.
+use Rattle.std.proofs.Common.{◌≡◌, ℕ, ◌+◌, ◌<◌, ◌≤◌, zero, suc, true, false, List, [], ◌∷◌, ◌++◌, length, slice_get, All, Some, refl, sym, ap, subst, ◌∙◌, arith, length-append, append_assoc}
+use Rattle.std.proofs.lemmas.List.Elements.{All-nil, All-cons, All-append}
+use Rattle.elab_groups.specs.trees.Tree.{Tree}
+use Rattle.elab_groups.specs.tasks.declared.signature.SymbolKind.TheVariants.{Kind, Constructor, Projection}
+use Rattle.elab_groups.specs.tasks.Task.{SymbolTree, symbol_or, ConstructorTree, AlgebraicTree}
+use Rattle.elab_groups.specs.tasks.Vocabulary.{Vocabulary, is_empty}
+use Rattle.elab_groups.specs.tasks.Typing.{IsTypeSymbol}
+use Rattle.elab_groups.specs.tasks.Valid.{IsTypeIn, own_type, AreProjections, IsConstructorOf, IsAlgebraic}
+use Rattle.elab_groups.specs.scopes.Names.{ScopeNames, ScopeEntry}
+use Rattle.elab_groups.specs.scopes.declared.Table.TheVariants.{Types, Symbols}
+use Rattle.elab_groups.specs.scopes.declared.TypeName.TheVariants as stands
+use Rattle.elab_groups.specs.surface.Lexeme.{Word}
+use Rattle.elab_groups.specs.name_resolution.Abstract.{TypeExpressions, no_types, more_types, count_forms}
+use Rattle.elab_groups.specs.name_resolution.Where.{Where}
+use Rattle.elab_groups.specs.open_types.Pieces.{types_at}
+use Rattle.elab_groups.specs.parts.Declarations.{AlgebraicConstructor as ConstructorOf, AlgebraicType, words, with_vars}
+use Rattle.std.specs.Str.{bytes_eq}
+use Rattle.elab_groups.specs.parts.Entries.{builtin, type_entry, projections, constructor_entries}
+use Rattle.elab_declarations.specs.type_declarations.Algebraics.{entry_count, numbering_from, with_constructors, with_types, type_entries, constructor_trees, algebraic_trees, constructors_entries, group_entries}
+use Rattle.elaboration_laws.specs.Signature.{with_entries}
+use Rattle.elaboration_laws.specs.Scopes.{IsNamedBy, NamesNew, IsTypedEntry, IsTypedSignature, IsTypeNumber, IsSymbolNumber, IsTypedThing, AreTypedScopes}
+use Rattle.elaboration_laws.proofs.Scopes.{scopes_more, typed_entry, OnTypes}
+use Rattle.elaboration_laws.proofs.Tuples.{own_in, constructor_typed}
+use Rattle.elab_declarations.proofs.type_declarations.Made.{cons_length as count_cons, projections_length as count_projections}
+use Rattle.elab_declarations.proofs.type_declarations.Counted.{types_length}
+
+-- ---- entries at numbers, which may be named
+pub record IsThere (base : Vocabulary) (all : List SymbolTree) (k : ℕ) (e : SymbolTree) : Type 0 where
+  pub at : slice_get all k ≡ Some e
+  pub named : IsNamedBy base k e
+
+abbrev pub EntriesAt : Vocabulary → List SymbolTree → ℕ → List SymbolTree → Type 0
+EntriesAt base all n [] = Unit {0}
+EntriesAt base all n (e ∷ es) = IsThere base all n e × EntriesAt base all (n + 1) es
+
+pub at_end : (xs ys : List SymbolTree) (e : SymbolTree) (k : ℕ) → k ≡ length xs → slice_get (xs ++ e ∷ ys) k ≡ Some e
+at_end [] ys e k q = rw q refl
+at_end (x ∷ xs) ys e zero q = absurd (omega (arith, q))
+at_end (x ∷ xs) ys e (suc k) q = at_end xs ys e k (omega (arith, q))
+
+pub entries_at : (base : Vocabulary) (m : ℕ) (es xs ys : List SymbolTree) (n : ℕ) → n ≡ length xs → m ≤ n → NamesNew base m (xs ++ (es ++ ys)) → EntriesAt base (xs ++ (es ++ ys)) n es
+entries_at base m [] xs ys n q l news = tt
+entries_at base m (e ∷ es) xs ys n q l news =
+    let same : (xs ++ e ∷ []) ++ (es ++ ys) ≡ xs ++ e ∷ (es ++ ys) = append_assoc xs (e ∷ []) (es ++ ys) in
+    let here = at_end xs (es ++ ys) e n q in (
+      record { at = here; named = news n e l here },
+      subst (λ (all : List SymbolTree). EntriesAt base all (n + 1) es) same
+          (entries_at base m es (xs ++ e ∷ []) ys (n + 1) (omega (arith, q, length-append xs (e ∷ []))) (omega arith) (subst (λ (all : List SymbolTree). NamesNew base m all) (sym same) news)),
+    )
+
+entries_split : (base : Vocabulary) (all : List SymbolTree) (es fs : List SymbolTree) (n m : ℕ) → m ≡ n + length es → EntriesAt base all n (es ++ fs) → EntriesAt base all n es × EntriesAt base all m fs
+entries_split base all [] fs n m q h = (tt, subst (λ (k : ℕ). EntriesAt base all k fs) (omega (arith, q)) h)
+entries_split base all (e ∷ es) fs n m q h = let r = entries_split base all es fs (n + 1) m (omega (arith, q)) h.1 in ((h.0, r.0), r.1)
+
+pub got : (es : List SymbolTree) (k : ℕ) (e : SymbolTree) → slice_get es k ≡ Some e → (k < length es) × (symbol_or es k ≡ e)
+got [] k e q = absurd (cc)
+got (x ∷ xs) zero e q = (omega arith, cc)
+got (x ∷ xs) (suc k) e q = let r = got xs k e q in (omega (arith, r.0), r.1)
+
+-- ---- how many
+
+module _ (theory within : Word) (named : is_empty theory ≡ false) where
+  -- ---- over a signature that has them
+  module _ (base : Vocabulary) (source : bytes_eq theory builtin ≡ false) (all : List SymbolTree) (sig : IsTypedSignature base all) where
+    abbrev v : Vocabulary
+    v = with_entries base all
+
+    type_there : (name : Word) (vars i : ℕ) → IsThere base all i (type_entry theory name vars) → IsTypeNumber v i
+    type_there name vars i h = let g = got all i (type_entry theory name vars) h.at in record { there = g.0; usable = h.named.usable (rw named refl); kind = ap (λ (e : SymbolTree). e.kind) g.1 }
+
+    projections_valid : (name : Word) (type vars i : ℕ) (fs : List Tree) (n : ℕ) → EntriesAt base all n (projections theory name vars (own_type type vars) i fs) → AreProjections v type vars fs (numbering_from n fs)
+    projections_valid name type vars i [] n h = tt
+    projections_valid name type vars i (f ∷ fs) n h =
+        let g = got all n _ h.0.at in
+        let kind : (symbol_or all n).kind ≡ Projection = ap (λ (e : SymbolTree). e.kind) g.1 in (
+          record {
+            signature = record { entry = g.0; kind = λ q. let z : Projection ≡ Kind = sym kind ∙ q in cc; types = (typed_entry base all sig n g.0 (h.0.named.usable (rw (named, source) refl))).types };
+            kind = kind;
+            vars_are = ap (λ (e : SymbolTree). e.vars) g.1;
+            args = ap (λ (e : SymbolTree). e.args) g.1;
+            result = ap (λ (e : SymbolTree). e.result) g.1;
+          },
+          projections_valid name type vars (suc i) fs (n + 1) h.1,
+        )
+
+    constructor_valid : (name : Word) (type vars n : ℕ) (fs : List Tree) → EntriesAt base all n (constructor_entries theory name vars (own_type type vars) fs) → IsConstructorOf v type vars (record { symbol = n; fields = fs; projections = numbering_from (n + 1) fs })
+    constructor_valid name type vars n fs h =
+        let g = got all n _ h.0.at in
+        let kind : (symbol_or all n).kind ≡ Constructor = ap (λ (e : SymbolTree). e.kind) g.1 in
+        record {
+          signature = record { entry = g.0; kind = λ q. let z : Constructor ≡ Kind = sym kind ∙ q in cc; types = (typed_entry base all sig n g.0 (h.0.named.usable (rw named refl))).types };
+          kind = kind;
+          vars_are = ap (λ (e : SymbolTree). e.vars) g.1;
+          args = ap (λ (e : SymbolTree). e.args) g.1;
+          result = ap (λ (e : SymbolTree). e.result) g.1;
+          projections = projections_valid name type vars 1 fs (n + 1) h.1;
+        }
+
+    symbol_there : (name : Word) (vars n : ℕ) (t : Tree) (fs : List Tree) → EntriesAt base all n (constructor_entries theory name vars t fs) → IsSymbolNumber v n
+    symbol_there name vars n t fs h =
+        let g = got all n _ h.0.at in
+        let kind : (symbol_or all n).kind ≡ Constructor = ap (λ (e : SymbolTree). e.kind) g.1 in
+        record { there = g.0; usable = h.0.named.usable (rw named refl); kind = λ q. let z : Constructor ≡ Kind = sym kind ∙ q in cc }
+
+    -- the first constructor's entries, and those of the others
+    first_entries : (vars n : ℕ) (t : Tree) (w : Where) (k : ConstructorOf) (ks : List ConstructorOf) → EntriesAt base all n (constructors_entries theory within vars t (k ∷ ks) (constructor_trees w n (k ∷ ks)))
+        → EntriesAt base all n (constructor_entries theory (within ++ k.called.name) vars t (types_at w k.fields)) × EntriesAt base all (n + (count_forms k.fields + 1)) (constructors_entries theory within vars t ks (constructor_trees w (n + (count_forms k.fields + 1)) ks))
+    first_entries vars n t w k ks h =
+        let fs = types_at w k.fields in
+        let one = constructor_entries theory (within ++ k.called.name) vars t fs in
+        let p : length (projections theory (within ++ k.called.name) vars t 1 fs) ≡ length fs = count_projections theory (within ++ k.called.name) vars t 1 fs in
+        entries_split base all one (constructors_entries theory within vars t ks (constructor_trees w (n + (count_forms k.fields + 1)) ks)) n (n + (count_forms k.fields + 1)) (omega (arith, p, types_length w k.fields)) h
+
+    constructors_valid : (type vars : ℕ) (w : Where) (ks : List ConstructorOf) (n : ℕ) → EntriesAt base all n (constructors_entries theory within vars (own_type type vars) ks (constructor_trees w n ks)) → All (IsConstructorOf v type vars) (constructor_trees w n ks)
+    constructors_valid type vars w [] n h = All-nil (IsConstructorOf v type vars)
+    constructors_valid type vars w (k ∷ ks) n h =
+        let e = first_entries vars n (own_type type vars) w k ks h in
+        All-cons (IsConstructorOf v type vars) _ (constructor_trees w (n + (count_forms k.fields + 1)) ks) (constructor_valid (within ++ k.called.name) type vars n (types_at w k.fields) e.0) (constructors_valid type vars w ks (n + (count_forms k.fields + 1)) e.1)
+
+    -- the first type's entries, and those of the others
+    group_split : (w : Where) (a : AlgebraicType) (ts : List AlgebraicType) (i n : ℕ) → EntriesAt base all n (group_entries theory within (a ∷ ts) (algebraic_trees w i n (a ∷ ts)))
+        → EntriesAt base all n (constructors_entries theory within (length a.vars) (own_type i (length a.vars)) a.constructors (constructor_trees (with_vars w (words a.vars)) n a.constructors))
+        × EntriesAt base all (n + entry_count a.constructors) (group_entries theory within ts (algebraic_trees w (i + 1) (n + entry_count a.constructors) ts))
+    group_split w a ts i n h =
+        let t = own_type i (length a.vars) in
+        let wa = with_vars w (words a.vars) in
+        entries_split base all (constructors_entries theory within (length a.vars) t a.constructors (constructor_trees wa n a.constructors)) (group_entries theory within ts (algebraic_trees w (i + 1) (n + entry_count a.constructors) ts)) n (n + entry_count a.constructors)
+        (omega (arith, count_cons theory within (length a.vars) t wa n a.constructors)) h
+
+    pub groups_valid : (w : Where) (ts : List AlgebraicType) (i n : ℕ) → EntriesAt base all i (type_entries theory within ts) → EntriesAt base all n (group_entries theory within ts (algebraic_trees w i n ts)) → All (IsAlgebraic v) (algebraic_trees w i n ts)
+    groups_valid w [] i n g h = All-nil (IsAlgebraic v)
+    groups_valid w (a ∷ ts) i n g h =
+        let e = group_split w a ts i n h in
+        let there = got all i _ g.0.at in
+        let vars : (symbol_or all i).vars ≡ length a.vars = ap (λ (x : SymbolTree). x.vars) there.1 in
+        let cons = constructors_valid i (length a.vars) (with_vars w (words a.vars)) a.constructors n e.0 in
+        All-cons (IsAlgebraic v) _ (algebraic_trees w (i + 1) (n + entry_count a.constructors) ts) (record {
+          entry = record { entry = there.0; kind = ap (λ (x : SymbolTree). x.kind) there.1; types = (typed_entry base all sig i there.0 (g.0.named.usable (rw named refl))).types };
+          cons = subst (λ (m : ℕ). All (IsConstructorOf v i m) (constructor_trees (with_vars w (words a.vars)) n a.constructors)) (sym vars) cons;
+        }) (groups_valid w ts (i + 1) (n + entry_count a.constructors) g.1 e.1)
+
+    -- ---- names
+    module _ (s : List Tree) where
+      constructors_scoped : (vars : ℕ) (t : Tree) (w : Where) (ks : List ConstructorOf) (n : ℕ) (names : ScopeNames) → EntriesAt base all n (constructors_entries theory within vars t ks (constructor_trees w n ks)) → AreTypedScopes v s names → AreTypedScopes v s (with_constructors n ks names)
+      constructors_scoped vars t w [] n names h k = k
+      constructors_scoped vars t w (c ∷ ks) n names h k =
+          let e = first_entries vars n t w c ks h in
+          constructors_scoped vars t w ks (n + (count_forms c.fields + 1)) _ e.1 (scopes_more (IsTypedThing v s) names Symbols c.called.name (stands.Entry n) true (symbol_there (within ++ c.called.name) vars n t (types_at w c.fields) e.0) k)
+
+      pub types_scoped : (w : Where) (ts : List AlgebraicType) (i n : ℕ) (names : ScopeNames) → EntriesAt base all i (type_entries theory within ts) → EntriesAt base all n (group_entries theory within ts (algebraic_trees w i n ts)) → AreTypedScopes v s names → AreTypedScopes v s (with_types i n ts names)
+      types_scoped w [] i n names g h k = k
+      types_scoped w (a ∷ ts) i n names g h k =
+          let e = group_split w a ts i n h in
+          let one = scopes_more (IsTypedThing v s) names Types a.called.name (stands.Entry i) true (type_there (within ++ a.called.name) (length a.vars) i g.0) k in
+          types_scoped w ts (i + 1) (n + entry_count a.constructors) _ g.1 e.1 (constructors_scoped (length a.vars) (own_type i (length a.vars)) (with_vars w (words a.vars)) a.constructors n _ e.0 one)
+
+      -- of types alone
+      abbrev pub TypesOn : ScopeNames → Type 0
+      TypesOn names = All (λ (es : List ScopeEntry). All (λ (e : ScopeEntry). OnTypes v s e.table e.thing) es) names.entries
+
+      constructors_on : (ks : List ConstructorOf) (n : ℕ) (names : ScopeNames) → TypesOn names → TypesOn (with_constructors n ks names)
+      constructors_on [] n names k = k
+      constructors_on (c ∷ ks) n names k = constructors_on ks (n + (count_forms c.fields + 1)) _ (scopes_more (OnTypes v s) names Symbols c.called.name (stands.Entry n) true tt k)
+
+      pub types_on : (ts : List AlgebraicType) (i n : ℕ) (names : ScopeNames) → EntriesAt base all i (type_entries theory within ts) → TypesOn names → TypesOn (with_types i n ts names)
+      types_on [] i n names g k = k
+      types_on (a ∷ ts) i n names g k =
+          types_on ts (i + 1) (n + entry_count a.constructors) _ g.1 (constructors_on a.constructors n _ (scopes_more (OnTypes v s) names Types a.called.name (stands.Entry i) true (type_there (within ++ a.called.name) (length a.vars) i g.0) k))
+
+  -- ---- entries of types over a signature that has the types
+  module _ (v : Vocabulary) where
+    -- fields of types over the signature
+    abbrev pub ConsIn : ℕ → List ConstructorTree → Type 0
+    ConsIn n [] = Unit {0}
+    ConsIn n (c ∷ cs) = All (IsTypeIn v n) c.fields × ConsIn n cs
+
+    abbrev pub GroupIn : List AlgebraicType → List AlgebraicTree → Type 0
+    GroupIn [] ys = Unit {0}
+    GroupIn (a ∷ ts) [] = Unit {0}
+    GroupIn (a ∷ ts) (y ∷ ys) = (IsTypeSymbol v y.symbol (length a.vars) × ConsIn (length a.vars) y.cons) × GroupIn ts ys
+
+    cons_typed : (vars : ℕ) (t : Tree) (ks : List ConstructorOf) (cs : List ConstructorTree) → IsTypeIn v vars t → ConsIn vars cs → All (IsTypedEntry v) (constructors_entries theory within vars t ks cs)
+    cons_typed vars t [] cs h k = All-nil (IsTypedEntry v)
+    cons_typed vars t (x ∷ ks) [] h k = All-nil (IsTypedEntry v)
+    cons_typed vars t (x ∷ ks) (c ∷ cs) h k =
+        All-append (IsTypedEntry v) (constructor_entries theory (within ++ x.called.name) vars t c.fields) (constructors_entries theory within vars t ks cs) (constructor_typed v theory (within ++ x.called.name) vars t c.fields h k.0) (cons_typed vars t ks cs h k.1)
+
+    pub group_typed : (ts : List AlgebraicType) (ys : List AlgebraicTree) → GroupIn ts ys → All (IsTypedEntry v) (group_entries theory within ts ys)
+    group_typed [] ys h = All-nil (IsTypedEntry v)
+    group_typed (a ∷ ts) [] h = All-nil (IsTypedEntry v)
+    group_typed (a ∷ ts) (y ∷ ys) h =
+        All-append (IsTypedEntry v) (constructors_entries theory within (length a.vars) (own_type y.symbol (length a.vars)) a.constructors y.cons) (group_entries theory within ts ys)
+        (cons_typed (length a.vars) (own_type y.symbol (length a.vars)) a.constructors y.cons (own_in v y.symbol (length a.vars) h.0.0) h.0.1) (group_typed ts ys h.1)

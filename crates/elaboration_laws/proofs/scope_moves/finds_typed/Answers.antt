@@ -1,0 +1,6 @@
+use Rattle.elaboration_laws.specs.Scopes.{IsTypedThing}
+use Rattle.elaboration_laws.proofs.Scopes.{found_thing}
+use Rattle.elaboration_laws.proofs.scope_moves.finds_typed.Goals as goal
+
+pub returns : goal.returns
+returns u = λ v s names table path h. found_thing (IsTypedThing v s) names h table path

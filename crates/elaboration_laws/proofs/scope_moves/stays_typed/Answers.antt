@@ -1,0 +1,9 @@
+use Rattle.elaboration_laws.proofs.Extended.{scopes_part}
+use Rattle.elaboration_laws.proofs.MovedScopes.{moves_more}
+use Rattle.elaboration_laws.proofs.scope_moves.stays_typed.Goals as goal
+
+pub returns : goal.returns
+returns u = record {
+  scopes = λ v w s t names part g h. scopes_part v w part s t g names h;
+  moves = λ v w s t ms part g h. moves_more v w part s t g ms h;
+}

@@ -1,8 +1,0 @@
-use Rattle.std.proofs.Common.{◌≡◌, ◌++◌, drop, map, filter}
-use Rattle.explain.specs.Places.{begins_character}
-use Rattle.explain.specs.Message.{under_character}
-use Rattle.explain.proofs.message.caret_line.Given as goal
-
-abbrev pub invariant-loop-byte : goal.invariant-loop-byte
-invariant-loop-byte l =
-    l.text.items ++ map under_character (filter begins_character (drop l.byte-index l.before)) ≡ map under_character (filter begins_character l.before)

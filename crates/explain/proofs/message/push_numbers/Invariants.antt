@@ -1,6 +1,0 @@
-use Rattle.std.proofs.Common.{◌≡◌, ◌++◌, drop}
-use Rattle.explain.specs.Message.{spaced_words}
-use Rattle.explain.proofs.message.push_numbers.Given as goal
-
-abbrev pub invariant-loop-number : goal.invariant-loop-number
-invariant-loop-number l = l.text.items ++ spaced_words (drop l.number-index l.numbers) ≡ l.initial.text.items ++ spaced_words l.numbers

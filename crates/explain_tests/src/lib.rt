@@ -1,5 +1,0 @@
-//! Tests of the messages of faults.
-#![tactic(auto)]
-
-#[cfg(test)]
-mod messages;

@@ -1,5 +1,0 @@
-use Rattle.std.proofs.Common.{length}
-use Rattle.fact_rows.proofs.parts.+are_variables.Given as goal
-
-abbrev pub decreases-are_variables : goal.decreases-are_variables
-decreases-are_variables l = length l.args.now

@@ -1,4 +1,0 @@
-use Rattle.fact_rows.proofs.parts.+is_given.Given as goal
-
-abbrev pub decreases-is_given : goal.decreases-is_given
-decreases-is_given l = l.clause.0

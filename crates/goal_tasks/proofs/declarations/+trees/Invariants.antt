@@ -1,8 +1,0 @@
-use Rattle.std.proofs.Common.{◌+◌, ◌*◌}
-use Rattle.goal_tasks.proofs.declarations.+trees.Given as goal
-
-abbrev pub decreases-note_tree : goal.decreases-note_tree
-decreases-note_tree l = 2 * l.e.0 + 1
-
-abbrev pub decreases-note_parts : goal.decreases-note_parts
-decreases-note_parts l = 2 * l.e.0

@@ -1,9 +1,0 @@
-use Rattle.goal_tasks.proofs.Steps.{gains_from_none}
-use Rattle.goal_tasks.proofs.declarations.named_in.Goals as goal
-use Rattle.outside.proofs.Passed.{no_value}
-
-pub returns-in_err-gather_named : goal.returns-in_err-gather_named
-returns-in_err-gather_named c = no_value _ _ c.from_residual.result c.from_residual.ensures.1
-
-pub returns : goal.returns
-returns c = gains_from_none _ _ _ c.new-found.ensures.empty c.in_ok-gather_named.ensures

@@ -1,6 +1,0 @@
-use Rattle.std.proofs.Common.{◌≡◌, ◌+◌, length}
-use Rattle.std.specs.List.{range_with_len}
-use Rattle.goal_tasks.proofs.tuples.numbers.Given as goal
-
-abbrev pub invariant-loop-number : goal.invariant-loop-number
-invariant-loop-number l = (l.all.items ≡ range_with_len l.from (length l.all.items)) × (l.from + length l.all.items ≡ l.number)

@@ -1,0 +1,175 @@
+-- The tokens of a type or a pattern are read as it.
+use Rattle.grammar.proofs.reading.Common.{◌≡◌, ℕ, ◌+◌, List, [], ◌∷◌, ◌++◌, Option, Some, None, refl, sym, append_assoc, append-nil, Symbol, Name, Lexeme, Word, at, lx, mark, AreForms, AreParts, SyntaxForm, SyntaxForms, IsForm, IsHead, IsFormPart, IsPlaced, IsUnnamed, Own, PlacedList, PlacedRow, aliased, called, composed, enclosed, form_list, form_row, form_tail, infix_op, lower, more_forms, no_forms, past, pattern_forms, prefix_op, scoped, star, type_variable, type_forms, upper, variable, wild, write_called, write_form, write_own, named_at, Vals, row, read}
+use Rattle.tokens_why.specs.declared.terminal.Terminal.TheVariants as t
+use Rattle.grammar.specs.declared.symbols.Symbol.TheVariants as s
+use Rattle.grammar.proofs.reading.Reading.{Extends, Reads, Stops, apart_close, extended, passed, past-append}
+
+pub reads_qlid : (qs : List Word) (w : Word) (ys : List Lexeme) (i : ℕ) (k : List Symbol) (vs : Vals k) → Reads k ys (past i (scoped qs ++ (lx t.Lident w ∷ []))) vs → Reads (s.Qlid ∷ k) ((scoped qs ++ (lx t.Lident w ∷ [])) ++ ys) i (record { scopes = qs; last = w }, vs)
+reads_qlid [] w ys i k vs h = rw h refl
+reads_qlid (q ∷ qs) w ys i k vs h = rw (reads_qlid qs w ys (i + 1 + 1) k vs h) refl
+
+-- a type's name, before its arguments and as a part
+pub type_headed : (qs : List Word) (o : Own) (ts : SyntaxForms) (ys : List Lexeme) (i : ℕ) (k : List Symbol) (vs : Vals k) → IsHead type_forms o → Reads (s.Targs ∷ k) ys (past i (scoped qs ++ write_own o)) (ts, vs) → Reads (s.TypeOf ∷ k) ((scoped qs ++ write_own o) ++ ys) i (composed (at i) (called i qs o) ts, vs)
+type_headed [] (lower w) ts ys i k vs l h = rw h refl
+type_headed (q ∷ qs) (lower w) ts ys i k vs l h = rw (reads_qlid qs w ys (i + 1 + 1) (s.Targs ∷ k) (ts, vs) h) refl
+type_headed qs _ ts ys i k vs l h = elim l [ ]
+
+pub atype_headed : (qs : List Word) (o : Own) (ys : List Lexeme) (i : ℕ) (k : List Symbol) (vs : Vals k) → IsHead type_forms o → Reads k ys (past i (scoped qs ++ write_own o)) vs → Reads (s.Atype ∷ k) ((scoped qs ++ write_own o) ++ ys) i (composed (at i) (called i qs o) no_forms, vs)
+atype_headed [] (lower w) ys i k vs l h = rw h refl
+atype_headed (q ∷ qs) (lower w) ys i k vs l h = rw (reads_qlid qs w ys (i + 1 + 1) k vs h) refl
+atype_headed qs _ ys i k vs l h = elim l [ ]
+
+pub targs_extend : Extends s.Targs s.Atype (s.Targs ∷ []) (λ v vs. more_forms v vs.0) []
+targs_extend = record { is = refl; due = refl; apart = λ x r e. refl }
+
+pub ttuple_extend : Extends s.Ttuple s.TypeOf (s.Tmore ∷ []) (λ v vs. more_forms v vs.0) (row s.Ttuple t.RParen [] (λ i w vs. no_forms) ∷ [])
+ttuple_extend = record { is = refl; due = refl; apart = apart_close (row s.Ttuple t.RParen [] (λ i w vs. no_forms)) refl refl }
+
+pub regroup : (a b c d : List Lexeme) → ((a ++ b) ++ c) ++ d ≡ a ++ ((b ++ c) ++ d)
+regroup a b c d = simp append_assoc
+
+pub type_stop : (ts : SyntaxForms) (ys : List Lexeme) → Stops s.Targs ((form_tail ts ++ (mark t.RParen ∷ [])) ++ ys)
+type_stop no_forms ys = refl
+type_stop (more_forms f fs) ys = refl
+
+mutual
+  pub reads_type : (f : SyntaxForm) (ys : List Lexeme) (i : ℕ) (k : List Symbol) (vs : Vals k) → IsForm type_forms f → IsPlaced i f → Stops s.Targs ys → Reads k ys (past i (write_form f)) vs → Reads (s.TypeOf ∷ k) (write_form f ++ ys) i (f, vs)
+  reads_type (type_variable a w) ys i k vs l p n h = rw (h, p) refl
+  reads_type (composed a c ts) ys i k vs l p n h = rw (append_assoc (write_called c) (form_row ts) ys, p.0, p.1) (type_headed c.scopes c.own ts (form_row ts ++ ys) i k vs l.0 (reads_row ts ys (past i (write_called c)) k vs l.1 p.2 n (rw past-append at h)))
+  reads_type (enclosed a ts) ys i k vs l p n h = rw (p.0, reads_tuple ts ys (i + 1) k vs l p.1 h) refl
+  reads_type (wild a) ys i k vs l p n h = elim l [ ]
+  reads_type (variable a m) ys i k vs l p n h = elim l [ ]
+  reads_type (aliased a f m) ys i k vs l p n h = elim l.0 [ ]
+
+  pub reads_atype : (f : SyntaxForm) (ys : List Lexeme) (i : ℕ) (k : List Symbol) (vs : Vals k) → IsFormPart f → IsForm type_forms f → IsPlaced i f → Reads k ys (past i (write_form f)) vs → Reads (s.Atype ∷ k) (write_form f ++ ys) i (f, vs)
+  reads_atype (type_variable a w) ys i k vs d l p h = rw (h, p) refl
+  reads_atype (composed a c no_forms) ys i k vs d l p h = rw (append-nil, p.0, p.1) (atype_headed c.scopes c.own ys i k vs l.0 (rw append-nil at h))
+  reads_atype (composed a c (more_forms g gs)) ys i k vs d l p h = elim d [ ]
+  reads_atype (enclosed a ts) ys i k vs d l p h = rw (p.0, reads_tuple ts ys (i + 1) k vs l p.1 h) refl
+  reads_atype (wild a) ys i k vs d l p h = elim l [ ]
+  reads_atype (variable a m) ys i k vs d l p h = elim l [ ]
+  reads_atype (aliased a f m) ys i k vs d l p h = elim d [ ]
+
+  -- side by side
+  pub reads_row : (ts : SyntaxForms) (ys : List Lexeme) (i : ℕ) (k : List Symbol) (vs : Vals k) → AreParts type_forms ts → PlacedRow i ts → Stops s.Targs ys → Reads k ys (past i (form_row ts)) vs → Reads (s.Targs ∷ k) (form_row ts ++ ys) i (ts, vs)
+  reads_row no_forms ys i k vs l p n h = passed s.Targs no_forms k ys i vs refl refl n h
+  reads_row (more_forms f fs) ys i k vs l p n h = rw append_assoc (extended s.Targs s.Atype (s.Targs ∷ []) (λ v vs. more_forms v vs.0) [] targs_extend (write_form f ++ (form_row fs ++ ys)) i k f (fs, vs)
+      (reads_atype f (form_row fs ++ ys) i (s.Targs ∷ k) (fs, vs) l.0 l.1 p.0 (reads_row fs ys (past i (write_form f)) k vs l.2 p.1 n (rw past-append at h))))
+
+  -- in parentheses
+  pub reads_tuple : (ts : SyntaxForms) (ys : List Lexeme) (i : ℕ) (k : List Symbol) (vs : Vals k) → AreForms type_forms ts → PlacedList i ts → Reads k ys (past i (form_list ts ++ (mark t.RParen ∷ []))) vs → Reads (s.Ttuple ∷ k) ((form_list ts ++ (mark t.RParen ∷ [])) ++ ys) i (ts, vs)
+  reads_tuple no_forms ys i k vs l p h = rw h refl
+  reads_tuple (more_forms f fs) ys i k vs l p h = rw (regroup (write_form f) (form_tail fs) (mark t.RParen ∷ []) ys) (extended s.Ttuple s.TypeOf (s.Tmore ∷ []) (λ v vs. more_forms v vs.0) (row s.Ttuple t.RParen [] (λ i w vs. no_forms) ∷ []) ttuple_extend (write_form f ++ ((form_tail fs ++ (mark t.RParen ∷ [])) ++ ys)) i k f (fs, vs)
+      (reads_type f ((form_tail fs ++ (mark t.RParen ∷ [])) ++ ys) i (s.Tmore ∷ k) (fs, vs) l.0 p.0 (type_stop fs ys) (reads_more fs ys (past i (write_form f)) k vs l.1 p.1 (rw (append_assoc, past-append) at h))))
+
+  pub reads_more : (ts : SyntaxForms) (ys : List Lexeme) (i : ℕ) (k : List Symbol) (vs : Vals k) → AreForms type_forms ts → PlacedList (i + 1) ts → Reads k ys (past i (form_tail ts ++ (mark t.RParen ∷ []))) vs → Reads (s.Tmore ∷ k) ((form_tail ts ++ (mark t.RParen ∷ [])) ++ ys) i (ts, vs)
+  reads_more no_forms ys i k vs l p h = rw h refl
+  reads_more (more_forms f fs) ys i k vs l p h = rw (
+    regroup (write_form f) (form_tail fs) (mark t.RParen ∷ []) ys,
+    reads_type f ((form_tail fs ++ (mark t.RParen ∷ [])) ++ ys) (i + 1) (s.Tmore ∷ k) (fs, vs) l.0 p.0 (type_stop fs ys) (reads_more fs ys (past (i + 1) (write_form f)) k vs l.1 p.1 (rw (append_assoc, past-append) at h)),
+  ) refl
+
+-- patterns
+pub reads_quids : (qs : List Word) (w : Word) (ys : List Lexeme) (i : ℕ) (k : List Symbol) (vs : Vals k) → Stops s.Quids ys → Reads k ys (past (i + 1) (scoped qs ++ (lx t.Uident w ∷ []))) vs → Reads (s.Quids ∷ k) (mark t.Dot ∷ ((scoped qs ++ (lx t.Uident w ∷ [])) ++ ys)) i (Some (record { scopes = qs; last = w }), vs)
+reads_quids [] w ys i k vs n h = rw (passed s.Quids None k ys (i + 1 + 1) vs refl refl n h) refl
+reads_quids (q ∷ qs) w ys i k vs n h = rw (reads_quids qs w ys (i + 1 + 1) k vs n h) refl
+
+pub pat_headed : (qs : List Word) (o : Own) (ts : SyntaxForms) (m : Option Name) (ys : List Lexeme) (i : ℕ) (k : List Symbol) (vs : Vals k) → IsHead pattern_forms o → Stops s.Quids ys → Reads (s.Patoms ∷ s.AsPart ∷ k) ys (past i (scoped qs ++ write_own o)) (ts, (m, vs)) → Reads (s.Pat ∷ k) ((scoped qs ++ write_own o) ++ ys) i (named_at i (composed (at i) (called i qs o) ts) m, vs)
+pat_headed [] (upper w) ts m ys i k vs l n h = rw (passed s.Quids None (s.Patoms ∷ s.AsPart ∷ k) ys (i + 1) (ts, (m, vs)) refl refl n h) refl
+pat_headed (q ∷ qs) (upper w) ts m ys i k vs l n h = rw (reads_quids qs w ys (i + 1) (s.Patoms ∷ s.AsPart ∷ k) (ts, (m, vs)) n h) refl
+pat_headed qs _ ts m ys i k vs l n h = elim l [ ]
+
+pub patom_headed : (qs : List Word) (o : Own) (ys : List Lexeme) (i : ℕ) (k : List Symbol) (vs : Vals k) → IsHead pattern_forms o → Stops s.Quids ys → Reads k ys (past i (scoped qs ++ write_own o)) vs → Reads (s.Patom ∷ k) ((scoped qs ++ write_own o) ++ ys) i (composed (at i) (called i qs o) no_forms, vs)
+patom_headed [] (upper w) ys i k vs l n h = rw (passed s.Quids None k ys (i + 1) vs refl refl n h) refl
+patom_headed (q ∷ qs) (upper w) ys i k vs l n h = rw (reads_quids qs w ys (i + 1) k vs n h) refl
+patom_headed qs _ ys i k vs l n h = elim l [ ]
+
+pub patoms_extend : Extends s.Patoms s.Patom (s.Patoms ∷ []) (λ v vs. more_forms v vs.0) []
+patoms_extend = record { is = refl; due = refl; apart = λ x r e. refl }
+
+pub ptuple_extend : Extends s.Ptuple s.Pat (s.Pmore ∷ []) (λ v vs. more_forms v vs.0) (row s.Ptuple t.RParen [] (λ i w vs. no_forms) ∷ [])
+ptuple_extend = record { is = refl; due = refl; apart = apart_close (row s.Ptuple t.RParen [] (λ i w vs. no_forms)) refl refl }
+
+-- what may come after a pattern
+pub record PatStops (ys : List Lexeme) : Type 0 where
+  pub quids : Stops s.Quids ys
+  pub patoms : Stops s.Patoms ys
+  pub as_part : Stops s.AsPart ys
+
+pub pat_stop : (ts : SyntaxForms) (ys : List Lexeme) → PatStops ((form_tail ts ++ (mark t.RParen ∷ [])) ++ ys)
+pat_stop no_forms ys = record { quids = refl; patoms = refl; as_part = refl }
+pat_stop (more_forms f fs) ys = record { quids = refl; patoms = refl; as_part = refl }
+
+-- no scope comes after patterns side by side
+pub row_stop : (ts : SyntaxForms) (ys : List Lexeme) → AreParts pattern_forms ts → Stops s.Quids ys → Stops s.Quids (form_row ts ++ ys)
+row_stop no_forms ys l n = n
+row_stop (more_forms (wild a) fs) ys l n = refl
+row_stop (more_forms (variable a m) fs) ys l n = refl
+row_stop (more_forms (type_variable a w) fs) ys l n = elim l.1 [ ]
+row_stop (more_forms (composed a c gs) fs) ys l n = by_scopes c.scopes c.own gs
+  where
+    by_scopes : (qs : List Word) (o : Own) (gs : SyntaxForms) → Stops s.Quids ((((scoped qs ++ write_own o) ++ form_row gs) ++ form_row fs) ++ ys)
+    by_scopes [] (lower w) gs = refl
+    by_scopes [] (upper w) gs = refl
+    by_scopes [] (infix_op o w) gs = refl
+    by_scopes [] (prefix_op o w) gs = refl
+    by_scopes [] star gs = refl
+    by_scopes (q ∷ qs) o gs = refl
+row_stop (more_forms (enclosed a gs) fs) ys l n = refl
+row_stop (more_forms (aliased a p m) fs) ys l n = elim l.0 [ ]
+
+pub reads_as : (x : Name) (ys : List Lexeme) (j : ℕ) (k : List Symbol) (vs : Vals k) → x.at ≡ j + 1 → Reads k ys (j + 1 + 1) vs → Reads (s.AsPart ∷ k) (mark t.AsWord ∷ lx t.Lident x.text ∷ ys) j (Some x, vs)
+reads_as x ys j k vs p h = rw (h, sym p) refl
+
+-- What comes after a pattern: a name may, after one that has none.
+abbrev pub Behind : SyntaxForm → Option Name → (k : List Symbol) → List Lexeme → ℕ → Vals k → Type 0
+Behind (aliased a g x) m k ys j vs = (m ≡ None) × Reads k ys j vs
+Behind _ m k ys j vs = Reads (s.AsPart ∷ k) ys j (m, vs)
+
+pub behind_named : (f : SyntaxForm) (m : Option Name) (k : List Symbol) (ys : List Lexeme) (j : ℕ) (vs : Vals k) → IsUnnamed f → Reads (s.AsPart ∷ k) ys j (m, vs) → Behind f m k ys j vs
+behind_named (aliased a g x) m k ys j vs u h = elim u [ ]
+behind_named _ m k ys j vs u h = h
+
+pub behind_plain : (f : SyntaxForm) (k : List Symbol) (ys : List Lexeme) (j : ℕ) (vs : Vals k) → Stops s.AsPart ys → Reads k ys j vs → Behind f None k ys j vs
+behind_plain (aliased a g x) k ys j vs n h = (refl, h)
+behind_plain _ k ys j vs n h = passed s.AsPart None k ys j vs refl refl n h
+
+mutual
+  pub reads_named : (f : SyntaxForm) (m : Option Name) (ys : List Lexeme) (i : ℕ) (k : List Symbol) (vs : Vals k) → IsForm pattern_forms f → IsPlaced i f → Stops s.Quids ys → Stops s.Patoms ys → Behind f m k ys (past i (write_form f)) vs → Reads (s.Pat ∷ k) (write_form f ++ ys) i (named_at i f m, vs)
+  reads_named (wild a) m ys i k vs l p n o h = rw (h, p) refl
+  reads_named (variable a x) m ys i k vs l p n o h = rw (h, p.0, sym p.1) refl
+  reads_named (type_variable a w) m ys i k vs l p n o h = elim l [ ]
+  reads_named (composed a c ts) m ys i k vs l p n o h = rw (append_assoc (write_called c) (form_row ts) ys, p.0, p.1) (pat_headed c.scopes c.own ts m (form_row ts ++ ys) i k vs l.0 (row_stop ts ys l.1 n) (reads_patoms ts ys (past i (write_called c)) (s.AsPart ∷ k) (m, vs) l.1 p.2 n o (rw past-append at h)))
+  reads_named (enclosed a ts) m ys i k vs l p n o h = rw (p.0, reads_ptuple ts ys (i + 1) (s.AsPart ∷ k) (m, vs) l p.1 h) refl
+  reads_named (aliased a g x) m ys i k vs l p n o h = rw (h.0, p.0, append_assoc (write_form g) (mark t.AsWord ∷ lx t.Lident x.text ∷ []) ys)
+      (reads_named g (Some x) (mark t.AsWord ∷ lx t.Lident x.text ∷ ys) i k vs l.2 p.1 refl refl
+      (behind_named g (Some x) k (mark t.AsWord ∷ lx t.Lident x.text ∷ ys) (past i (write_form g)) vs l.1 (reads_as x ys (past i (write_form g)) k vs p.2 (rw past-append at h.1))))
+
+  pub reads_patom : (f : SyntaxForm) (ys : List Lexeme) (i : ℕ) (k : List Symbol) (vs : Vals k) → IsFormPart f → IsForm pattern_forms f → IsPlaced i f → Stops s.Quids ys → Reads k ys (past i (write_form f)) vs → Reads (s.Patom ∷ k) (write_form f ++ ys) i (f, vs)
+  reads_patom (wild a) ys i k vs d l p n h = rw (h, p) refl
+  reads_patom (variable a x) ys i k vs d l p n h = rw (h, p.0, sym p.1) refl
+  reads_patom (type_variable a w) ys i k vs d l p n h = elim l [ ]
+  reads_patom (composed a c no_forms) ys i k vs d l p n h = rw (append-nil, p.0, p.1) (patom_headed c.scopes c.own ys i k vs l.0 n (rw append-nil at h))
+  reads_patom (composed a c (more_forms g gs)) ys i k vs d l p n h = elim d [ ]
+  reads_patom (enclosed a ts) ys i k vs d l p n h = rw (p.0, reads_ptuple ts ys (i + 1) k vs l p.1 h) refl
+  reads_patom (aliased a g x) ys i k vs d l p n h = elim d [ ]
+
+  pub reads_patoms : (ts : SyntaxForms) (ys : List Lexeme) (i : ℕ) (k : List Symbol) (vs : Vals k) → AreParts pattern_forms ts → PlacedRow i ts → Stops s.Quids ys → Stops s.Patoms ys → Reads k ys (past i (form_row ts)) vs → Reads (s.Patoms ∷ k) (form_row ts ++ ys) i (ts, vs)
+  reads_patoms no_forms ys i k vs l p n o h = passed s.Patoms no_forms k ys i vs refl refl o h
+  reads_patoms (more_forms f fs) ys i k vs l p n o h = rw append_assoc (extended s.Patoms s.Patom (s.Patoms ∷ []) (λ v vs. more_forms v vs.0) [] patoms_extend (write_form f ++ (form_row fs ++ ys)) i k f (fs, vs)
+      (reads_patom f (form_row fs ++ ys) i (s.Patoms ∷ k) (fs, vs) l.0 l.1 p.0 (row_stop fs ys l.2 n) (reads_patoms fs ys (past i (write_form f)) k vs l.2 p.1 n o (rw past-append at h))))
+
+  pub reads_ptuple : (ts : SyntaxForms) (ys : List Lexeme) (i : ℕ) (k : List Symbol) (vs : Vals k) → AreForms pattern_forms ts → PlacedList i ts → Reads k ys (past i (form_list ts ++ (mark t.RParen ∷ []))) vs → Reads (s.Ptuple ∷ k) ((form_list ts ++ (mark t.RParen ∷ [])) ++ ys) i (ts, vs)
+  reads_ptuple no_forms ys i k vs l p h = rw h refl
+  reads_ptuple (more_forms f fs) ys i k vs l p h = rw (regroup (write_form f) (form_tail fs) (mark t.RParen ∷ []) ys) (extended s.Ptuple s.Pat (s.Pmore ∷ []) (λ v vs. more_forms v vs.0) (row s.Ptuple t.RParen [] (λ i w vs. no_forms) ∷ []) ptuple_extend (write_form f ++ ((form_tail fs ++ (mark t.RParen ∷ [])) ++ ys)) i k f (fs, vs)
+      (reads_named f None ((form_tail fs ++ (mark t.RParen ∷ [])) ++ ys) i (s.Pmore ∷ k) (fs, vs) l.0 p.0 (pat_stop fs ys).quids (pat_stop fs ys).patoms (behind_plain f (s.Pmore ∷ k) ((form_tail fs ++ (mark t.RParen ∷ [])) ++ ys) (past i (write_form f)) (fs, vs) (pat_stop fs ys).as_part (reads_pmore fs ys (past i (write_form f)) k vs l.1 p.1 (rw (append_assoc, past-append) at h)))))
+
+  pub reads_pmore : (ts : SyntaxForms) (ys : List Lexeme) (i : ℕ) (k : List Symbol) (vs : Vals k) → AreForms pattern_forms ts → PlacedList (i + 1) ts → Reads k ys (past i (form_tail ts ++ (mark t.RParen ∷ []))) vs → Reads (s.Pmore ∷ k) ((form_tail ts ++ (mark t.RParen ∷ [])) ++ ys) i (ts, vs)
+  reads_pmore no_forms ys i k vs l p h = rw h refl
+  reads_pmore (more_forms f fs) ys i k vs l p h = rw (
+    regroup (write_form f) (form_tail fs) (mark t.RParen ∷ []) ys,
+    reads_named f None ((form_tail fs ++ (mark t.RParen ∷ [])) ++ ys) (i + 1) (s.Pmore ∷ k) (fs, vs) l.0 p.0 (pat_stop fs ys).quids (pat_stop fs ys).patoms (behind_plain f (s.Pmore ∷ k) ((form_tail fs ++ (mark t.RParen ∷ [])) ++ ys) (past (i + 1) (write_form f)) (fs, vs) (pat_stop fs ys).as_part (reads_pmore fs ys (past (i + 1) (write_form f)) k vs l.1 p.1 (rw (append_assoc, past-append) at h))),
+  ) refl
+
+pub reads_pat : (f : SyntaxForm) (ys : List Lexeme) (i : ℕ) (k : List Symbol) (vs : Vals k) → IsForm pattern_forms f → IsPlaced i f → PatStops ys → Reads k ys (past i (write_form f)) vs → Reads (s.Pat ∷ k) (write_form f ++ ys) i (f, vs)
+reads_pat f ys i k vs l p n h = reads_named f None ys i k vs l p n.quids n.patoms (behind_plain f k ys (past i (write_form f)) vs n.as_part h)

@@ -1,0 +1,60 @@
+-- What the rules of branches, `let` and quantifiers may be read as, and the tokens of that.
+use Rattle.grammar.proofs.reading.Common.{ℕ, ◌+◌, List, [], ◌∷◌, ◌++◌, Option, Lexeme, mark, AreForms, SyntaxForm, SyntaxForms, PlacedList, form_tail, past, pattern_forms, AreAlternatives, AreBinders, AreBranches, AreLevel, AreTerms, Branches, HasBranch, IsLevel, IsPlacedTree, IsTrigger, IsTypePart, PlacedAlternatives, PlacedBinders, PlacedBranches, PlacedCommas, PlacedNames, PlacedPart, PlacedTrigger, SyntaxTree, SyntaxTrigger, alternative_tail, bar_before, binder_tail, name_row, terms_tail, type_part, write, write_branches, write_others, write_tail, write_trigger, ArmPart, BinderPart, BoundPart, BranchPart, CasesPart, LetPart, TermsPart}
+use Rattle.tokens_why.specs.declared.terminal.Terminal.TheVariants as t
+
+abbrev pub write_arm : ArmPart → List Lexeme
+write_arm a = form_tail a.patterns ++ (alternative_tail a.alternatives ++ (mark t.Arrow ∷ (write a.body ++ (write_others a.others ++ (mark t.EndWord ∷ [])))))
+
+abbrev pub write_branch : BranchPart → List Lexeme
+write_branch b = bar_before b.bar ++ (write_branches b.branches ++ (mark t.EndWord ∷ []))
+
+abbrev pub write_cases : CasesPart → List Lexeme
+write_cases c = write_tail c.others ++ (mark t.WithWord ∷ (bar_before c.bar ++ (write_branches c.branches ++ (mark t.EndWord ∷ []))))
+
+abbrev pub write_let : LetPart → List Lexeme
+write_let l = form_tail l.patterns ++ (mark t.Equal ∷ (write l.value ++ (mark t.InWord ∷ write l.body)))
+
+abbrev pub write_bound : BoundPart → List Lexeme
+write_bound b = binder_tail b.others ++ (write_trigger b.trigger ++ (mark t.Dot ∷ write b.body))
+
+abbrev pub write_names : BinderPart → List Lexeme
+write_names b = name_row b.names ++ (type_part b.of_type ++ write_bound b.bound)
+
+abbrev pub write_terms_part : TermsPart → List Lexeme
+write_terms_part p = terms_tail p.terms p.bars ++ (mark t.RBrack ∷ mark t.Dot ∷ write p.body)
+
+abbrev pub IsArmBody : ℕ → SyntaxTree → Branches → Type 0
+IsArmBody i e bs = IsLevel e × IsPlacedTree (i + 1) e × AreBranches bs × PlacedBranches (past (i + 1) (write e) + 1) bs
+
+abbrev pub IsArmRest : ℕ → List SyntaxForms → SyntaxTree → Branches → Type 0
+IsArmRest i pss e bs = AreAlternatives pss × PlacedAlternatives (i + 1) pss × IsArmBody (past i (alternative_tail pss)) e bs
+
+abbrev pub IsArm : ℕ → ArmPart → Type 0
+IsArm i a = AreForms pattern_forms a.patterns × PlacedList (i + 1) a.patterns × IsArmRest (past i (form_tail a.patterns)) a.alternatives a.body a.others
+
+abbrev pub IsBranch : ℕ → BranchPart → Type 0
+IsBranch i b = HasBranch b.branches × AreBranches b.branches × PlacedBranches (past i (bar_before b.bar)) b.branches
+
+abbrev pub IsCases : ℕ → CasesPart → Type 0
+IsCases i c = AreLevel c.others × PlacedCommas (i + 1) c.others × IsBranch (past i (write_tail c.others) + 1) (record { bar = c.bar; branches = c.branches })
+
+abbrev pub IsLetRest : ℕ → SyntaxTree → SyntaxTree → Type 0
+IsLetRest i e f = IsLevel e × IsPlacedTree (i + 1) e × IsLevel f × IsPlacedTree (past (i + 1) (write e) + 1) f
+
+abbrev pub IsLet : ℕ → LetPart → Type 0
+IsLet i l = AreForms pattern_forms l.patterns × PlacedList (i + 1) l.patterns × IsLetRest (past i (form_tail l.patterns)) l.value l.body
+
+abbrev pub IsBoundRest : ℕ → SyntaxTrigger → SyntaxTree → Type 0
+IsBoundRest i g e = IsTrigger g × PlacedTrigger i g × IsLevel e × IsPlacedTree (past i (write_trigger g) + 1) e
+
+abbrev pub IsBound : ℕ → BoundPart → Type 0
+IsBound i b = AreBinders b.others × PlacedBinders (i + 1) b.others × IsBoundRest (past i (binder_tail b.others)) b.trigger b.body
+
+abbrev pub IsTyping : ℕ → Option SyntaxForm → BoundPart → Type 0
+IsTyping i ty b = IsTypePart ty × PlacedPart i ty × IsBound (past i (type_part ty)) b
+
+abbrev pub IsNames : ℕ → BinderPart → Type 0
+IsNames i b = PlacedNames i b.names × IsTyping (past i (name_row b.names)) b.of_type b.bound
+
+abbrev pub IsTerms : ℕ → TermsPart → Type 0
+IsTerms i p = AreTerms p.terms p.bars × PlacedCommas (i + 1) p.terms × IsLevel p.body × IsPlacedTree (past i (terms_tail p.terms p.bars) + 1 + 1) p.body

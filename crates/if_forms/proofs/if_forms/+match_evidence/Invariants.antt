@@ -1,4 +1,0 @@
-use Rattle.if_forms.proofs.if_forms.+match_evidence.Given as goal
-
-abbrev pub decreases-match_evidence : goal.decreases-match_evidence
-decreases-match_evidence l = l.form.0

@@ -1,7 +1,0 @@
-use Rattle.std.proofs.Common.{arith}
-use Rattle.trees.specs.Node.{tree_at}
-use Rattle.index_bounds.proofs.Fits.{small_above}
-use Rattle.index_bounds.proofs.bounding.+bounding.Goals as goal
-
-pub tree_bound-returns-then-size-lt-NODES : goal.tree_bound-returns-then-size-lt-NODES
-tree_bound-returns-then-size-lt-NODES t c = record { above = omega (arith, small_above (tree_at c.args.store.now c.args.e), c.loose.ensures, c.size.ensures); known = c.requires.known }

@@ -1,8 +1,0 @@
-use Rattle.std.proofs.Common.{◌+◌, ◌*◌}
-use Rattle.instance_search.proofs.gathering.+gathering.Given as goal
-
-abbrev pub decreases-gather_tree : goal.decreases-gather_tree
-decreases-gather_tree l = 2 * l.e.0 + 1
-
-abbrev pub decreases-gather_parts : goal.decreases-gather_parts
-decreases-gather_parts l = 2 * l.e.0

@@ -1,8 +1,0 @@
-use Rattle.std.proofs.Common.{[], take}
-use Rattle.std.specs.List.{flat_map}
-use Rattle.name_tables.specs.Seen.{seen_occurrences, GainsKeys}
-use Rattle.wanted_instances.specs.Instances.{instance_types}
-use Rattle.instance_search.proofs.gathering.types_in_order.Given as goal
-
-abbrev pub invariant-loop-key : goal.invariant-loop-key
-invariant-loop-key l = GainsKeys l.store [] (flat_map instance_types (seen_occurrences l.store (take l.key-index l.set))) l.types.keys

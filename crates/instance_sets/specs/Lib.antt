@@ -1,3 +1,0 @@
-pub use Rattle.name_tables.specs as name_tables
-pub mod Made
-pub mod Sets

@@ -1,3 +1,0 @@
-pub mod Typed
-pub mod Kept
-pub mod Laws

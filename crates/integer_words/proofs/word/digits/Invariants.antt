@@ -1,6 +1,0 @@
-use Rattle.std.proofs.Common.{◌≡◌, ◌<◌, drop}
-use Rattle.integer_words.specs.Integers.{number_from}
-use Rattle.integer_words.proofs.word.digits.Given as goal
-
-abbrev pub invariant-loop-c : goal.invariant-loop-c
-invariant-loop-c l = (l.number < l.bound) × (number_from l.bound l.number (drop l.c-index l.word) ≡ number_from l.bound 0 l.word)

@@ -1,4 +1,0 @@
-use Rattle.law_evidence.proofs.cases.+refute_case.Given as goal
-
-abbrev pub decreases-refute_case : goal.decreases-refute_case
-decreases-refute_case l = l.whole.0

@@ -1,5 +1,0 @@
-use Rattle.std.proofs.Common.{length}
-use Rattle.linear_leaf_tests.proofs.rows.+are_held.Given as goal
-
-abbrev pub decreases-are_held : goal.decreases-are_held
-decreases-are_held c = length c.sequent.now

@@ -1,4 +1,0 @@
-use Rattle.match_cover.proofs.constructors.+are_variables.Given as goal
-
-abbrev pub decreases-are_variables : goal.decreases-are_variables
-decreases-are_variables l = l.list.0

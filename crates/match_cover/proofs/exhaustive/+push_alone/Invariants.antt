@@ -1,5 +1,0 @@
-use Rattle.std.proofs.Common.{length}
-use Rattle.match_cover.proofs.exhaustive.+push_alone.Given as goal
-
-abbrev pub decreases-push_alone : goal.decreases-push_alone
-decreases-push_alone l = length l.patterns.now

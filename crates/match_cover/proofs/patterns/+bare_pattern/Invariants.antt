@@ -1,4 +1,0 @@
-use Rattle.match_cover.proofs.patterns.+bare_pattern.Given as goal
-
-abbrev pub decreases-bare_pattern : goal.decreases-bare_pattern
-decreases-bare_pattern l = l.pattern.0

@@ -1,4 +1,0 @@
-use Rattle.match_terms.proofs.applied.+push_members.Given as goal
-
-abbrev pub decreases-push_members : goal.decreases-push_members
-decreases-push_members l = l.list.0

@@ -1,5 +1,0 @@
-use Rattle.std.proofs.Common.{length}
-use Rattle.match_terms.proofs.asking.+conjunction.Given as goal
-
-abbrev pub decreases-conjunction : goal.decreases-conjunction
-decreases-conjunction g l = length l.formulas.now

@@ -1,8 +1,0 @@
-//! The entries of name tables: a name, and what it stands for.
-//!
-//! Contract: the types alone.
-#![tactic(auto)]
-
-mod names;
-
-pub use names::{NameEntry, NameOf};

@@ -1,0 +1,8 @@
+pub use Rattle.scopes.proofs as scopes
+pub use Rattle.surface.proofs as surface
+pub mod Placed
+pub mod Nodes
+pub mod Told
+pub mod Operated
+pub mod Rows
+pub mod Tuples

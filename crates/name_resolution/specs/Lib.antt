@@ -1,0 +1,7 @@
+pub use Rattle.scopes.specs as scopes
+pub use Rattle.surface.specs as surface
+pub mod variables
+pub mod Abstract
+pub mod Where
+pub mod Faults
+pub mod Naming

@@ -1,6 +1,0 @@
-use Rattle.std.proofs.Common.{◌≡◌}
-use Rattle.names_space.specs.Kept.{brought_before}
-use Rattle.names_space.proofs.entries.Entries.bring_all.Given as goal
-
-abbrev pub invariant-loop-item : goal.invariant-loop-item
-invariant-loop-item l = l.self ≡ brought_before l.fn.self l.yielded

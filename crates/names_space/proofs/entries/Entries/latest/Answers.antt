@@ -1,7 +1,0 @@
-use Rattle.std.proofs.Common.{ap, ◌∙◌}
-use Rattle.names_space.specs.Kept.{meaning_thing}
-use Rattle.names_space.proofs.Listed.{thing_of-meaning}
-use Rattle.names_space.proofs.entries.Entries.latest.Goals as goal
-
-pub returns : goal.returns
-returns c = c.thing_of.ensures ∙ ap meaning_thing (c.in_table.ensures ∙ c.meanings_of.ensures c.args.table) ∙ thing_of-meaning c.args.table c.args.name.now c.args.self.now

@@ -1,0 +1,99 @@
+-- The definitions on small sources: by computation alone.
+use Rattle.std.proofs.Common.{◌≡◌, ℕ, zero, suc, pos, true, false, cond, List, [], ◌∷◌, Option, Some, None, refl, codes}
+use Rattle.std.specs.Str.{bytes_eq}
+use Rattle.trees.specs.Tree.{Tree, Leaf, One, Two, HTyVar, HTyApp, HEnd, HBound, HEq, HForall, HLet, HPatVar}
+use Rattle.trees.specs.Sorts.{int_type}
+use Rattle.tasks.specs.declared.signature.SymbolKind.{SymbolKind}
+use Rattle.tasks.specs.declared.signature.SymbolKind.TheVariants.{Kind, Function, Predicate, Constructor}
+use Rattle.tasks.specs.Task.{SymbolTree, int_symbol}
+use Rattle.tasks.specs.Equations.{cells}
+use Rattle.surface.specs.Lexeme.{Word}
+use Rattle.name_resolution.specs.Abstract.{composed_type, no_types, more_types, Pattern, variable_pattern, tuple_pattern, no_patterns, more_patterns, no_alternatives, more_alternatives, Expression, applied_expression, infix_expression, integer_expression, true_expression, tuple_expression, equality_expression, let_expression, match_expression, quantified_expression, no_expressions, more_expressions, no_branches, more_branches}
+use Rattle.name_resolution.specs.Where.{Where, Stands, Abbreviates}
+use Rattle.open_types.specs.Patterns.{local, alternatives_pieces, all_notes, reordered}
+use Rattle.open_types.specs.Pieces.{piece, type_at}
+use Rattle.name_resolution.proofs.Rows.{called}
+
+abbrev entry : Word → SymbolKind → ℕ → List Tree → Option Tree → SymbolTree
+entry name kind vars args result = record { theory = codes "T"; name = name; kind = kind; vars = vars; args = args; result = result }
+
+abbrev unknown : ℕ → Tree
+unknown n = Leaf (HTyVar n)
+
+abbrev t_type : Tree
+t_type = One (HTyApp 1) (Leaf HEnd)
+
+abbrev list_of : Tree → Tree
+list_of a = One (HTyApp 5) (cells (a ∷ []))
+
+abbrev pair_of : Tree → Tree → Tree
+pair_of a b = One (HTyApp 8) (cells (a ∷ b ∷ []))
+
+abbrev pair_at : ℕ → Option ℕ
+pair_at (suc (suc zero)) = Some 9
+pair_at n = None
+
+-- `int`, a type `t`, constants `c` and `d` of it, `+`, a type `list` with `Nil`, a predicate `p` of one argument, and pairs
+abbrev here : Where
+here = record {
+  symbols = int_symbol ∷ entry (codes "t") Kind 0 [] None ∷ entry (codes "c") Function 0 [] (Some t_type) ∷ entry (codes "d") Function 0 [] (Some t_type)
+      ∷ entry (codes "+") Function 0 (int_type ∷ int_type ∷ []) (Some int_type) ∷ entry (codes "list") Kind 1 [] None
+      ∷ entry (codes "Nil") Constructor 1 [] (Some (list_of (unknown 0))) ∷ entry (codes "p") Predicate 0 (t_type ∷ []) None
+      ∷ entry (codes "tuple2") Kind 2 [] None ∷ entry (codes "Tuple2") Constructor 2 (unknown 0 ∷ unknown 1 ∷ []) (Some (pair_of (unknown 0) (unknown 1))) ∷ [];
+  types = called ((codes "pair", Abbreviates 1 (list_of (list_of (unknown 0)))) ∷ (codes "t", Stands 1) ∷ []);
+  names = called ((codes "c", 2) ∷ (codes "d", 3) ∷ (codes "+", 4) ∷ (codes "Nil", 6) ∷ (codes "p", 7) ∷ []);
+  tuples = pair_at;
+  vars = [];
+}
+
+abbrev name : ℕ → Word → Expression
+name i x = applied_expression i [] x no_expressions
+
+-- `c + d = 0`: the result of `+`, its two arguments, the literal
+sum_equations : (piece here [] 0 None (equality_expression 3 true (infix_expression 1 (codes "+") (name 0 (codes "c")) (name 2 (codes "d"))) (integer_expression 4 (pos 0)))).notes.equations
+    ≡ (int_type, unknown 0) ∷ (t_type, int_type) ∷ (t_type, int_type) ∷ (int_type, unknown 0) ∷ []
+sum_equations = refl
+
+-- `Nil = Nil`: `=` takes the first unknown, so it is named where all are open
+nil_takers : (piece here [] 0 None (equality_expression 10 true (name 9 (codes "Nil")) (name 11 (codes "Nil")))).notes.takers ≡ 10 ∷ 9 ∷ 11 ∷ []
+nil_takers = refl
+
+nil_equations : (piece here [] 0 None (equality_expression 10 true (name 9 (codes "Nil")) (name 11 (codes "Nil")))).notes.equations ≡ (list_of (unknown 1), unknown 0) ∷ (list_of (unknown 2), unknown 0) ∷ []
+nil_equations = refl
+
+-- `forall x: t. let y = x in y = c`: the innermost variable has the index 0
+bound_tree : (piece here [] 0 None (quantified_expression 0 true (record { names = codes "x" ∷ []; of_type = Some (composed_type 3 [] (codes "t") no_types) } ∷ []) no_expressions (let_expression 5 (codes "y") (name 8 (codes "x"))
+    (equality_expression 11 true (name 10 (codes "y")) (name 8 (codes "x")))))).tree
+    ≡ Two HForall t_type (Two HLet (One (HBound 0) t_type) (Two HEq (One (HBound 0) (unknown 0)) (One (HBound 1) t_type)))
+bound_tree = refl
+
+-- `forall x y. [p x] true`: each name takes an unknown at the quantifier, and the trigger is dropped
+trigger_notes : (piece here [] 0 None (quantified_expression 0 true (record { names = codes "x" ∷ codes "y" ∷ []; of_type = None } ∷ []) (more_expressions (applied_expression 5 [] (codes "p") (more_expressions (name 6 (codes "x")) no_expressions)) no_expressions) (true_expression 9))).notes.equations
+    ≡ (unknown 0, t_type) ∷ []
+trigger_notes = refl
+
+-- `(c, 1)`, of which a type is wanted
+pair_equations : (piece here [] 1 (Some (unknown 0)) (tuple_expression 3 (more_expressions (name 4 (codes "c")) (more_expressions (integer_expression 6 (pos 1)) no_expressions)))).notes.equations
+    ≡ (pair_of (unknown 1) (unknown 2), unknown 0) ∷ (t_type, unknown 1) ∷ (int_type, unknown 2) ∷ []
+pair_equations = refl
+
+-- an alias's type at its argument
+alias_type : type_at here (composed_type 0 [] (codes "pair") (more_types (composed_type 1 [] (codes "t") no_types) no_types)) ≡ list_of (list_of t_type)
+alias_type = refl
+
+-- `match c with x -> p x end`: the match with its pattern is before those of its parts
+match_notes : (piece here [] 0 None (match_expression 2 false (name 3 (codes "c")) (more_branches (more_alternatives 5 (variable_pattern 5 (codes "x")) no_alternatives) (applied_expression 7 [] (codes "p") (more_expressions (name 8 (codes "x")) no_expressions)) no_branches))).notes.matches
+    ≡ (2, One HPatVar (unknown 0) ∷ []) ∷ []
+match_notes = refl
+
+-- `(x, y) | (y, x)`: each alternative takes its own unknowns, and the later one's variables bring their equations
+abbrev swapped : ℕ → Word → Word → Pattern
+swapped i x y = tuple_pattern i (more_patterns (variable_pattern i x) (more_patterns (variable_pattern i y) no_patterns))
+
+later_equations : (all_notes (alternatives_pieces here 1 (unknown 0) (more_alternatives 2 (swapped 2 (codes "x") (codes "y")) (more_alternatives 7 (swapped 7 (codes "y") (codes "x")) no_alternatives)))).equations
+    ≡ (pair_of (unknown 1) (unknown 2), unknown 0) ∷ (pair_of (unknown 3) (unknown 4), unknown 0) ∷ (unknown 2, unknown 3) ∷ (unknown 1, unknown 4) ∷ []
+later_equations = refl
+
+-- under `x, y` the variable `x` has the index 1, under `y, x` it has 0; a variable further out stays
+swapped_body : reordered (local (codes "x") t_type ∷ local (codes "y") t_type ∷ []) (local (codes "y") t_type ∷ local (codes "x") t_type ∷ []) (Two HEq (One (HBound 1) t_type) (One (HBound 2) t_type)) ≡ Two HEq (One (HBound 0) t_type) (One (HBound 2) t_type)
+swapped_body = refl

@@ -1,0 +1,4 @@
+// Tests of the messages of faults.
+
+#[cfg(test)]
+mod messages;

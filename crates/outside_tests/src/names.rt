@@ -1,0 +1,4 @@
+// Tests of what names mean in scopes.
+
+#[cfg(test)]
+mod tables;

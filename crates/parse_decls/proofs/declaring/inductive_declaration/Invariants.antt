@@ -1,8 +1,0 @@
-use Rattle.parse_decls.proofs.Cited.{◌-◌, length, map, inductive_of, lexemes, Inductives}
-use Rattle.parse_decls.proofs.declaring.inductive_declaration.Given as goal
-
-abbrev pub invariant-more : goal.invariant-more
-invariant-more l = Inductives (lexemes l.source) l.fn.i (map inductive_of l.of.items) l.j
-
-abbrev pub decreases-more : goal.decreases-more
-decreases-more l = length l.source.tokens.now - l.j

@@ -1,8 +1,0 @@
-use Rattle.parse_decls.proofs.Cited.{◌-◌, ◌+◌, length, map, form_of, lexemes, Fields}
-use Rattle.parse_decls.proofs.types.constructor.Given as goal
-
-abbrev pub invariant-fields : goal.invariant-fields
-invariant-fields l = Fields (lexemes l.source) (l.fn.i + 1) (map form_of l.parts.items) l.j
-
-abbrev pub decreases-fields : goal.decreases-fields
-decreases-fields l = length l.source.tokens.now - l.j

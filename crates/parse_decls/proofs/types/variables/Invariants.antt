@@ -1,8 +1,0 @@
-use Rattle.parse_decls.proofs.Common.{◌-◌, length, lexemes, AreTypeVariablesAt}
-use Rattle.parse_decls.proofs.types.variables.Given as goal
-
-abbrev pub invariant-names : goal.invariant-names
-invariant-names l = AreTypeVariablesAt (lexemes l.source) l.fn.i l.names.items l.j
-
-abbrev pub decreases-names : goal.decreases-names
-decreases-names l = length l.source.tokens.now - l.j

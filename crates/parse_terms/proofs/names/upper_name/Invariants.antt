@@ -1,8 +1,0 @@
-use Rattle.parse_terms.proofs.Cited.{◌-◌, length, lexemes, UpperWords}
-use Rattle.parse_terms.proofs.names.upper_name.Given as goal
-
-abbrev pub invariant-scopes : goal.invariant-scopes
-invariant-scopes l = UpperWords (lexemes l.source) l.fn.i l.scopes.items l.last l.j
-
-abbrev pub decreases-scopes : goal.decreases-scopes
-decreases-scopes l = length l.source.tokens.now - l.j

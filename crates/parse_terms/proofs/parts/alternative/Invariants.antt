@@ -1,8 +1,0 @@
-use Rattle.parse_terms.proofs.Cited.{◌-◌, length, map, pattern_of, lexemes, Patterning}
-use Rattle.parse_terms.proofs.parts.alternative.Given as goal
-
-abbrev pub invariant-more : goal.invariant-more
-invariant-more l = Patterning (lexemes l.source) l.fn.i (map pattern_of l.parts.items) l.j
-
-abbrev pub decreases-more : goal.decreases-more
-decreases-more l = length l.source.tokens.now - l.j

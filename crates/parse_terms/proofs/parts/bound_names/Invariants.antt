@@ -1,8 +1,0 @@
-use Rattle.parse_terms.proofs.Cited.{◌-◌, length, lexemes, Named}
-use Rattle.parse_terms.proofs.parts.bound_names.Given as goal
-
-abbrev pub invariant-more : goal.invariant-more
-invariant-more l = Named (lexemes l.source) l.fn.i l.names.items l.j
-
-abbrev pub decreases-more : goal.decreases-more
-decreases-more l = length l.source.tokens.now - l.j

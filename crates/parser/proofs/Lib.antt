@@ -1,0 +1,1 @@
+pub use Rattle.grammar.proofs as grammar

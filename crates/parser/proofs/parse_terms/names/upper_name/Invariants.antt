@@ -1,0 +1,8 @@
+use Rattle.parser.proofs.parse_terms.Cited.{◌-◌, length, lexemes, UpperWords}
+use Rattle.parser.proofs.parse_terms.names.upper_name.Given as goal
+
+abbrev pub invariant-scopes : goal.invariant-scopes
+invariant-scopes l = UpperWords (lexemes l.source) l.fn.i l.scopes.items l.last l.j
+
+abbrev pub decreases-scopes : goal.decreases-scopes
+decreases-scopes l = length l.source.tokens.now - l.j

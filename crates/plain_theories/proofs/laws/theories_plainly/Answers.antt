@@ -1,5 +1,0 @@
-use Rattle.plain_theories.proofs.Typed.{theories_plainly, fault_plainly}
-use Rattle.plain_theories.proofs.laws.theories_plainly.Goals as goal
-
-pub returns : goal.returns
-returns u = record { theories = λ s file all a. theories_plainly s file all a; fault = λ s file f a. fault_plainly s file f a }

@@ -1,7 +1,0 @@
-use Rattle.grammar.specs.declared.symbols.Symbol.TheVariants as s
-use Rattle.recognise_why.proofs.Common.{IsLevel, IsPlacedTree, write, whole_expr}
-use Rattle.recognise_why.proofs.Answering.{one}
-use Rattle.recognise_why.proofs.completing.has_one_tree.Goals as goal
-
-pub returns : goal.returns
-returns c = λ i xs t u p q g h. one (s.Expr 0) i IsLevel (IsPlacedTree i) write (whole_expr i) xs t u p q g h

@@ -1,5 +1,0 @@
-use Rattle.recognise_why.proofs.Common.{◌≡◌, ◌++◌, drop, terminals_of}
-use Rattle.recognise_why.proofs.spans.terminals.Given as goal
-
-abbrev pub invariant-loop-token : goal.invariant-loop-token
-invariant-loop-token l = l.found.items ++ terminals_of (drop l.token-index l.tokens) ≡ terminals_of l.tokens

@@ -1,4 +1,0 @@
-use Rattle.recursion_forms.proofs.branches.+are_plain.Given as goal
-
-abbrev pub decreases-are_plain : goal.decreases-are_plain
-decreases-are_plain l = l.fields.0

@@ -1,4 +1,0 @@
-use Rattle.recursion_forms.proofs.branches.+below_quantifiers.Given as goal
-
-abbrev pub decreases-below_quantifiers : goal.decreases-below_quantifiers
-decreases-below_quantifiers l = l.equation.0

@@ -1,4 +1,0 @@
-use Rattle.recursion_forms.proofs.branches.+has_constructor.Given as goal
-
-abbrev pub decreases-has_constructor : goal.decreases-has_constructor
-decreases-has_constructor l = l.arms.0

@@ -1,4 +1,0 @@
-use Rattle.recursion_forms.proofs.branches.+has_parameter.Given as goal
-
-abbrev pub decreases-has_parameter : goal.decreases-has_parameter
-decreases-has_parameter l = l.equation.0

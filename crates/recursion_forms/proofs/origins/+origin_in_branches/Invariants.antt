@@ -1,4 +1,0 @@
-use Rattle.recursion_forms.proofs.origins.+origin_in_branches.Given as goal
-
-abbrev pub decreases-origin_in_branches : goal.decreases-origin_in_branches
-decreases-origin_in_branches l = l.arms.0

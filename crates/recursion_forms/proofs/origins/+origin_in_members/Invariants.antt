@@ -1,5 +1,0 @@
-use Rattle.std.proofs.Common.{length}
-use Rattle.recursion_forms.proofs.origins.+origin_in_members.Given as goal
-
-abbrev pub decreases-origin_in_members : goal.decreases-origin_in_members
-decreases-origin_in_members l = length l.defs.now

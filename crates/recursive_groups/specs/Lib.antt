@@ -1,2 +1,0 @@
-pub mod Groups
-pub use Rattle.decl_checks.specs as decl_checks

@@ -1,2 +1,0 @@
-pub use Rattle.images.proofs as images
-pub mod OneTerm

@@ -1,6 +1,0 @@
-pub mod Trees
-pub mod Forms
-pub mod Rows
-pub mod Terms
-pub mod Meaning
-pub mod Codes

@@ -1,5 +1,0 @@
-use Rattle.std.proofs.Common.{length}
-use Rattle.side_conditions.proofs.sides.+check_matches.Given as goal
-
-abbrev pub decreases-check_matches : goal.decreases-check_matches
-decreases-check_matches l = length l.matches.now

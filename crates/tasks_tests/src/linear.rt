@@ -1,0 +1,4 @@
+// Tests of the linear leaf: sequents with their multipliers, row by row.
+
+#[cfg(test)]
+mod rows;

@@ -1,4 +1,0 @@
-use Rattle.term_rows.proofs.pattern_tests.+after_tests.Given as goal
-
-abbrev pub decreases-after_tests : goal.decreases-after_tests
-decreases-after_tests l = l.pattern.0

@@ -1,9 +1,0 @@
-use Rattle.std.specs.Map.{keys_of}
-use Rattle.term_store.proofs.NodeLists.{sorted_is, same_id}
-use Rattle.term_store.proofs.Store.laws.Goals as goal
-
-pub returns-clause-sorted : goal.returns-clause-sorted
-returns-clause-sorted c = λ id h. sorted_is (keys_of c.self.inside.nodes.entries) c.args.self.now c.self.view_is c.self.invariant.sound id h
-
-pub returns-clause-apart : goal.returns-clause-apart
-returns-clause-apart c = λ a b h k. same_id (keys_of c.self.inside.nodes.entries) c.args.self.now c.self.view_is c.self.invariant.sound a h b k

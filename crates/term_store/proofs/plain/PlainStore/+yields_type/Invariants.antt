@@ -1,4 +1,0 @@
-use Rattle.term_store.proofs.plain.PlainStore.+yields_type.Given as goal
-
-abbrev pub decreases-yields_type : goal.decreases-yields_type
-decreases-yields_type l = l.id.0

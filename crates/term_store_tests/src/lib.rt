@@ -1,7 +1,0 @@
-//! Tests of the store of trees: numbers, what is asked of a tree, and the plain list as a reference.
-#![tactic(auto)]
-
-#[cfg(test)]
-mod random;
-#[cfg(test)]
-mod tables;

@@ -1,0 +1,120 @@
+-- What a theory is copied by, in code, and what is known once its contents are copied.
+use Rattle.std.proofs.Common.{◌≡◌, ◌++◌, ℕ, ◌<◌, nat_eq, List, [], length, get_or, All, sym, ap, subst, ◌∙◌}
+use Rattle.indexmap.specs.IndexMap.{get}
+use Rattle.tasks.specs.trees.Tree.{Tree}
+use Rattle.tasks.specs.trees.Node.{Grows}
+use Rattle.tasks.specs.declared.signature.Signature.{Signature}
+use Rattle.tasks.specs.Task.{SymbolTree}
+use Rattle.tasks.specs.Meaning.{symbols_at, declarations_at}
+use Rattle.theory_states.specs.declared.moves.Move.{Move}
+use Rattle.surface.specs.Lexeme.{Word}
+use Rattle.clones.specs.Mapped.{Map}
+use Rattle.clones.specs.Meaning.{map_at}
+use Rattle.clones.proofs.Steps.{map_stays}
+use Rattle.elab_groups.specs.parts.Entries.{IsExtended}
+use Rattle.theory_states.specs.declared.states.KnownTheory.{KnownTheory}
+use Rattle.theory_states.specs.declared.states.Opened.{Opened}
+use Rattle.theory_states.specs.declared.states.Typed.{Typed}
+use Rattle.theory_states.specs.States.{KnownTree, StateTree}
+use Rattle.theory_states.specs.Meaning.{known_at, state_at, StateHeld}
+use Rattle.clones.specs.declared.clone_elements.elements.Plan.{Plan}
+use Rattle.clones.specs.declared.clone_elements.left.ClonedTheory.{ClonedTheory}
+use Rattle.clones.specs.clone_elements.Left.{Origin}
+use Rattle.clones.specs.clone_elements.Origins.{origin_at}
+use Rattle.clones.specs.clone_elements.Meaning.{fates_at}
+use Rattle.clones.specs.clone_copies.Origins.{Axioms, origin_of}
+use Rattle.clones.specs.clone_copies.Entries.{entries_copied}
+use Rattle.clones.specs.clone_copies.Places.{Copying, with_places}
+use Rattle.clones.specs.clone_copies.Moves.{AreMovesMapped, MoveHeld}
+use Rattle.clones.specs.clone_copies.Meaning.{bare_at}
+use Rattle.theories.specs.declared.cloning.copying.Renaming.{Renaming}
+use Rattle.theories.specs.declared.cloning.own.Own.{Own}
+use Rattle.theories.specs.cloning.Owned.{known_theory_at}
+use Rattle.theories.specs.cloning.Planned.{planned_kept, planned_map, planned}
+use Rattle.theories.specs.cloning.Copied.{IsRenaming, IsPlannedRenaming, IsKeptEntry, entries_made, with_made, IsCopyReady, AreContents}
+use Rattle.theories.proofs.cloning.Kept.{moves_grow}
+use Rattle.theories.proofs.cloning.Stages.{theory_is, origin_is, state_tupled, held_tupled}
+
+-- the map that is made with what elements are read by
+pub planned_renaming : (s : List Tree) (t : Typed) (o : Opened) (k : ℕ) (own : Own) (plan : Plan) (within : Word) → IsCopyReady s t o k own plan within
+    → (source : ClonedTheory) → source.decls.now ≡ t.decls → source.own.now ≡ own.places.items → source.axioms.now ≡ own.axioms
+    → (made : Renaming) → IsRenaming s (planned_map s (symbols_at s t.sig.symbols) (origin_at s source) plan) (planned_kept (origin_at s source) plan) made → IsPlannedRenaming s t k plan made
+planned_renaming s t o k own plan within r source decls_are own_is axioms_are made m =
+    let ds = declarations_at s t.decls in
+    let origin : origin_at s source ≡ origin_of ds (known_theory_at s t k) = origin_is s (known_theory_at s t k) own source ds (ap (declarations_at s) decls_are) own_is axioms_are r.own in
+    subst (λ (z : Origin). IsRenaming s (planned_map s (symbols_at s t.sig.symbols) z plan) (planned_kept z plan) made) origin m
+
+module _ (s : List Tree) (t : Typed) (o : Opened) (k : ℕ) (own : Own) (plan : Plan) (within : Word) (r : IsCopyReady s t o k own plan within)
+    (made : Renaming) (m : IsPlannedRenaming s t k plan made)
+    (known : KnownTheory) (is : known ≡ get_or t.known k known) where
+  abbrev c : StateTree
+  c = state_at s t o
+
+  abbrev theory : KnownTree
+  theory = known_theory_at s t k
+
+  abbrev x : Copying
+  x = planned s c theory plan within
+
+  here : theory ≡ known_at s known
+  here = theory_is s t k known r.there is
+
+  map_is : map_at s made.morphism ≡ x.mapping
+  map_is = m.is
+
+  symbols_are : made.symbols.items ≡ planned_kept (origin_of c.decls theory) plan
+  symbols_are = m.symbols
+
+  pub moves_are_held : All (MoveHeld s) known.moves
+  moves_are_held = subst (λ (z : KnownTree). All (MoveHeld s) z.moves) here r.moves
+
+  pub visible_below : All (λ (p : ℕ). p < length t.decls) own.visible
+  visible_below =
+      let there : All (λ (p : ℕ). p < length t.decls) known.theory.visible = subst (λ (z : KnownTheory). All (λ (p : ℕ). p < length t.decls) z.theory.visible) (sym is) (r.held.typed.known k known r.there).visible in
+      subst (All (λ (p : ℕ). p < length t.decls)) (sym (r.own.visible ∙ ap (λ (z : KnownTree). z.visible) here)) there
+
+  module _ (path : Word) (path_is : path ≡ o.path) where
+    abbrev copies : List SymbolTree
+    copies = entries_copied c.symbols (map_at s made.morphism) path within made.symbols.items
+
+    copies_are : copies ≡ entries_made theory x c
+    copies_are = ap (λ (f : Map). entries_copied c.symbols f path within made.symbols.items) map_is
+        ∙ (ap (λ (y : Word). entries_copied c.symbols x.mapping y within made.symbols.items) path_is ∙ ap (entries_copied c.symbols x.mapping o.path within) symbols_are)
+
+    pub copies_kept : All IsKeptEntry copies
+    copies_kept = subst (All IsKeptEntry) (sym copies_are) r.kept
+
+    -- ---- with their entries, over a later store
+    module _ (s1 : List Tree) (w : Grows s s1) (g : Signature) (ext : IsExtended s t.sig s1 g copies) where
+      abbrev t1 : Typed
+      t1 = record t { sig = g }
+
+      pub held_made : StateHeld s1 t1 o
+      held_made = held_tupled s s1 w t o r.held g copies ext
+
+      bare_made : bare_at s1 t1 o ≡ with_made theory x (bare_at s t o)
+      bare_made =
+          let bare : StateTree → StateTree = λ z. record z { trees = [] } in
+          let put : List SymbolTree → StateTree = λ es. record c { trees = []; symbols = c.symbols ++ es } in
+          ap bare (state_tupled s s1 w t o r.held g copies ext) ∙ ap put copies_are
+
+      -- what the job of the copies stands for
+      abbrev job : Word → Copying
+      job place = record { path = place; axioms = get nat_eq own.axioms; fates = fates_at plan.fates; all = plan.all_axioms; mapping = map_at s1 made.morphism; within = within }
+
+      module _ (place : Word) (place_is : place ≡ own.path) where
+        copying_is : job place ≡ x
+        copying_is =
+            let mk : Word → Axioms → Map → Copying = λ a b f. record { path = a; axioms = b; fates = fates_at plan.fates; all = plan.all_axioms; mapping = f; within = within } in
+            let place_there : place ≡ theory.path = place_is ∙ r.own.path in
+            let map_there : map_at s1 made.morphism ≡ x.mapping = map_stays s s1 w made.morphism m.held ∙ map_is in
+            λ i. mk (place_there i) (r.own.axioms i) (map_there i)
+
+        module _ (places : List ℕ) (places_are : places ≡ own.visible) (s2 : List Tree) (w2 : Grows s1 s2) (t2 : Typed) (o2 : Opened) (state : bare_at s2 t2 o2 ≡ with_places (job place) places (bare_at s1 t1 o))
+            (old new : List Move) (old_are : old ≡ known.moves) (held : All (MoveHeld s1) old) (mapped : AreMovesMapped s1 c.symbols (map_at s made.morphism) old new) where
+          pub contents : AreContents theory x new c (state_at s2 t2 o2)
+          contents = record {
+            mapped = subst (λ (ms : List Move). AreMovesMapped s2 c.symbols x.mapping ms new) (old_are ∙ sym (ap (λ (z : KnownTree). z.moves) here)) (subst (λ (f : Map). AreMovesMapped s2 c.symbols f old new) map_is (moves_grow s1 s2 w2 c.symbols (map_at s made.morphism) old new held mapped));
+            is = state ∙ (ap (λ (z : Copying). with_places z places (bare_at s1 t1 o)) copying_is
+                ∙ (ap (λ (ks : List ℕ). with_places x ks (bare_at s1 t1 o)) (places_are ∙ r.own.visible) ∙ ap (with_places x theory.visible) bare_made));
+          }

@@ -1,0 +1,56 @@
+use Rattle.std.proofs.Common.{◌≡◌, List, sym, ap, subst, ◌∙◌}
+use Rattle.std.specs.Option.{option_copied}
+use Rattle.theory_states.specs.declared.moves.Move.{Move}
+use Rattle.surface.specs.Lexeme.{Word}
+use Rattle.clones.proofs.Steps.{ok_any}
+use Rattle.theory_states.specs.Meaning.{state_at}
+use Rattle.theories.specs.cloning.Cloned.{within_of, with_names}
+use Rattle.theories.specs.cloning.Owned.{known_theory_at}
+use Rattle.theories.specs.cloning.Planned.{planned}
+use Rattle.theories.specs.cloning.Copied.{IsCopyReady, AreContents}
+use Rattle.theories.proofs.cloning.Stages.{named_state, named_held, copied_by}
+use Rattle.theories.proofs.cloning.copying.copy_theory.Goals as goal
+use Rattle.tasks.proofs.plain_laws.Results.{if_ok_both as ok_both}
+use Rattle.tasks.proofs.outside.Passed.{no_ok}
+
+pub copy_contents-requires : goal.copy_contents-requires
+copy_contents-requires c =
+    let within = within_of c.args.link c.args.last.now (option_copied c.args.alias) c.args.open.now.within.items in
+    let is : c.as_slice-2.result.now ≡ within = c.as_slice-2.ensures.value ∙ (c.in_ok-within.ensures ∙ ap (within_of c.args.link c.args.last.now (option_copied c.args.alias)) c.as_slice.ensures.value) in
+    subst (IsCopyReady c.args.store.now c.args.typed.now c.args.open.now c.args.theory c.args.own.now c.args.plan.now) (sym is) c.requires
+
+pub returns-clause-copied : goal.returns-clause-copied
+returns-clause-copied c =
+    let s = c.args.store.now in
+    let before = state_at s c.args.typed.now c.args.open.now in
+    let x = c.copy_contents in
+    let o2 = x.new.open in
+    let o3 = c.bring_names.new.open in
+    let ms = c.in_ok-moves.moves.items in
+    let last = c.args.last.now in
+    let alias = option_copied c.args.alias in
+    let within = within_of c.args.link last alias c.args.open.now.within.items in
+    let is : c.as_slice-2.result.now ≡ within = c.as_slice-2.ensures.value ∙ (c.in_ok-within.ensures ∙ ap (within_of c.args.link last alias) c.as_slice.ensures.value) in
+    let theory = known_theory_at s c.args.typed.now c.args.theory in
+    let after = state_at x.new.store x.new.typed o2 in
+    let contents : AreContents theory (planned s before theory c.args.plan.now within) ms before after =
+    subst (λ (v : Word). AreContents theory (planned s before theory c.args.plan.now v) ms before after) is c.in_ok-moves.ensures.copies in
+    ok_both c.bring_names.result _ _ _ (λ u p q.
+    let named : state_at x.new.store x.new.typed o3 ≡ with_names c.args.link last alias ms after =
+    subst (λ (z : List Move). state_at x.new.store x.new.typed o3 ≡ with_names c.args.link last alias z after) c.as_slice-3.ensures.value (named_state x.new.store x.new.typed o2 o3 c.args.link last alias c.as_slice-3.result.now c.bring_names.ensures.others p q) in
+    copied_by c.args.link last alias theory (planned s before theory c.args.plan.now within) ms before after (state_at x.new.store x.new.typed o3) contents named) c.bring_names.ensures.scope c.bring_names.ensures.moves
+
+pub returns-clause-held : goal.returns-clause-held
+returns-clause-held c = ok_any c.bring_names.result (named_held c.copy_contents.new.store c.copy_contents.new.typed c.copy_contents.new.open c.bring_names.new.open c.bring_names.ensures.others c.in_ok-moves.ensures.held)
+
+pub returns-in_err-within-clause-copied : goal.returns-in_err-within-clause-copied
+returns-in_err-within-clause-copied c = no_ok _ _ c.from_residual.result c.from_residual.ensures.1
+
+pub returns-in_err-within-clause-held : goal.returns-in_err-within-clause-held
+returns-in_err-within-clause-held c = no_ok _ _ c.from_residual.result c.from_residual.ensures.1
+
+pub returns-in_err-moves-clause-copied : goal.returns-in_err-moves-clause-copied
+returns-in_err-moves-clause-copied c = no_ok _ _ c.from_residual-in_err-moves.result c.from_residual-in_err-moves.ensures.1
+
+pub returns-in_err-moves-clause-held : goal.returns-in_err-moves-clause-held
+returns-in_err-moves-clause-held c = no_ok _ _ c.from_residual-in_err-moves.result c.from_residual-in_err-moves.ensures.1

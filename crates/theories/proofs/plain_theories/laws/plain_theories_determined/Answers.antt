@@ -1,0 +1,9 @@
+use Rattle.theories.proofs.plain_theories.One.{one_theories, theories_apart, one_fault}
+use Rattle.theories.proofs.plain_theories.laws.plain_theories_determined.Goals as goal
+
+pub returns : goal.returns
+returns u = record {
+  one = λ file a b x y. one_theories file a b x y;
+  apart = λ file a f x y n. theories_apart file a f x y n;
+  fault = λ file f g x y n m. one_fault file f g x y n m;
+}

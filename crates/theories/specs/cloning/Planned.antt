@@ -1,0 +1,48 @@
+-- What the elements of a clone are read as: what they replace, or their first fault; and what the theory is copied by.
+use Rattle.std.specs.Prelude.{◌≡◌, ℕ, List, ◌++◌, length, None}
+use Rattle.tasks.specs.trees.Tree.{Tree}
+use Rattle.tasks.specs.Task.{SymbolTree}
+use Rattle.elab_groups.specs.scopes.Names.{ScopeNames}
+use Rattle.surface.specs.Lexeme.{Word}
+use Rattle.surface.specs.Declarations.{Element}
+use Rattle.clones.specs.Mapped.{Map}
+use Rattle.theory_states.specs.declared.fault.SourceFault.{SourceFault}
+use Rattle.theory_states.specs.States.{KnownTree, StateTree}
+use Rattle.clones.specs.declared.clone_elements.elements.Plan.{Plan}
+use Rattle.clones.specs.clone_elements.Left.{Origin}
+use Rattle.clones.specs.clone_elements.Rights.{rights_fault, rights_tuples}
+use Rattle.clones.specs.clone_elements.Plans.{no_fates, kept, map_of, tried_map}
+use Rattle.clones.specs.clone_elements.Elements.{SidesTold}
+use Rattle.clones.specs.clone_elements.Meaning.{IsPlan, fates_at, type_pairs_at, symbol_pairs}
+use Rattle.clones.specs.clone_copies.Origins.{axioms_at, origin_of}
+use Rattle.clones.specs.clone_copies.Places.{Copying}
+use Rattle.theories.specs.cloning.Cloned.{sides_over, IsNamesFault, IsElementFault}
+
+-- all are right over a signature, and replace this in a later store
+pub record AreElementsRead (s : List Tree) (symbols : List SymbolTree) (scope : ScopeNames) (o : Origin) (es : List Element) (s' : List Tree) (p : Plan) : Type 0 where
+  pub names : rights_fault s symbols scope es ≡ None
+  pub right : SidesTold (symbols ++ rights_tuples symbols es) o (tried_map (symbols ++ rights_tuples symbols es) o (sides_over o s symbols scope es)) no_fates (sides_over o s symbols scope es) None
+  pub plan : IsPlan s' (symbols ++ rights_tuples symbols es) o (sides_over o s symbols scope es) p
+
+-- the names on the right have a fault, or else an element is wrong
+pub data IsElementsFault (number : ℕ) (s : List Tree) (symbols : List SymbolTree) (scope : ScopeNames) (o : Origin) (es : List Element) (f : SourceFault) : Type 0 where
+  in_names : IsNamesFault number (rights_fault s symbols scope es) f → IsElementsFault number s symbols scope o es f
+  in_elements : rights_fault s symbols scope es ≡ None → IsElementFault number (symbols ++ rights_tuples symbols es) o (sides_over o s symbols scope es) f → IsElementsFault number s symbols scope o es f
+
+-- the symbols of the copies, and the map
+abbrev pub planned_kept : Origin → Plan → List ℕ
+planned_kept o p = kept o (fates_at p.fates)
+
+abbrev pub planned_map : List Tree → List SymbolTree → Origin → Plan → Map
+planned_map s symbols o p = map_of (type_pairs_at s p.types.items) (symbol_pairs p.symbols.items) (length symbols) (planned_kept o p)
+
+-- a theory is copied by what elements replace, into scopes of these names
+abbrev pub planned : List Tree → StateTree → KnownTree → Plan → Word → Copying
+planned s c t p within = record {
+  path = t.path;
+  axioms = axioms_at t.axioms;
+  fates = fates_at p.fates;
+  all = p.all_axioms;
+  mapping = planned_map s c.symbols (origin_of c.decls t) p;
+  within = within;
+}

@@ -1,0 +1,4 @@
+pub mod Faults
+pub mod Declared
+pub mod Steps
+pub mod Made

@@ -1,5 +1,0 @@
-use Rattle.std.proofs.Common.{length}
-use Rattle.theory_declarations.proofs.made.+push_clauses.Given as goal
-
-abbrev pub decreases-push_clauses : goal.decreases-push_clauses
-decreases-push_clauses l = length l.clauses.now

@@ -1,5 +1,0 @@
-use Rattle.std.proofs.Common.{length}
-use Rattle.theory_declarations.proofs.made.+push_inductives.Given as goal
-
-abbrev pub decreases-push_inductives : goal.decreases-push_inductives
-decreases-push_inductives l = length l.predicates.now

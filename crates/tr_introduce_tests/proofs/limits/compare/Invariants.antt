@@ -1,5 +1,0 @@
-use Rattle.tasks.specs.Meaning.{TasksHeld}
-use Rattle.tr_introduce_tests.proofs.limits.compare.Given as goal
-
-abbrev pub invariant-loop : goal.invariant-loop
-invariant-loop g l = TasksHeld l.store l.tasks.items

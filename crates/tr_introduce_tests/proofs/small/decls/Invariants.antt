@@ -1,6 +1,0 @@
-use Rattle.std.proofs.Common.{All}
-use Rattle.tasks.specs.Meaning.{DeclHeld}
-use Rattle.tr_introduce_tests.proofs.small.decls.Given as goal
-
-abbrev pub invariant-loop-theory : goal.invariant-loop-theory
-invariant-loop-theory g l = All (DeclHeld l.store) l.all

@@ -1,0 +1,5 @@
+pub mod Arms
+pub mod Quantifiers
+pub mod Opened
+pub mod Sides
+pub mod NewBodies

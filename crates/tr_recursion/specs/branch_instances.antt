@@ -1,0 +1,4 @@
+pub mod Chosen
+pub mod Instances
+pub mod Origins
+pub mod Laws

@@ -1,7 +1,0 @@
-//! Tests of names by symbols and types, and of the lines of types that are written with them.
-#![tactic(auto)]
-
-#[cfg(test)]
-mod lines;
-#[cfg(test)]
-mod names;

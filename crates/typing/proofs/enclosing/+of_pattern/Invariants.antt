@@ -1,4 +1,0 @@
-use Rattle.typing.proofs.enclosing.+of_pattern.Given as goal
-
-abbrev pub decreases-of_pattern : goal.decreases-of_pattern
-decreases-of_pattern l = l.pattern.0

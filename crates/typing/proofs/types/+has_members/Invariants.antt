@@ -1,4 +1,0 @@
-use Rattle.typing.proofs.types.+has_members.Given as goal
-
-abbrev pub decreases-has_members : goal.decreases-has_members
-decreases-has_members l = l.list.0

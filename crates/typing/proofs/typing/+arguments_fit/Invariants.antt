@@ -1,4 +1,0 @@
-use Rattle.typing.proofs.typing.+arguments_fit.Given as goal
-
-abbrev pub decreases-arguments_fit : goal.decreases-arguments_fit
-decreases-arguments_fit l = l.arguments.0

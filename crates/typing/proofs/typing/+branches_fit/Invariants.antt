@@ -1,4 +1,0 @@
-use Rattle.typing.proofs.typing.+branches_fit.Given as goal
-
-abbrev pub decreases-branches_fit : goal.decreases-branches_fit
-decreases-branches_fit l = l.list.0

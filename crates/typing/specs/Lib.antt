@@ -1,4 +1,0 @@
-pub mod Types
-pub mod Binders
-pub mod Named
-pub mod Variables

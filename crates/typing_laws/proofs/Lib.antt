@@ -1,4 +1,0 @@
-pub mod Sorted
-pub mod TypeInstances
-pub mod Changes
-pub mod Images

@@ -1,5 +1,0 @@
-use Rattle.unify_types.proofs.Bridge.{equation_is}
-use Rattle.unify_types.proofs.has_types.Goals as goal
-
-pub returns : goal.returns
-returns c = equation_is c.args.store.now c.args.e c.requires c.node-left.ensures.sorted c.node-right.ensures.sorted

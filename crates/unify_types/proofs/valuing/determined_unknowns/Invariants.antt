@@ -1,9 +1,0 @@
-use Rattle.trees.specs.Node.{Grows}
-use Rattle.unify_types.specs.Valued.{AreValued}
-use Rattle.unify_types.proofs.valuing.determined_unknowns.Given as goal
-
-abbrev pub invariant-loop-i : goal.invariant-loop-i
-invariant-loop-i l = record {
-  grows : Grows l.fn.store l.store;
-  valued : AreValued l.rigid l.store l.bindings l.known l.values l.i;
-}

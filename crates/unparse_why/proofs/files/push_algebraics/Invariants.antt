@@ -1,6 +1,0 @@
-use Rattle.unparse_why.proofs.Common.{drop, map, terminals, algebraic_list, algebraic_tail, algebraic_of}
-use Rattle.unparse_why.proofs.files.push_algebraics.Given as goal
-use Rattle.unparse_why.specs.Putting.{Leaves}
-
-abbrev pub invariant-loop-algebraic : goal.invariant-loop-algebraic
-invariant-loop-algebraic l = Leaves l.fn.out l.out (terminals (algebraic_tail (map algebraic_of (drop l.algebraic-index l.rest)))) (terminals (algebraic_list (map algebraic_of l.fn.of)))

@@ -1,5 +1,0 @@
-use Rattle.valid_tasks.proofs.PlacedOutcomes.{outcome_placed}
-use Rattle.valid_tasks.proofs.maps_laws.outcomes_placed.Goals as goal
-
-pub returns : goal.returns
-returns k = λ c s d o n h. outcome_placed c s n d o h

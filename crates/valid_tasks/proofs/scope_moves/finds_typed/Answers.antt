@@ -1,6 +1,0 @@
-use Rattle.valid_tasks.specs.Scopes.{IsTypedThing}
-use Rattle.valid_tasks.proofs.Scopes.{found_thing}
-use Rattle.valid_tasks.proofs.scope_moves.finds_typed.Goals as goal
-
-pub returns : goal.returns
-returns u = λ v s names table path h. found_thing (IsTypedThing v s) names h table path

@@ -1,9 +1,0 @@
-use Rattle.valid_tasks.proofs.Begun.{nothing_sound, begins, ends}
-use Rattle.valid_tasks.proofs.sound_states.begins_sound.Goals as goal
-
-pub returns : goal.returns
-returns u = record {
-  nothing = λ s. nothing_sound s;
-  begins = λ s symbols decls ts path number h named source new. begins s symbols decls ts path number h named source new;
-  ends = λ c h. ends c h;
-}

@@ -1,5 +1,0 @@
-use Rattle.valid_tasks.proofs.Scoped.{goal_valid}
-use Rattle.valid_tasks.proofs.sound_states.goals_valid.Goals as goal
-
-pub returns : goal.returns
-returns u = λ all s decls t g h c ints. goal_valid all s decls t g h c ints

@@ -1,5 +1,0 @@
-use Rattle.valid_tasks.proofs.Begin.{begins}
-use Rattle.valid_tasks.proofs.valid.begins_typed.Goals as goal
-
-pub returns : goal.returns
-returns k = λ v c may q z p r. begins v may c q z p r

@@ -1,5 +1,0 @@
-use Rattle.valid_tasks.proofs.Elaborated.{elaborated_patterns}
-use Rattle.valid_tasks.proofs.valid.elaborates_patterns.Goals as goal
-
-pub returns : goal.returns
-returns k = λ v c x g s h names made t r e news. elaborated_patterns v c t s r x g h names made e news

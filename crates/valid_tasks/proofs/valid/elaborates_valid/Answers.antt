@@ -1,5 +1,0 @@
-use Rattle.valid_tasks.proofs.Elaborated.{elaborated_valid}
-use Rattle.valid_tasks.proofs.valid.elaborates_valid.Goals as goal
-
-pub returns : goal.returns
-returns k = λ v c d x g s h names made t r w e sorted held passes news may. elaborated_valid v c t s r d x g h names made w e sorted held passes news may

@@ -1,5 +1,0 @@
-use Rattle.valid_tasks.proofs.Lists.{list_valid}
-use Rattle.valid_tasks.proofs.valid.lists_valid.Goals as goal
-
-pub returns : goal.returns
-returns k = λ symbols before ds h. list_valid symbols before ds h

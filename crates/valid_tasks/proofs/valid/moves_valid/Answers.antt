@@ -1,5 +1,0 @@
-use Rattle.valid_tasks.proofs.Moved.{declaration_moves}
-use Rattle.valid_tasks.proofs.valid.moves_valid.Goals as goal
-
-pub returns : goal.returns
-returns k = λ v w d q n h. declaration_moves v w q d n h

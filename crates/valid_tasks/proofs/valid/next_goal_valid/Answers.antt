@@ -1,5 +1,0 @@
-use Rattle.valid_tasks.proofs.Goals.{next_goal}
-use Rattle.valid_tasks.proofs.valid.next_goal_valid.Goals as goal
-
-pub returns : goal.returns
-returns k = λ c ds d x e g s h names made t b r q w sorted held passes. next_goal c ds d x e g s h names made t b r q w sorted held passes

@@ -1,5 +1,0 @@
-use Rattle.valid_tasks.proofs.Steps.{next_declaration}
-use Rattle.valid_tasks.proofs.valid.next_valid.Goals as goal
-
-pub returns : goal.returns
-returns k = λ c ds d x g s h names made t b r q w p e sorted held passes. next_declaration c ds d x g s h names made t b r q w p e sorted held passes

@@ -1,5 +1,0 @@
-use Rattle.valid_tasks.proofs.Stays.{declaration_stays}
-use Rattle.valid_tasks.proofs.valid.stays_valid.Goals as goal
-
-pub returns : goal.returns
-returns k = λ v w d part h. declaration_stays v w part d h

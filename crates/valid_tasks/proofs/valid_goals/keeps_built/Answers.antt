@@ -1,5 +1,0 @@
-use Rattle.valid_tasks.proofs.TaskOutcomes.{elaborated_kept}
-use Rattle.valid_tasks.proofs.valid_goals.keeps_built.Goals as goal
-
-pub returns : goal.returns
-returns k = λ c d g s h names made q e b. elaborated_kept c d g s h names made q e b

@@ -1,5 +1,0 @@
-use Rattle.valid_tasks.proofs.TaskSound.{task_valid}
-use Rattle.valid_tasks.proofs.valid_goals.tasks_valid.Goals as goal
-
-pub returns : goal.returns
-returns k = λ all t g sound goal ints. task_valid all t g sound goal ints

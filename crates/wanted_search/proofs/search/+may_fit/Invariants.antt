@@ -1,4 +1,0 @@
-use Rattle.wanted_search.proofs.search.+may_fit.Given as goal
-
-abbrev pub decreases-may_fit : goal.decreases-may_fit
-decreases-may_fit l = l.e.0

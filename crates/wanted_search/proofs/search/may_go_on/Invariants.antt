@@ -1,9 +1,0 @@
-use Rattle.std.proofs.Common.{◌≡◌, true}
-use Rattle.trees.specs.Node.{tree_at, trees_at}
-use Rattle.name_tables.specs.Seen.{seen_occurrences}
-use Rattle.wanted_instances.specs.Wanted.{each_below}
-use Rattle.wanted_instances.specs.Search.{may_mention}
-use Rattle.wanted_search.proofs.search.may_go_on.Given as goal
-
-abbrev pub invariant-loop-number : goal.invariant-loop-number
-invariant-loop-number l = each_below l.number (may_mention (seen_occurrences l.store l.set) (tree_at l.store l.fn.a) (trees_at l.store l.known)) ≡ true
