@@ -1,4 +1,5 @@
--- `match`es by their numbers, two of which have the same patterns, with questions and evidence for their branches.
+-- `match`es by their numbers, two of which have the same patterns, with questions and evidence for
+-- their branches.
 use Rattle.std.specs.Prelude.{◌≡◌, ◌<◌, ◌≤◌, List, ◌∷◌, All}
 use Rattle.trees.specs.declared.TermId.{TermId}
 use Rattle.trees.specs.declared.Sort.TheVariants as sort
@@ -33,7 +34,8 @@ pub record AreHeld (s : List Tree) (c : Cases) : Type 0 where
   pub other_by : Holds s c.other_by
   pub other_arms : Holds s c.other_arms
 
--- two closed `match`es with the same patterns, whose branches are asked before a question is answered
+-- two closed `match`es with the same patterns, whose branches are asked before a question is
+-- answered
 pub record AreAskedCases (d : DraftTree) (q : Question) (c : Cases) : Type 0 where
   pub held : AreHeld d.trees c
   pub whole_held : Holds d.trees q.left
@@ -44,7 +46,9 @@ pub record AreAskedCases (d : DraftTree) (q : Question) (c : Cases) : Type 0 whe
   pub left_above : above_params (first_case d.trees c) ≤ q.number
   pub right_above : above_params (other_case d.trees c) ≤ q.number
   pub ranked : rank (first_case d.trees c) zero_ranks 0 ≤ rank (tree_at d.trees q.left) zero_ranks 0
-  pub paired : (ps : List (Tree × Tree)) × ArePairedBranches d.task (tree_at d.trees c.by) (tree_at d.trees c.other_by) (tree_at d.trees c.arms) (tree_at d.trees c.other_arms) ps
+  pub paired : (ps : List (Tree × Tree))
+      × ArePairedBranches d.task (tree_at d.trees c.by) (tree_at d.trees c.other_by)
+      (tree_at d.trees c.arms) (tree_at d.trees c.other_arms) ps
 
 -- the questions for their first branches, with the other branches
 pub record IsAskedBranch (d : DraftTree) (q : Question) (c : Cases) (b : AskedBranch) : Type 0 where
@@ -58,11 +62,18 @@ pub record IsAskedBranch (d : DraftTree) (q : Question) (c : Cases) (b : AskedBr
   pub arms_held : Holds d.trees b.others.arms
   pub list : sort_of (tree_at d.trees b.others.arms) ≡ sort.List
   pub rest : head_of (tree_at d.trees b.others.arms) ≡ HCell → AreAskedCases d q b.others
-  pub others : (qs : List (Tree × Tree)) × ArePairedBranches d.task (tree_at d.trees c.by) (tree_at d.trees c.other_by) (tree_at d.trees b.others.arms) (tree_at d.trees b.others.other_arms) qs
+  pub others : (qs : List (Tree × Tree))
+      × ArePairedBranches d.task (tree_at d.trees c.by) (tree_at d.trees c.other_by)
+      (tree_at d.trees b.others.arms) (tree_at d.trees b.others.other_arms) qs
   pub same_by : (b.others.by ≡ c.by) × (b.others.other_by ≡ c.other_by)
-  pub pairs : (qs : List (Tree × Tree)) → ArePairedBranches d.task (tree_at d.trees c.by) (tree_at d.trees c.other_by) (tree_at d.trees b.others.arms) (tree_at d.trees b.others.other_arms) qs
-      → ArePairedBranches d.task (tree_at d.trees c.by) (tree_at d.trees c.other_by) (tree_at d.trees c.arms) (tree_at d.trees c.other_arms)
-      (asked_first (tree_at d.trees b.others.arms) (tree_at d.trees b.test.left, tree_at d.trees b.test.right) ((tree_at d.trees b.body.left, tree_at d.trees b.body.right) ∷ qs))
+  pub pairs : (qs : List (Tree × Tree))
+      → ArePairedBranches d.task (tree_at d.trees c.by) (tree_at d.trees c.other_by)
+      (tree_at d.trees b.others.arms) (tree_at d.trees b.others.other_arms) qs
+      → ArePairedBranches d.task (tree_at d.trees c.by) (tree_at d.trees c.other_by)
+      (tree_at d.trees c.arms) (tree_at d.trees c.other_arms)
+      (asked_first (tree_at d.trees b.others.arms)
+      (tree_at d.trees b.test.left, tree_at d.trees b.test.right)
+      ((tree_at d.trees b.body.left, tree_at d.trees b.body.right) ∷ qs))
 
 -- a closed `match`, with the numbers of its term and its branches
 pub record IsCaseAt (d : DraftTree) (c : CaseAt) : Type 0 where
@@ -88,7 +99,8 @@ pub record HasTwoBranches (s : List Tree) (arms : TermId) : Type 0 where
   pub next_pattern : Tree
   pub next_body : Tree
   pub rest : Tree
-  pub is : tree_at s arms ≡ Two HCell (Two HArm pattern body) (Two HCell (Two HArm next_pattern next_body) rest)
+  pub is : tree_at s arms ≡ Two HCell (Two HArm pattern body)
+      (Two HCell (Two HArm next_pattern next_body) rest)
 
 -- the second is the first `match` with the branches after its first one
 pub record IsRestCase (d : DraftTree) (first rest : CaseAt) : Type 0 where
@@ -103,7 +115,8 @@ pub record AreLinkedCases (d : DraftTree) (left right : CaseAt) (links : List Li
   pub left_case : IsCaseAt d left
   pub right_case : IsCaseAt d right
   pub linked : All (IsShownLink d) links
-  pub paired : ArePairedBranches d.task (tree_at d.trees left.by) (tree_at d.trees right.by) (tree_at d.trees left.arms) (tree_at d.trees right.arms) (links_at d.trees links)
+  pub paired : ArePairedBranches d.task (tree_at d.trees left.by) (tree_at d.trees right.by)
+      (tree_at d.trees left.arms) (tree_at d.trees right.arms) (links_at d.trees links)
 
 -- they have one branch each, and this is evidence for the bodies
 pub record HasLastBodies (d : DraftTree) (left right : CaseAt) (body : Link) : Type 0 where
@@ -117,11 +130,14 @@ pub record HasLastBodies (d : DraftTree) (left right : CaseAt) (body : Link) : T
 abbrev pub case_with : TermId → TermId → TermId → TermId → Conditional
 case_with w c a b = record { whole = w; condition = c; then_part = a; else_part = b }
 
--- they have more, and this is evidence for the first tests and bodies, and for the `match`es with the other branches
+-- they have more, and this is evidence for the first tests and bodies, and for the `match`es with
+-- the other branches
 pub record HasMore (d : DraftTree) (left right : CaseAt) (test body others : Link) : Type 0 where
   pub pair : ArePair d left.whole right.whole
   pub left_parts : IsConditional d (case_with left.whole test.left body.left others.left)
   pub right_parts : IsConditional d (case_with right.whole test.right body.right others.right)
   pub left_is : IsMatchAt d (case_with left.whole test.left body.left others.left)
   pub right_is : IsMatchAt d (case_with right.whole test.right body.right others.right)
-  pub linked : AreLinked d (case_with left.whole test.left body.left others.left) (case_with right.whole test.right body.right others.right) (record { condition = test.alike; then_part = body.alike; else_part = others.alike })
+  pub linked : AreLinked d (case_with left.whole test.left body.left others.left)
+      (case_with right.whole test.right body.right others.right)
+      (record { condition = test.alike; then_part = body.alike; else_part = others.alike })

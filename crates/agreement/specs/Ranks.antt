@@ -1,5 +1,6 @@
--- How deep binders and `match`es are in a tree whose `let`s and `match`es are unfolded: by this number a search for agreement ends.
--- Each variable has a rank of its own, that of what may stand for it.
+-- How deep binders and `match`es are in a tree whose `let`s and `match`es are unfolded: by this
+-- number a search for agreement ends. Each variable has a rank of its own, that of what may stand
+-- for it.
 use Rattle.std.specs.Prelude.{ℕ, ◌+◌, ◌-◌, max, if◌then◌else◌, nat_lt}
 use Rattle.trees.specs.Tree.{Tree, Leaf, One, Two, Three, Head, HCell, HBound, HParam, HFun, HForall, HExists, HLet, HCase, HArm, binders_over}
 
@@ -46,5 +47,8 @@ three_rank _ a b c = max a (max b c)
 abbrev pub rank : Tree → (ℕ → ℕ) → ℕ → ℕ
 rank (Leaf h) env w = 0
 rank (One h a) env w = one_rank h env (rank a env 0)
-rank (Two h a b) env w = raise h + max (rank a env (passed h w)) (rank b (ranks_put (binders_over h a) (bound_rank h (rank a env (passed h w)) w) env) (asked h (rank a env (passed h w)) w))
+rank (Two h a b) env w = raise h
+    + max (rank a env (passed h w))
+    (rank b (ranks_put (binders_over h a) (bound_rank h (rank a env (passed h w)) w) env)
+    (asked h (rank a env (passed h w)) w))
 rank (Three h a b c) env w = three_rank h (rank a env 0) (rank b env 0) (rank c env 0)

@@ -27,6 +27,7 @@ use Rattle.congruence.specs.declared.cases.Case.{Case}
 use Rattle.congruence.specs.declared.cases.CaseLinks.{CaseLinks}
 use Rattle.congruence.specs.Conditionals.{IsConditional, HasValues, IsCase, AreLinked, HasCaseHalves, IsIfAt, IsMatchAt, IsLastBranch}
 use Rattle.congruence.proofs.Later.{tree_later, closed_later, pair_later, shows_at}
+pub use Rattle.images.proofs.typing_laws.Sorted.{formula_no_type as formula_untyped}
 
 -- ---- a formula has no type
 untyped : (e : Tree) → yield e ≡ Formula → yield_type e ≡ None
@@ -47,9 +48,6 @@ untyped (Three (HFun f) a b c) q = absurd (cc)
 untyped (Three HIf a b c) q = untyped b q
 untyped (Three (HPatCon k) a b c) q = absurd (cc)
 untyped (Three _ a b c) q = refl
-
-pub formula_untyped : (e : Tree) → sort_of e ≡ Formula → type_of e ≡ None
-formula_untyped e s = expression_type e (inr s) ∙ untyped e (expression_sort e (inr s) ∙ s)
 
 -- a formula of a sequent is closed
 pub formula_closed : (d : DraftTree) (id : TermId) → IsFormulaAt d id → IsClosedAt d id

@@ -27,8 +27,8 @@ pub record HasHalves (d : DraftTree) (l r : Tree) (i j : ℕ) : Type 0 where
   pub there : Refutes d i (l ∷ neg r ∷ [])
   pub back : Refutes d j (r ∷ neg l ∷ [])
 
--- What evidence shows of two trees: that they are one; that two terms are equal, by a step that refutes the negation; that two
--- formulas are equivalent, by a step for each half.
+-- What evidence shows of two trees: that they are one; that two terms are equal, by a step that
+-- refutes the negation; that two formulas are equivalent, by a step for each half.
 abbrev pub Shows : DraftTree → AlikeBy → Tree → Tree → Type 0
 Shows d alike.Same l r = l ≡ r
 Shows d (alike.Terms k) l r = (sort_of l ≡ Term) × Refutes d k (neg (equal l r) ∷ [])
@@ -41,7 +41,8 @@ pub record ArePair (d : DraftTree) (l r : TermId) : Type 0 where
   pub sort : sort_of (tree_at d.trees r) ≡ sort_of (tree_at d.trees l)
   pub type : type_of (tree_at d.trees r) ≡ type_of (tree_at d.trees l)
 
--- The number of a tree with a hole, the variable 0, and two closed expressions that differ there alone: by terms `a` and `b`.
+-- The number of a tree with a hole, the variable 0, and two closed expressions that differ there
+-- alone: by terms `a` and `b`.
 pub record IsHole (d : DraftTree) (hole l r a b : TermId) (ty : Tree) : Type 0 where
   pub held : Holds d.trees hole
   pub sort : sort_of (tree_at d.trees hole) ≡ sort_of (tree_at d.trees l)
@@ -60,4 +61,5 @@ IsIrreflexive e = (x : Tree) × (e ≡ neg (equal x x))
 
 -- such a tree at the type of the term `a`
 abbrev pub HoleAt : DraftTree → (hole l r a b : TermId) → Type 0
-HoleAt d hole l r a b = (ty : Tree) × ((type_of (tree_at d.trees a) ≡ Some ty) × IsHole d hole l r a b ty)
+HoleAt d hole l r a b =
+    (ty : Tree) × ((type_of (tree_at d.trees a) ≡ Some ty) × IsHole d hole l r a b ty)

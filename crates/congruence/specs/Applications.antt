@@ -14,5 +14,6 @@ applied s (symbol.Predicate p types) args = Two (HPred p) (tree_at s types) args
 
 -- its numbers are of a list of types, and of a type
 abbrev pub IsSymbolHeld : List Tree → SymbolAt → Type 0
-IsSymbolHeld s (symbol.Function f types ty) = (Holds s types × IsList Kind (tree_at s types)) × (Holds s ty × (sort_of (tree_at s ty) ≡ Kind))
+IsSymbolHeld s (symbol.Function f types ty) =
+    (Holds s types × IsList Kind (tree_at s types)) × (Holds s ty × (sort_of (tree_at s ty) ≡ Kind))
 IsSymbolHeld s (symbol.Predicate p types) = Holds s types × IsList Kind (tree_at s types)

@@ -1,5 +1,6 @@
--- Conditionals: an expression that is alike one thing where a condition holds, and another where it doesn't. An `if` is one, and a
--- `match` with more branches than one, by the test of its first pattern.
+-- Conditionals: an expression that is alike one thing where a condition holds, and another where it
+-- doesn't. An `if` is one, and a `match` with more branches than one, by the test of its first
+-- pattern.
 use Rattle.std.specs.Prelude.{◌≡◌, ℕ, [], ◌∷◌}
 use Rattle.trees.specs.declared.TermId.{TermId}
 use Rattle.trees.specs.Tree.{Tree, Leaf, Two, Three, HEnd, HCell, HArm, HCase, HIf, head_of}
@@ -22,8 +23,8 @@ pub record IsConditional (d : DraftTree) (k : Conditional) : Type 0 where
   pub then_part : ArePair d k.whole k.then_part
   pub else_part : ArePair d k.whole k.else_part
 
--- a `match` with more than one branch: its first pattern's test, the first body at the pattern's terms, and the `match` with the
--- other branches
+-- a `match` with more than one branch: its first pattern's test, the first body at the pattern's
+-- terms, and the `match` with the other branches
 pub record IsMatchCases (t : TaskTree) (e c a b : Tree) : Type 0 where
   pub scrutinee : Tree
   pub pattern : Tree
@@ -37,11 +38,14 @@ pub record IsMatchCases (t : TaskTree) (e c a b : Tree) : Type 0 where
 
 -- the numbers are those of an `if` and its parts
 abbrev pub IsIfAt : DraftTree → Conditional → Type 0
-IsIfAt d k = tree_at d.trees k.whole ≡ Three HIf (tree_at d.trees k.condition) (tree_at d.trees k.then_part) (tree_at d.trees k.else_part)
+IsIfAt d k = tree_at d.trees k.whole
+    ≡ Three HIf (tree_at d.trees k.condition) (tree_at d.trees k.then_part)
+    (tree_at d.trees k.else_part)
 
 -- the numbers are those of a `match` with more branches than one
 abbrev pub IsMatchAt : DraftTree → Conditional → Type 0
-IsMatchAt d k = IsMatchCases d.task (tree_at d.trees k.whole) (tree_at d.trees k.condition) (tree_at d.trees k.then_part) (tree_at d.trees k.else_part)
+IsMatchAt d k = IsMatchCases d.task (tree_at d.trees k.whole) (tree_at d.trees k.condition)
+    (tree_at d.trees k.then_part) (tree_at d.trees k.else_part)
 
 -- a `match` with one branch, and its body at the pattern's terms
 pub record IsLastBranch (t : TaskTree) (e x : Tree) : Type 0 where
@@ -53,8 +57,12 @@ pub record IsLastBranch (t : TaskTree) (e x : Tree) : Type 0 where
 
 -- steps that show, under the condition and under its negation, which part the whole is alike
 pub record HasValues (d : DraftTree) (k : Conditional) (v : CaseValues) : Type 0 where
-  pub then_value : Refutes d v.then_value (tree_at d.trees k.condition ∷ neg (alike (tree_at d.trees k.whole) (tree_at d.trees k.then_part)) ∷ [])
-  pub else_value : Refutes d v.else_value (neg (tree_at d.trees k.condition) ∷ neg (alike (tree_at d.trees k.whole) (tree_at d.trees k.else_part)) ∷ [])
+  pub then_value : Refutes d v.then_value
+      (tree_at d.trees k.condition
+      ∷ neg (alike (tree_at d.trees k.whole) (tree_at d.trees k.then_part)) ∷ [])
+  pub else_value : Refutes d v.else_value
+      (neg (tree_at d.trees k.condition)
+      ∷ neg (alike (tree_at d.trees k.whole) (tree_at d.trees k.else_part)) ∷ [])
 
 -- the conditions of two conditionals are equivalent, and their parts alike
 pub record AreLinked (d : DraftTree) (l r : Conditional) (w : CaseLinks) : Type 0 where
@@ -66,9 +74,13 @@ pub record AreLinked (d : DraftTree) (l r : Conditional) (w : CaseLinks) : Type 
 pub record IsCase (d : DraftTree) (k : Case) : Type 0 where
   pub pair : ArePair d k.whole k.part
   pub hypothesis : IsFormulaAt d k.hypothesis
-  pub value : Refutes d k.value (tree_at d.trees k.hypothesis ∷ neg (alike (tree_at d.trees k.whole) (tree_at d.trees k.part)) ∷ [])
+  pub value : Refutes d k.value
+      (tree_at d.trees k.hypothesis
+      ∷ neg (alike (tree_at d.trees k.whole) (tree_at d.trees k.part)) ∷ [])
 
 -- steps by which the whole gives another formula under the hypothesis, and the part gives the whole
 pub record HasCaseHalves (d : DraftTree) (k : Case) (other : TermId) (i j : ℕ) : Type 0 where
-  pub there : Refutes d i (tree_at d.trees k.hypothesis ∷ tree_at d.trees k.whole ∷ neg (tree_at d.trees other) ∷ [])
-  pub back : Refutes d j (tree_at d.trees k.hypothesis ∷ tree_at d.trees k.part ∷ neg (tree_at d.trees k.whole) ∷ [])
+  pub there : Refutes d i (tree_at d.trees k.hypothesis ∷ tree_at d.trees k.whole
+      ∷ neg (tree_at d.trees other) ∷ [])
+  pub back : Refutes d j (tree_at d.trees k.hypothesis ∷ tree_at d.trees k.part
+      ∷ neg (tree_at d.trees k.whole) ∷ [])

@@ -190,7 +190,7 @@ all_clauses_differ symbols (i ∷ is) a =
     let z : i.symbol ≡ r.member.symbol = cc in
     head_apart i.symbol (map (λ (j : InductiveTree). j.symbol) is) r.member.symbol a (map_contains (λ (j : InductiveTree). j.symbol) is r.member r.there) z)
 
-equation_symbol : (j k : ℕ) → fact.Equation j ≡ fact.Equation k → j ≡ k
+pub equation_symbol : (j k : ℕ) → fact.Equation j ≡ fact.Equation k → j ≡ k
 equation_symbol j k e = cc
 
 inversion_symbol : (j k : ℕ) → fact.Inversion j ≡ fact.Inversion k → j ≡ k
@@ -279,7 +279,7 @@ made_append : (xs ys : List DeclarationTree) → made (xs ++ ys) ≡ made xs ++ 
 made_append [] ys = refl
 made_append (d ∷ xs) ys = ap (λ (z : List ℕ). made_by d.body ++ z) (made_append xs ys) ∙ sym (append_assoc (made_by d.body) (made xs) (made ys))
 
-props_append : (xs ys : List DeclarationTree) → props_of (xs ++ ys) ≡ props_of xs ++ props_of ys
+pub props_append : (xs ys : List DeclarationTree) → props_of (xs ++ ys) ≡ props_of xs ++ props_of ys
 props_append [] ys = refl
 props_append (d ∷ xs) ys = ap (λ (z : List PropositionTree). said_by d d.body ++ z) (props_append xs ys) ∙ sym (append_assoc (said_by d d.body) (props_of xs) (props_of ys))
 

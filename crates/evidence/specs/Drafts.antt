@@ -19,8 +19,10 @@ pub record DraftTree : Type 0 where
   pub steps : List StepTree
 
 abbrev pub draft_code : Coded DraftTree
-draft_code = code_by (List Tree × (TaskTree × List StepTree)) (coded× trees_code (coded× task_code steps_code))
-    (λ d. (d.trees, (d.task, d.steps))) (λ p. record { trees = p.0; task = p.1.0; steps = p.1.1 }) (λ _. refl)
+draft_code = code_by (List Tree × (TaskTree × List StepTree))
+    (coded× trees_code (coded× task_code steps_code))
+    (λ d. (d.trees, (d.task, d.steps))) (λ p. record { trees = p.0; task = p.1.0; steps = p.1.1 })
+    (λ _. refl)
 
 -- all that was there stays, under the same numbers
 pub record Extends (old new : DraftTree) : Type 0 where
@@ -70,7 +72,8 @@ pub record RefutesAt (d : DraftTree) (sequent : List Tree) (places : List ℕ) (
 
 -- the step that cuts a sequent on a formula, and the one that keeps places of a sequent
 abbrev pub cut_step : List Tree → Tree → ℕ → ℕ → StepTree
-cut_step sequent formula j k = record { sequent = sequent; rule = RCut formula; premises = j ∷ k ∷ [] }
+cut_step sequent formula j k =
+    record { sequent = sequent; rule = RCut formula; premises = j ∷ k ∷ [] }
 
 abbrev pub keep_step : List Tree → List ℕ → ℕ → StepTree
 keep_step sequent places k = record { sequent = sequent; rule = RKeep places; premises = k ∷ [] }

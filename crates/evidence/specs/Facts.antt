@@ -1,5 +1,5 @@
--- The facts of a task by the names by which steps cite them: its propositions, the equations of its definitions, and the clauses
--- and inversion formulas of its inductive predicates.
+-- The facts of a task by the names by which steps cite them: its propositions, the equations of its
+-- definitions, and the clauses and inversion formulas of its inductive predicates.
 use Rattle.std.specs.Prelude.{◌≡◌, ℕ, List, length, slice_get, All, Contains, Option, Some, IfSome, IsSomeAnd}
 use Rattle.std.specs.Option.{option_map, option_and_then}
 use Rattle.trees.specs.Tree.{Tree}
@@ -22,8 +22,10 @@ at_symbol t k e = record { vars = (symbol_or t.symbols k).vars; formula = e }
 abbrev pub fact_named : TaskTree → Fact → Option PropositionTree
 fact_named t (fact.Proposition k) = slice_get (props t) k
 fact_named t (fact.Equation k) = option_map (at_symbol t k) (equation (role t k))
-fact_named t (fact.Clause k c) = option_map (at_symbol t k) (option_and_then (λ cs. slice_get cs c) (clauses (role t k)))
-fact_named t (fact.Inversion k) = option_map (λ cs. at_symbol t k (inversion k (symbol_or t.symbols k) cs)) (clauses (role t k))
+fact_named t (fact.Clause k c) =
+    option_map (at_symbol t k) (option_and_then (λ cs. slice_get cs c) (clauses (role t k)))
+fact_named t (fact.Inversion k) =
+    option_map (λ cs. at_symbol t k (inversion k (symbol_or t.symbols k) cs)) (clauses (role t k))
 
 -- a fact of the task's list is that of its name
 abbrev pub IsFoundByName : TaskTree → FactTree → Type 0
@@ -43,9 +45,12 @@ citing (fact.Equation k) types = RDef k types
 citing (fact.Clause k c) types = RClause k c types
 citing (fact.Inversion k) types = RInv k types
 
--- the formula is a fact of one task at ground types of the other, as many as the fact has type variables
-pub record IsFact (from t : TaskTree) (name : Fact) (types : List Tree) (formula : Tree) : Type 0 where
-  pub said : IsSomeAnd (fact_named t name) (λ p. (length types ≡ p.vars) × (formula ≡ inst_types p.formula types))
+-- the formula is a fact of one task at ground types of the other, as many as the fact has type
+-- variables
+pub record IsFact (from t : TaskTree) (name : Fact) (types : List Tree)
+    (formula : Tree) : Type 0 where
+  pub said : IsSomeAnd (fact_named t name)
+      (λ p. (length types ≡ p.vars) × (formula ≡ inst_types p.formula types))
   pub ground : All (IsTypeOver from 0) types
 
 -- a rule that cites no fact

@@ -15,12 +15,14 @@ use Rattle.evidence.specs.Drafts.{DraftTree, Refutes}
 
 -- the step that is remembered of a formula refutes the formula's negation, alone
 abbrev pub AreLemmas : DraftTree → List (ℕ × ℕ) → Type 0
-AreLemmas d es = (a : TermId) (k : ℕ) → lookup (nat_eq a.0) es ≡ Some k → Holds d.trees a × Refutes d k (neg (tree_at d.trees a) ∷ [])
+AreLemmas d es = (a : TermId) (k : ℕ) → lookup (nat_eq a.0) es ≡ Some k
+    → Holds d.trees a × Refutes d k (neg (tree_at d.trees a) ∷ [])
 
 abbrev pub draft_at : List Tree → Task → List Step → DraftTree
 draft_at s t list = record { trees = s; task = task_at s t; steps = steps_at s list }
 
-pub record IsDraft (s : List Tree) (t : Task) (list : List Step) (lemmas : List (ℕ × ℕ)) : Type 0 where
+pub record IsDraft (s : List Tree) (t : Task) (list : List Step)
+    (lemmas : List (ℕ × ℕ)) : Type 0 where
   pub task : TaskHeld s t
   pub valid : IsValid (task_at s t)
   pub held : StepsHeld s list

@@ -18,7 +18,8 @@ pub record NamesOwn (t : TaskTree) (r : RuleTree) : Type 0 where
   pub types : All (IsTypeOver t 0) (rule_types r)
 
 -- steps, by number, refute what a rule adds to a sequent
-pub record RefuteAdded (d : DraftTree) (sequent : List Tree) (r : RuleTree) (premises : List ℕ) : Type 0 where
+pub record RefuteAdded (d : DraftTree) (sequent : List Tree) (r : RuleTree)
+    (premises : List ℕ) : Type 0 where
   pub sequents : List (List Tree)
   pub refuted : RefuteAll d premises sequents
   pub row : IsRuleRow d.task sequent r sequents
@@ -44,12 +45,17 @@ failing_rule Iff i = RNotIff i
 abbrev pub RefuteBehind : DraftTree → List Tree → List ℕ → List (List Tree) → Type 0
 RefuteBehind d sequent premises added = RefuteAll d premises (map (λ x. sequent ++ x) added)
 
--- the formula is a connective, and steps refute what it gives where it holds, or where its negation holds
+-- the formula is a connective, and steps refute what it gives where it holds, or where its negation
+-- holds
 abbrev pub RefuteHolding : DraftTree → List Tree → Op → Option Tree → List ℕ → Type 0
-RefuteHolding d sequent op f premises = IsSomeAnd (connected f) (λ p. (p.0 ≡ op) × RefuteBehind d sequent premises (where_true op p.1 p.2))
+RefuteHolding d sequent op f premises =
+    IsSomeAnd (connected f) (λ p.
+    (p.0 ≡ op) × RefuteBehind d sequent premises (where_true op p.1 p.2))
 
 abbrev pub RefuteFailing : DraftTree → List Tree → Op → Option Tree → List ℕ → Type 0
-RefuteFailing d sequent op f premises = IsSomeAnd (connected f) (λ p. (p.0 ≡ op) × RefuteBehind d sequent premises (where_false op p.1 p.2))
+RefuteFailing d sequent op f premises =
+    IsSomeAnd (connected f) (λ p.
+    (p.0 ≡ op) × RefuteBehind d sequent premises (where_false op p.1 p.2))
 
 -- one formula of a list is the negation of another
 abbrev pub Clash : List Tree → ℕ → ℕ → Type 0

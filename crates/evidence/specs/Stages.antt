@@ -19,7 +19,8 @@ pub use Rattle.evidence.specs.stage_limits.Laws.{limited_gives, limited_small}
 use Rattle.evidence.specs.declared.stage.StageFault.{StageFault}
 use Rattle.evidence.specs.declared.stage.StageFault.TheVariants as fault
 
--- what a task becomes, however large that is, or the place of a declaration for which it becomes nothing
+-- what a task becomes, however large that is, or the place of a declaration for which it becomes
+-- nothing
 abbrev pub TaskEquation : Type 0
 TaskEquation = TaskTree → Result (List TaskTree) ℕ
 
@@ -46,7 +47,16 @@ IsStageFault said (fault.Misplaced decl) = said ≡ Err (Misplaced decl)
 IsStageFault said fault.TooLarge = said ≡ Err TooLarge
 
 abbrev pub no_task : TaskTree
-no_task = record { symbols = []; ints = None; rigid = []; decls = []; params = []; locals = []; goal = Leaf HEnd }
+no_task = record {
+  symbols = [];
+  ints = None;
+  rigid = [];
+  decls = [];
+  params = [];
+  locals =
+      [];
+  goal = Leaf HEnd;
+}
 
 abbrev pub task_or : List TaskTree → ℕ → TaskTree
 task_or ts i = get_or ts i no_task
@@ -59,8 +69,8 @@ IsGrouped (ConstructorRole con) = Unit {0}
 IsGrouped (ProjectionRole con field) = Unit {0}
 IsGrouped _ = ⊥
 
--- The task has the symbols of the other and declares the same ones; what an algebraic or inductive group of it makes, the other's
--- makes as the same.
+-- The task has the symbols of the other and declares the same ones; what an algebraic or inductive
+-- group of it makes, the other's makes as the same.
 pub record KeepsDeclared (from t : TaskTree) : Type 0 where
   pub symbols : t.symbols ≡ from.symbols
   pub ints : t.ints ≡ from.ints
@@ -82,7 +92,8 @@ pub record IsAmong (is_stage : List TaskTree → Type 0) (t : TaskTree) : Type 0
   pub there : task_or tasks place ≡ t
 
 -- steps of a draft, by number, have these sequents, one for each place below n
-pub record HaveSequents (d : DraftTree) (numbers : List ℕ) (q : ℕ → List Tree) (n : ℕ) : Type 0 where
+pub record HaveSequents (d : DraftTree) (numbers : List ℕ) (q : ℕ → List Tree)
+    (n : ℕ) : Type 0 where
   pub as_many : length numbers ≡ n
   pub each : (i : ℕ) → i < n → Refutes d (get_or numbers i 0) (q i)
 
@@ -116,8 +127,10 @@ pub record InStage (equation : TaskEquation) (d : DraftTree) (from to : Task) : 
   pub held : TaskHeld d.trees to
   pub among : IsAmong (Gives equation d.task) (task_at d.trees to)
 
--- a step of a task cites a fact at types, and a step of the draft refutes its sequent with the fact after
-pub record Cites (d : DraftTree) (t : TaskTree) (sequent : List Tree) (name : Fact) (types : List Tree) (premise : ℕ) : Type 0 where
+-- a step of a task cites a fact at types, and a step of the draft refutes its sequent with the fact
+-- after
+pub record Cites (d : DraftTree) (t : TaskTree) (sequent : List Tree) (name : Fact)
+    (types : List Tree) (premise : ℕ) : Type 0 where
   pub formula : Tree
   pub fact : IsFact d.task t name types formula
   pub taken : Refutes d premise (sequent ++ formula ∷ [])

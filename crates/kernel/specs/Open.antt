@@ -1,5 +1,5 @@
--- A step whose trees are typed as far as they go. A line of a step file makes such a tree from earlier ones, and where no
--- variable is open it is well typed.
+-- A step whose trees are typed as far as they go. A line of a step file makes such a tree from
+-- earlier ones, and where no variable is open it is well typed.
 use Rattle.std.specs.Prelude.{◌≡◌, List, All}
 use Rattle.trees.specs.declared.TermId.{TermId}
 use Rattle.trees.specs.Tree.{Tree, loose}

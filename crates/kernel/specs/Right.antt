@@ -10,7 +10,8 @@ use Rattle.tasks.specs.Valid.{IsGround, IsGroundFormula, IsTypeOver}
 use Rattle.rules.specs.Trees.{StepTree, rule_trees, rule_types, step_or, sequents}
 use Rattle.rules.specs.Rows.{IsRuleRow}
 
--- a term or formula of the task: closed, typed in it and free of schematic types; parameters of any type may be in it
+-- a term or formula of the task: closed, typed in it and free of schematic types; parameters of any
+-- type may be in it
 pub record IsGroundExpression (t : TaskTree) (e : Tree) : Type 0 where
   pub sort : (sort_of e ≡ Term) ⊎ (sort_of e ≡ Formula)
   pub typed : IsTyped t e
@@ -31,14 +32,16 @@ AreRight t steps = (k : ℕ) → k < length steps → IsRight t (take k steps) (
 
 -- there is a last step, and its sequent is the task's start
 abbrev pub last_starts : TaskTree → List StepTree → Type 0
-last_starts t steps = IsSomeAnd (slice_get (map (λ st. st.sequent) steps) (length steps - 1)) (λ q. q ≡ start t)
+last_starts t steps =
+    IsSomeAnd (slice_get (map (λ st. st.sequent) steps) (length steps - 1)) (λ q. q ≡ start t)
 
 -- the steps derive the task
 pub record Closes (t : TaskTree) (steps : List StepTree) : Type 0 where
   pub right : AreRight t steps
   pub starts : last_starts t steps
 
--- the least step that isn't right, or the number of steps where none is wrong and the last hasn't the start
+-- the least step that isn't right, or the number of steps where none is wrong and the last hasn't
+-- the start
 pub record IsWrongAt (t : TaskTree) (steps : List StepTree) (k : ℕ) : Type 0 where
   pub within : k ≤ length steps
   pub right_before : (j : ℕ) → j < k → IsRight t (take j steps) (step_or steps j)

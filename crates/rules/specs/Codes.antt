@@ -1,4 +1,5 @@
--- Rules and steps as data that a proof can tell apart, so that a `Model` may have them in its value.
+-- Rules and steps as data that a proof can tell apart, so that a `Model` may have them in its
+-- value.
 use Rattle.std.specs.Prelude.{◌≡◌, ℕ, ℤ, pos, zero, suc, List, [], ◌∷◌, get_or, refl}
 use Rattle.std.specs.Coded.{Coded, code_by, coded×, coded_ℕ, coded_ℤ, coded_list}
 use Rattle.trees.specs.Tree.{Tree, Leaf, HEnd}
@@ -63,7 +64,12 @@ rules_of ns us ts =
     let a = get_or ts 0 (Leaf HEnd) in
     let b = get_or ts 1 (Leaf HEnd) in
     let z = (get_or us 0 (0, pos 0)).1 in
-    RFalse i ∷ RNotTrue i ∷ RClash i j ∷ RIrrefl i ∷ RDistinct i ∷ RLinear us ∷ RNotNot i ∷ RAnd i ∷ RNotAnd i ∷ RAndThen i ∷ RNotAndThen i ∷ ROr i ∷ RNotOr i ∷ ROrElse i ∷ RNotOrElse i ∷ RImp i ∷ RNotImp i ∷ RIff i ∷ RNotIff i ∷ RForall i a ∷ RNotForall i j ∷ RExists i j ∷ RNotExists i a ∷ RCut a ∷ RKeep ns ∷ RRefl a ∷ RReplace i j a ∷ RLetDef a ∷ RIfDef a ∷ RMatchDef a ∷ RFact i ts ∷ RDef i ts ∷ RClause i j ts ∷ RInv i ts ∷ RCase a ∷ RInject i ∷ RProject a ∷ RTrichotomy a b ∷ RBound a z ∷ []
+    RFalse i ∷ RNotTrue i ∷ RClash i j ∷ RIrrefl i ∷ RDistinct i ∷ RLinear us ∷ RNotNot i ∷ RAnd i
+    ∷ RNotAnd i ∷ RAndThen i ∷ RNotAndThen i ∷ ROr i ∷ RNotOr i ∷ ROrElse i ∷ RNotOrElse i
+    ∷ RImp i ∷ RNotImp i ∷ RIff i ∷ RNotIff i ∷ RForall i a ∷ RNotForall i j ∷ RExists i j
+    ∷ RNotExists i a ∷ RCut a ∷ RKeep ns ∷ RRefl a ∷ RReplace i j a ∷ RLetDef a ∷ RIfDef a
+    ∷ RMatchDef a ∷ RFact i ts ∷ RDef i ts ∷ RClause i j ts ∷ RInv i ts ∷ RCase a ∷ RInject i
+    ∷ RProject a ∷ RTrichotomy a b ∷ RBound a z ∷ []
 
 abbrev rule_in : ℕ × (List ℕ × (List (ℕ × ℤ) × List Tree)) → RuleTree
 rule_in p = nth_rule (rules_of p.1.0 p.1.1.0 p.1.1.1) p.0
@@ -110,11 +116,15 @@ rule_back (RTrichotomy a b) = refl
 rule_back (RBound e n) = refl
 
 abbrev pub rule_code : Coded RuleTree
-rule_code = code_by (ℕ × (List ℕ × (List (ℕ × ℤ) × List Tree))) (coded× coded_ℕ (coded× numbers_code (coded× (coded_list (coded× coded_ℕ coded_ℤ)) trees_code))) rule_out rule_in rule_back
+rule_code = code_by (ℕ × (List ℕ × (List (ℕ × ℤ) × List Tree)))
+    (coded× coded_ℕ (coded× numbers_code (coded× (coded_list (coded× coded_ℕ coded_ℤ)) trees_code)))
+    rule_out rule_in rule_back
 
 abbrev pub step_code : Coded StepTree
-step_code = code_by (List Tree × (RuleTree × List ℕ)) (coded× trees_code (coded× rule_code numbers_code))
-    (λ st. (st.sequent, (st.rule, st.premises))) (λ p. record { sequent = p.0; rule = p.1.0; premises = p.1.1 }) (λ _. refl)
+step_code =
+    code_by (List Tree × (RuleTree × List ℕ)) (coded× trees_code (coded× rule_code numbers_code))
+    (λ st. (st.sequent, (st.rule, st.premises)))
+    (λ p. record { sequent = p.0; rule = p.1.0; premises = p.1.1 }) (λ _. refl)
 
 abbrev pub steps_code : Coded (List StepTree)
 steps_code = coded_list step_code

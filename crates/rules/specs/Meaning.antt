@@ -1,4 +1,5 @@
--- What rules and steps in a store stand for, and what is tried of a rule at a step. That their numbers are held is said apart.
+-- What rules and steps in a store stand for, and what is tried of a rule at a step. That their
+-- numbers are held is said apart.
 use Rattle.std.specs.Prelude.{◌≡◌, ℕ, ◌<◌, List, [], map, length, All}
 use Rattle.trees.specs.declared.TermId.{TermId}
 use Rattle.trees.specs.Tree.{Tree, loose}
@@ -84,7 +85,8 @@ RuleHeld s (Bound e n) = Holds s e
 RuleHeld s _ = Unit {0}
 
 abbrev pub step_at : List Tree → Step → StepTree
-step_at s st = record { sequent = trees_at s st.sequent; rule = rule_at s st.rule; premises = st.premises }
+step_at s st =
+    record { sequent = trees_at s st.sequent; rule = rule_at s st.rule; premises = st.premises }
 
 abbrev pub steps_at : List Tree → List Step → List StepTree
 steps_at s steps = map (step_at s) steps

@@ -19,19 +19,23 @@ abbrev pub types_for : List Tree → List Tree
 types_for [] = []
 types_for (t ∷ ts) = types_for ts ++ some_type (type_of t) ∷ []
 
--- An open term or formula and its instance at closed terms, by their numbers. The open tree has parameters of the task alone; those of
--- the instance are below `fresh`.
-pub record IsInstanceAt (d : DraftTree) (env : List TermId) (e l : TermId) (fresh : ℕ) : Type 0 where
+-- An open term or formula and its instance at closed terms, by their numbers. The open tree has
+-- parameters of the task alone; those of the instance are below `fresh`.
+pub record IsInstanceAt (d : DraftTree) (env : List TermId) (e l : TermId)
+    (fresh : ℕ) : Type 0 where
   pub env_held : All (Holds d.trees) env
   pub open_held : Holds d.trees e
   pub left_held : Holds d.trees l
   pub sort : IsExpression (sort_of (tree_at d.trees e))
   pub own : above_params (tree_at d.trees e) ≤ length d.task.params
   pub order : length d.task.params ≤ fresh
-  pub at : IsAt d.task (types_for (trees_at d.trees env)) (trees_at d.trees env) (tree_at d.trees e) (tree_at d.trees l) fresh
+  pub at : IsAt d.task (types_for (trees_at d.trees env)) (trees_at d.trees env) (tree_at d.trees e)
+      (tree_at d.trees l) fresh
 
--- What a link gives of an instance: an open tree, its instance there, and evidence that the two instances are alike.
-pub record IsLinkOf (d : DraftTree) (env : List TermId) (l : TermId) (fresh : ℕ) (e : Tree) (made : Linked) : Type 0 where
+-- What a link gives of an instance: an open tree, its instance there, and evidence that the two
+-- instances are alike.
+pub record IsLinkOf (d : DraftTree) (env : List TermId) (l : TermId) (fresh : ℕ) (e : Tree)
+    (made : Linked) : Type 0 where
   pub is : tree_at d.trees made.image ≡ e
   pub place : IsInstanceAt d env made.image made.right fresh
   pub sort : sort_of (tree_at d.trees made.right) ≡ sort_of (tree_at d.trees l)

@@ -1,4 +1,5 @@
--- Links that are remembered by the number of an open tree and that of the list of the terms that it can see.
+-- Links that are remembered by the number of an open tree and that of the list of the terms that it
+-- can see.
 use Rattle.std.specs.Prelude.{◌≡◌, ℕ, ◌<◌, List, length, get_or, Some}
 use Rattle.indexmap.specs.IndexMap.{IndexMap, get}
 use Rattle.trees.specs.declared.TermId.{TermId}
@@ -13,9 +14,10 @@ use Rattle.trees.specs.binders.Known.{same_pair}
 use Rattle.walking.specs.declared.linked.Linked.{Linked}
 use Rattle.walking.specs.Places.{IsLinkOf}
 
--- A link of an open tree at the terms of a list: of its instance there, to the image under a rule. The instance may be another number of
--- the same tree, at another bound on parameters.
-pub record IsLinkAt (d : DraftTree) (rule : Tree → Tree) (e list : Tree) (made : Linked) : Type 0 where
+-- A link of an open tree at the terms of a list: of its instance there, to the image under a rule.
+-- The instance may be another number of the same tree, at another bound on parameters.
+pub record IsLinkAt (d : DraftTree) (rule : Tree → Tree) (e list : Tree)
+    (made : Linked) : Type 0 where
   pub env : List TermId
   pub left : TermId
   pub fresh : ℕ
@@ -25,6 +27,8 @@ pub record IsLinkAt (d : DraftTree) (rule : Tree → Tree) (e list : Tree) (made
   pub link : IsLinkOf d env left fresh (image rule e) made
 
 -- each remembered link is one
-abbrev pub AreRememberedLinks : {S : Type 0} → DraftTree → (TaskTree → Tree → Tree) → IndexMap (ℕ × ℕ) Linked S → Type 0
+abbrev pub AreRememberedLinks : {S : Type 0} → DraftTree → (TaskTree → Tree → Tree)
+    → IndexMap (ℕ × ℕ) Linked S → Type 0
 AreRememberedLinks d rule m = (k l : ℕ) (v : Linked) → get same_pair m (k, l) ≡ Some v
-    → (k < length d.trees) × (l < length d.trees) × IsLinkAt d (rule d.task) (get_or d.trees k (Leaf HEnd)) (get_or d.trees l (Leaf HEnd)) v
+    → (k < length d.trees) × (l < length d.trees)
+    × IsLinkAt d (rule d.task) (get_or d.trees k (Leaf HEnd)) (get_or d.trees l (Leaf HEnd)) v

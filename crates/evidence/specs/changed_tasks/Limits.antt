@@ -1,4 +1,5 @@
--- What is too large for a stage's task: a formula, the body of a declaration, declarations, formulas, a task.
+-- What is too large for a stage's task: a formula, the body of a declaration, declarations,
+-- formulas, a task.
 use Rattle.std.specs.Prelude.{ℕ, ◌<◌, ◌⊎◌, List}
 use Rattle.trees.specs.Tree.{Tree, size, height}
 use Rattle.tasks.specs.Task.{BodyTree, DeclarationTree, TaskTree, body_nodes, declaration_nodes, formula_nodes, nodes}

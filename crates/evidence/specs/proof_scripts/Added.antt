@@ -64,7 +64,8 @@ pub record AreComparable (d : DraftTree) (a b : TermId) : Type 0 where
 
 -- a formula with its variable 0 open, at the type of the sides of an equation
 abbrev pub IsTemplateFor : DraftTree → Tree → Tree → Type 0
-IsTemplateFor d q e = IsSomeAnd (equation_sides (Some q)) (λ p. IsSomeAnd (type_of p.0) (λ ty. IsTemplate d.task ty e))
+IsTemplateFor d q e = IsSomeAnd (equation_sides (Some q))
+    (λ p. IsSomeAnd (type_of p.0) (λ ty. IsTemplate d.task ty e))
 
 -- the equation's right side in a template
 abbrev pub IsReplaced : Tree → Tree → Tree → Type 0

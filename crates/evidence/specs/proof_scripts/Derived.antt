@@ -17,30 +17,37 @@ abbrev pub all_added : List Tree → List Formulas → List (List Tree)
 all_added s fs = map (trees_at s) (map ids_of fs)
 
 -- after so many lines the others refute what is left, over any draft
-pub record Consumes (f : List Tree) (ls : List LineTree) (ts : List (List Tree)) (n : ℕ) : Type 0 where
-  pub left : (d : DraftTree) (rest : List (List Tree)) → Follows d f ls (ts ++ rest) → Follows d f (drop n ls) rest
+pub record Consumes (f : List Tree) (ls : List LineTree) (ts : List (List Tree))
+    (n : ℕ) : Type 0 where
+  pub left : (d : DraftTree) (rest : List (List Tree)) → Follows d f ls (ts ++ rest)
+      → Follows d f (drop n ls) rest
 
 -- further numbers of steps that refute the front with each of these tails
-pub record RefuteUnder (d : DraftTree) (old new : List ℕ) (f : List Tree) (ts : List (List Tree)) : Type 0 where
+pub record RefuteUnder (d : DraftTree) (old new : List ℕ) (f : List Tree)
+    (ts : List (List Tree)) : Type 0 where
   pub more : List ℕ
   pub is : new ≡ old ++ more
   pub refute : RefuteAll d more (map (λ t. f ++ t) ts)
 
 -- a step for the front and a tail by some lines, at least one
-pub record IsByLines (d : DraftTree) (f t : List Tree) (ls : List LineTree) (r : Derived) : Type 0 where
+pub record IsByLines (d : DraftTree) (f t : List Tree) (ls : List LineTree)
+    (r : Derived) : Type 0 where
   pub refutes : Refutes d r.step (f ++ t)
   pub consumes : Consumes f ls (t ∷ []) r.used
   pub some : 1 ≤ r.used
   pub within : r.used ≤ length ls
 
 -- steps for the front and these tails by so many lines
-pub record AreByLines (d : DraftTree) (f : List Tree) (ts : List (List Tree)) (ls : List LineTree) (old new : List ℕ) (n : ℕ) : Type 0 where
+pub record AreByLines (d : DraftTree) (f : List Tree) (ts : List (List Tree)) (ls : List LineTree)
+    (old new : List ℕ) (n : ℕ) : Type 0 where
   pub refute : RefuteUnder d old new f ts
   pub consumes : Consumes f ls ts n
   pub within : n ≤ length ls
 
--- a step for the front and a tail by a rule, where one line more is before those that its premises take
-pub record IsByRuleAndLines (d : DraftTree) (f t : List Tree) (ls : List LineTree) (added : List (List Tree)) (r : Derived) : Type 0 where
+-- a step for the front and a tail by a rule, where one line more is before those that its premises
+-- take
+pub record IsByRuleAndLines (d : DraftTree) (f t : List Tree) (ls : List LineTree)
+    (added : List (List Tree)) (r : Derived) : Type 0 where
   pub refutes : Refutes d r.step (f ++ t)
   pub behind : ℕ
   pub is : r.used ≡ suc behind
@@ -65,5 +72,9 @@ pub record IsLineOpened (d : DraftTree) (f t : List Tree) (l : LineTree) (o : Op
   pub fits : WordFits o.before o.word
   pub first : All (AreFormulas d) (added_ids o.sides.first)
   pub second : All (AreFormulas d) (added_ids o.sides.second)
-  pub rule : IsByRule d.task (f ++ t) (rule_behind o.before (word_rule d.trees o.word)) (added_at d.trees o.sides.first ++ added_at d.trees o.sides.second)
-  pub opens : (g : DraftTree) (ls : List LineTree) (r : List (List Tree)) → Follows g f (l ∷ ls) (t ∷ r) → Follows g f ls ((sequents_under t (added_at d.trees o.sides.first) ++ sequents_under t (added_at d.trees o.sides.second)) ++ r)
+  pub rule : IsByRule d.task (f ++ t) (rule_behind o.before (word_rule d.trees o.word))
+      (added_at d.trees o.sides.first ++ added_at d.trees o.sides.second)
+  pub opens : (g : DraftTree) (ls : List LineTree) (r : List (List Tree))
+      → Follows g f (l ∷ ls) (t ∷ r)
+      → Follows g f ls ((sequents_under t (added_at d.trees o.sides.first)
+      ++ sequents_under t (added_at d.trees o.sides.second)) ++ r)

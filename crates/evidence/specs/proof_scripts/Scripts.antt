@@ -1,5 +1,6 @@
--- Scripts of derivations: a list of lines, each of which says by what rule a sequent is refuted and which formulas each premise adds
--- to it. The lines come in the order in which the sequents open: a premise's lines follow its step's line.
+-- Scripts of derivations: a list of lines, each of which says by what rule a sequent is refuted and
+-- which formulas each premise adds to it. The lines come in the order in which the sequents open: a
+-- premise's lines follow its step's line.
 use Rattle.std.specs.Prelude.{◌≡◌, ◌≤◌, ◌+◌, ℕ, List, [], ◌∷◌, ◌++◌, map, length, slice_get, All, Option, Some, None, IsSomeAnd}
 use Rattle.trees.specs.Binding.{inst, Param}
 use Rattle.trees.specs.declared.TermId.{TermId}
@@ -23,9 +24,10 @@ use Rattle.evidence.specs.declared.proof_scripts.line.Places.TheVariants as plac
 use Rattle.evidence.specs.declared.proof_scripts.line.Line.{Line}
 use Rattle.evidence.specs.declared.proof_scripts.line.Line.TheVariants as line
 
--- a line in trees: an earlier step that refutes the front and so many formulas at the end; one that refutes the formulas at some places
--- of the tail; the rule on a connective, or on its negation, at a place of the tail; a cut; a rule with its places in the tail, whose
--- premises add what the rule says; a rule without places, with the formula that its only premise adds
+-- a line in trees: an earlier step that refutes the front and so many formulas at the end; one that
+-- refutes the formulas at some places of the tail; the rule on a connective, or on its negation, at
+-- a place of the tail; a cut; a rule with its places in the tail, whose premises add what the rule
+-- says; a rule without places, with the formula that its only premise adds
 pub data LineTree : Type 0 where
   GivenLine : (step count : ℕ) → LineTree
   KeptLine : (step : ℕ) → (places : List ℕ) → LineTree
@@ -112,7 +114,8 @@ places_of (places.Three i j k) = i ∷ j ∷ k ∷ []
 abbrev pub PlacesFit : ℕ → Places → Type 0
 PlacesFit n (places.One i) = n + i ≤ 18446744073709551615
 PlacesFit n (places.Two i j) = (n + i ≤ 18446744073709551615) × (n + j ≤ 18446744073709551615)
-PlacesFit n (places.Three i j k) = (n + i ≤ 18446744073709551615) × (n + j ≤ 18446744073709551615) × (n + k ≤ 18446744073709551615)
+PlacesFit n (places.Three i j k) =
+    (n + i ≤ 18446744073709551615) × (n + j ≤ 18446744073709551615) × (n + k ≤ 18446744073709551615)
 
 -- a `match` by its parts, and a projection by the field
 abbrev pub branch_line : (whole body : Tree) → LineTree
@@ -132,7 +135,8 @@ script_line_at s (line.Failing op i) = FailingLine op i
 script_line_at s (line.Cut a) = CutLine (tree_at s a)
 script_line_at s (line.Rule w) = TailLine (word_rule s w)
 script_line_at s (line.Branch w x) = branch_line (tree_at s w) (tree_at s x)
-script_line_at s (line.Branches w c x y) = branches_line (tree_at s w) (tree_at s c) (tree_at s x) (tree_at s y)
+script_line_at s (line.Branches w c x y) =
+    branches_line (tree_at s w) (tree_at s c) (tree_at s x) (tree_at s y)
 script_line_at s (line.Field w x) = field_line (tree_at s w) (tree_at s x)
 
 abbrev pub lines_at : List Tree → List Line → List LineTree
@@ -166,7 +170,8 @@ pub record IsGiven (d : DraftTree) (f t : List Tree) (k n : ℕ) : Type 0 where
   pub refutes : Refutes d k (f ++ last)
 
 -- the rule refutes the sequent where each premise with these formulas is refuted
-pub record IsByRule (t : TaskTree) (s : List Tree) (r : RuleTree) (added : List (List Tree)) : Type 0 where
+pub record IsByRule (t : TaskTree) (s : List Tree) (r : RuleTree)
+    (added : List (List Tree)) : Type 0 where
   pub names : NamesOwn t r
   pub row : IsRuleRow t s r (sequents_under s added)
 
@@ -175,11 +180,13 @@ abbrev pub one_added : {X : Type 0} → Option X → (X → Tree) → List (List
 one_added None g = []
 one_added (Some x) g = (g x ∷ []) ∷ []
 
--- What the premises of a rule add to a sequent, by the formulas at its places and by its trees: the same as in the table of rules.
+-- What the premises of a rule add to a sequent, by the formulas at its places and by its trees: the
+-- same as in the table of rules.
 abbrev pub adds : List Tree → RuleTree → List (List Tree)
 adds s (RNotNot i) = one_added (negated (negated (slice_get s i))) (λ a. a)
 adds s (RForall i e) = one_added (universal (slice_get s i)) (λ p. inst p.1 e)
-adds s (RNotForall i n) = one_added (universal (negated (slice_get s i))) (λ p. neg (inst p.1 (Param n p.0)))
+adds s (RNotForall i n) =
+    one_added (universal (negated (slice_get s i))) (λ p. neg (inst p.1 (Param n p.0)))
 adds s (RExists i n) = one_added (existential (slice_get s i)) (λ p. inst p.1 (Param n p.0))
 adds s (RNotExists i e) = one_added (existential (negated (slice_get s i))) (λ p. neg (inst p.1 e))
 adds s (RRefl e) = (equal e e ∷ []) ∷ []
@@ -206,13 +213,21 @@ Follows d f [] (t ∷ ts) = ⊥
 Follows d f (l ∷ ls) [] = ⊥
 Follows d f (GivenLine k n ∷ ls) (t ∷ ts) = IsGiven d f t k n × Follows d f ls ts
 Follows d f (KeptLine k ps ∷ ls) (t ∷ ts) = RefutesAt d t ps k × Follows d f ls ts
-Follows d f (HoldingLine op i ∷ ls) (t ∷ ts) = IsSomeAnd (connected (slice_get t i)) (λ p. (p.0 ≡ op) × Follows d f ls (sequents_under t (where_true op p.1 p.2) ++ ts))
-Follows d f (FailingLine op i ∷ ls) (t ∷ ts) = IsSomeAnd (connected (negated (slice_get t i))) (λ p. (p.0 ≡ op) × Follows d f ls (sequents_under t (where_false op p.1 p.2) ++ ts))
-Follows d f (TailLine r ∷ ls) (t ∷ ts) = IsOfTail d.task t r × IsNewTo f r × Follows d f ls (sequents_under t (adds t r) ++ ts)
-Follows d f (MadeLine r a ∷ ls) (t ∷ ts) = IsByRule d.task (f ++ t) r ((a ∷ []) ∷ []) × Follows d f ls ((t ++ a ∷ []) ∷ ts)
-Follows d f (CutLine a ∷ ls) (t ∷ ts) = Follows d f ls (sequents_under t ((a ∷ []) ∷ (neg a ∷ []) ∷ []) ++ ts)
+Follows d f (HoldingLine op i ∷ ls) (t ∷ ts) =
+    IsSomeAnd (connected (slice_get t i))
+    (λ p. (p.0 ≡ op) × Follows d f ls (sequents_under t (where_true op p.1 p.2) ++ ts))
+Follows d f (FailingLine op i ∷ ls) (t ∷ ts) =
+    IsSomeAnd (connected (negated (slice_get t i)))
+    (λ p. (p.0 ≡ op) × Follows d f ls (sequents_under t (where_false op p.1 p.2) ++ ts))
+Follows d f (TailLine r ∷ ls) (t ∷ ts) =
+    IsOfTail d.task t r × IsNewTo f r × Follows d f ls (sequents_under t (adds t r) ++ ts)
+Follows d f (MadeLine r a ∷ ls) (t ∷ ts) =
+    IsByRule d.task (f ++ t) r ((a ∷ []) ∷ []) × Follows d f ls ((t ++ a ∷ []) ∷ ts)
+Follows d f (CutLine a ∷ ls) (t ∷ ts) =
+    Follows d f ls (sequents_under t ((a ∷ []) ∷ (neg a ∷ []) ∷ []) ++ ts)
 
 -- they refute these, and others after them
-pub record CanFollow (d : DraftTree) (f : List Tree) (ls : List LineTree) (ts : List (List Tree)) : Type 0 where
+pub record CanFollow (d : DraftTree) (f : List Tree) (ls : List LineTree)
+    (ts : List (List Tree)) : Type 0 where
   pub rest : List (List Tree)
   pub follows : Follows d f ls (ts ++ rest)

@@ -15,6 +15,8 @@ limited_gives us ts e = by (are_small us) e
 pub limited_small : (us ts : List TaskTree) → limited us ≡ Ok ts → are_small ts ≡ true
 limited_small us ts e = by (are_small us) refl e
   where
-    by : (b : Bool) → are_small us ≡ b → (if b then Ok us else Err TooLarge) ≡ Ok ts → are_small ts ≡ true
-    by true p q = let e : ts ≡ us = cc in subst (λ (zs : List TaskTree). are_small zs ≡ true) (sym e) p
+    by : (b : Bool) → are_small us ≡ b → (if b then Ok us else Err TooLarge) ≡ Ok ts
+        → are_small ts ≡ true
+    by true p q = let e : ts ≡ us =
+        cc in subst (λ (zs : List TaskTree). are_small zs ≡ true) (sym e) p
     by false p q = absurd (cc)

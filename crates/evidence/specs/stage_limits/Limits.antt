@@ -1,5 +1,5 @@
--- How large the tasks of a stage may be: each has at most 2^20 tree nodes and no tree that is higher than 2,000, and all together
--- have at most 2^23 nodes.
+-- How large the tasks of a stage may be: each has at most 2^20 tree nodes and no tree that is
+-- higher than 2,000, and all together have at most 2^23 nodes.
 use Rattle.std.specs.Prelude.{ℕ, max, Bool, ◌&&◌, nat_le, if◌then◌else◌, List, [], ◌∷◌, sum_by, Result, Ok, Err}
 use Rattle.std.specs.List.{list_all}
 use Rattle.trees.specs.Tree.{Tree, height}

@@ -11,15 +11,19 @@ use Rattle.rules.specs.declared.fact_rules.inversion.Inversion.{Inversion}
 
 -- the predicate on its variables
 abbrev pub predicate_use : ℕ → ℕ → List Tree → Tree
-predicate_use p vars args = Two (HPred p) (cells (type_variables 0 vars)) (cells (bound_variables args))
+predicate_use p vars args =
+    Two (HPred p) (cells (type_variables 0 vars)) (cells (bound_variables args))
 
 -- under the quantifiers
 abbrev pub body_of : ℕ → ℕ → List Tree → List Tree → Tree
-body_of p vars args clauses = Two (HJoin Imp) (predicate_use p vars args) (given_by_any (bound_variables args) clauses)
+body_of p vars args clauses =
+    Two (HJoin Imp) (predicate_use p vars args) (given_by_any (bound_variables args) clauses)
 
 abbrev pub formula_at : Inversion → List Tree → Tree
 formula_at v s =
-    inst_types (for_all (trees_at s v.args.now) (body_of v.symbol (length v.types.now) (trees_at s v.args.now) (trees_at s v.clauses.now))) (trees_at s v.types.now)
+    inst_types (for_all (trees_at s v.args.now)
+    (body_of v.symbol (length v.types.now) (trees_at s v.args.now) (trees_at s v.clauses.now)))
+    (trees_at s v.types.now)
 
 pub record InversionHeld (v : Inversion) (s : List Tree) : Type 0 where
   pub args : All (Holds s) v.args.now

@@ -20,7 +20,9 @@ pub record IsRebuiltHeld (v : Rebuilt) (s : List Tree) : Type 0 where
 
 -- that a term is a constructor on its own fields
 abbrev pub case_by : Tried → TermId → TermId → ConstructorTree → List Tree
-case_by x types term c = equal (tree_at x.store.now term) (rebuilt (task_of x) c.symbol c.projections (tree_at x.store.now types) (tree_at x.store.now term)) ∷ []
+case_by x types term c = equal (tree_at x.store.now term)
+    (rebuilt (task_of x) c.symbol c.projections (tree_at x.store.now types)
+    (tree_at x.store.now term)) ∷ []
 
 abbrev pub case_of : Tried → TermId → TermId → Con → List Tree
 case_of x types term c = case_by x types term (con_at x.store.now c)

@@ -1,4 +1,5 @@
--- What the row of `matchdef` is told by: a pattern asked of a closed term, and the parts of a `match`.
+-- What the row of `matchdef` is told by: a pattern asked of a closed term, and the parts of a
+-- `match`.
 use Rattle.std.specs.Prelude.{◌≡◌, ℕ, ◌-◌, List, length, get_or}
 use Rattle.trees.specs.declared.TermId.{TermId}
 use Rattle.trees.specs.Tree.{Tree, Leaf, HEnd, loose}
@@ -19,7 +20,8 @@ pub record IsTriedReady (x : Tried) (pattern term : TermId) (s : List Tree) : Ty
   pub closed : loose (tree_at s term) ≡ 0
 
 -- scrutinee, first pattern and body, and the list of the other branches
-abbrev pub match_parts_at : List Tree → TermId × TermId × TermId × TermId → Tree × Tree × Tree × Tree
+abbrev pub match_parts_at : List Tree → TermId × TermId × TermId × TermId
+    → Tree × Tree × Tree × Tree
 match_parts_at s p = (tree_at s p.0, tree_at s p.1, tree_at s p.2, tree_at s p.3)
 
 abbrev pub MatchPartsHeld : List Tree → TermId × TermId × TermId × TermId → Type 0

@@ -19,9 +19,11 @@ pub record IsPropositionAt (t : TaskTree) (k : ℕ) (types : List Tree) : Type 0
 pub record IsMadeAt (d : DraftTree) (k : ℕ) (types : List Tree) (id : TermId) : Type 0 where
   pub formula : IsFormulaAt d id
   pub below : above_params (tree_at d.trees id) ≤ 0
-  pub is : (p : PropositionTree) → slice_get (props d.task) k ≡ Some p → tree_at d.trees id ≡ inst_types p.formula types
+  pub is : (p : PropositionTree) → slice_get (props d.task) k ≡ Some p
+      → tree_at d.trees id ≡ inst_types p.formula types
 
 -- the formula is what the proposition becomes, at the types
-pub record IsImageAt (t : TaskTree) (g : Tree → Tree) (k : ℕ) (types : List Tree) (formula : Tree) : Type 0 where
+pub record IsImageAt (t : TaskTree) (g : Tree → Tree) (k : ℕ) (types : List Tree)
+    (formula : Tree) : Type 0 where
   pub at : IsPropositionAt t k types
   pub is : formula ≡ inst_types (g at.proposition.formula) types

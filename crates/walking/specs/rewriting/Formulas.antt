@@ -16,10 +16,13 @@ use Rattle.evidence.specs.images.typing_laws.HasTyping.{HasTyping, IsTypeAt}
 
 -- what a formula at types becomes is what it becomes, at the types
 abbrev pub CommutesWithTypes : Vocabulary → (Tree → Tree) → Type 0
-CommutesWithTypes v g = (ys : List Tree) → ((j : ℕ) → IsTypeAt v (get_or ys j (TyVar j))) → (e : Tree) → sort_of e ≡ Formula → HasTyping v [] e → g (inst_types e ys) ≡ inst_types (g e) ys
+CommutesWithTypes v g = (ys : List Tree) → ((j : ℕ) → IsTypeAt v (get_or ys j (TyVar j)))
+    → (e : Tree) → sort_of e ≡ Formula → HasTyping v [] e
+    → g (inst_types e ys) ≡ inst_types (g e) ys
 
 -- a valid task whose numbers are held, for which a function is ready
-pub record CanRewrite (ready : TaskTree → List Tree → Type 0) (s : List Tree) (task : Task) : Type 0 where
+pub record CanRewrite (ready : TaskTree → List Tree → Type 0) (s : List Tree)
+    (task : Task) : Type 0 where
   pub held : TaskHeld s task
   pub valid : IsValid (task_at s task)
   pub is_ready : ready (task_at s task) s

@@ -14,7 +14,8 @@ abbrev pub tree_or : List Tree → ℕ → Tree
 tree_or es i = get_or es i (Leaf HEnd)
 
 -- the draft's task, with the negation of its goal, for which a function is ready
-pub record CanGlueStart (ready : TaskTree → List Tree → Type 0) (d : DraftTree) (from : Task) (no_goal : TermId) : Type 0 where
+pub record CanGlueStart (ready : TaskTree → List Tree → Type 0) (d : DraftTree) (from : Task)
+    (no_goal : TermId) : Type 0 where
   pub is_ready : ready d.task d.trees
   pub own : IsOwnTask d from
   pub negated : IsFormulaAt d no_goal

@@ -20,7 +20,9 @@ HasTypingSomewhere v e = (types : List Tree) × HasTyping v types e
 
 -- a rule at a typed node at types gives what it gives at the node, at the types
 abbrev pub CommutesAtNodes : Vocabulary → (Tree → Tree) → Type 0
-CommutesAtNodes v f = (ys : List Tree) → ((j : ℕ) → IsTypeAt v (get_or ys j (TyVar j))) → (types : List Tree) (e : Tree) → HasTyping v types e → f (inst_types e ys) ≡ inst_types (f e) ys
+CommutesAtNodes v f = (ys : List Tree) → ((j : ℕ) → IsTypeAt v (get_or ys j (TyVar j)))
+    → (types : List Tree) (e : Tree) → HasTyping v types e
+    → f (inst_types e ys) ≡ inst_types (f e) ys
 
 -- a valid task whose numbers are held
 abbrev pub IsValidTaskIn : List Tree → Task → Type 0
@@ -30,8 +32,15 @@ IsValidTaskIn s task = CanRewrite (λ t z. Unit {0}) s task
 abbrev pub rule_at_task : (TaskTree → Tree → Tree) → TaskTree → RuleOver
 rule_at_task f t = record { rule = f t; vocabulary = of_task t }
 
-pub valid_stays : (task : Task) (s s1 : List Tree) → Grows s s1 → IsValidTaskIn s task → IsValidTaskIn s1 task
-valid_stays task s s1 w r = record { held = task_held_later s s1 w task r.held; valid = subst IsValid (sym (task_later s s1 w task r.held)) r.valid; is_ready = tt }
+pub valid_stays : (task : Task) (s s1 : List Tree) → Grows s s1 → IsValidTaskIn s task
+    → IsValidTaskIn s1 task
+valid_stays task s s1 w r = record {
+  held = task_held_later s s1 w task r.held;
+  valid =
+      subst IsValid (sym (task_later s s1 w task r.held)) r.valid;
+  is_ready = tt;
+}
 
-pub task_stays : (f : TaskTree → Tree → Tree) (task : Task) (s s1 : List Tree) → Grows s s1 → IsValidTaskIn s task → rule_at_task f (task_at s1 task) ≡ rule_at_task f (task_at s task)
+pub task_stays : (f : TaskTree → Tree → Tree) (task : Task) (s s1 : List Tree) → Grows s s1
+    → IsValidTaskIn s task → rule_at_task f (task_at s1 task) ≡ rule_at_task f (task_at s task)
 task_stays f task s s1 w r = ap (rule_at_task f) (task_later s s1 w task r.held)
