@@ -13,16 +13,16 @@ use Rattle.tasks.specs.Typing.{TypedUnder}
 use Rattle.tasks.specs.Valid.{VariablesBelow, IsGround, IsValid}
 use Rattle.tasks.proofs.Closing.{typed_sorted, typed_closed}
 use Rattle.tasks.proofs.TypeInstances.{typed_further}
-use Rattle.conditionals.specs.images.Open.{IsEnvironment, IsOpenUnder}
-use Rattle.conditionals.specs.images.Templates.{IsClosedType}
-use Rattle.conditionals.proofs.images.Environments.{loose_for}
-use Rattle.conditionals.proofs.images.Templates.{type_is_kind, term_has_type, hole_typed}
+use Rattle.evidence.specs.images.Open.{IsEnvironment, IsOpenUnder}
+use Rattle.evidence.specs.images.Templates.{IsClosedType}
+use Rattle.evidence.proofs.images.Environments.{loose_for}
+use Rattle.evidence.proofs.images.Templates.{type_is_kind, term_has_type, hole_typed}
 use Rattle.congruence.proofs.tasks.typed_trees.instances.Typed.{many_sort, many_type, many_typed, kind_typed}
 use Rattle.congruence.proofs.tasks.KeptInstances.{variables_at}
 use Rattle.congruence.proofs.HoleTemplates.{int_kind, type_ground}
-use Rattle.conditionals.specs.Conditionals.{first_if, replace_first}
-use Rattle.conditionals.specs.Laws.{is_atom_head}
-use Rattle.conditionals.proofs.Typed.{variables_by_parts, above_by_parts}
+use Rattle.tr_if.specs.conditionals.Conditionals.{first_if, replace_first}
+use Rattle.tr_if.specs.conditionals.Laws.{is_atom_head}
+use Rattle.tr_if.specs.conditionals.lemmas.Typed.{variables_by_parts, above_by_parts}
 use Rattle.tr_if.proofs.Parts.{first_has, replaced_has}
 use Rattle.tr_if.proofs.Placed.{beyond, beyond_at, hole_filled}
 use Rattle.tr_if.proofs.Typed.{IsTypedTerm, first_typed, atom_formula, atom_stays, replaced_typed, placed_like, IsLike}

@@ -8,14 +8,14 @@ use Rattle.tasks.specs.trees.Binding.{inst, inst_many}
 use Rattle.tasks.specs.trees.Sorts.{sort_of, type_of}
 use Rattle.tasks.specs.Vocabulary.{of_task}
 use Rattle.evidence.specs.Drafts.{DraftTree, IsFormulaAt}
-use Rattle.conditionals.specs.images.Open.{IsOpenUnder}
-use Rattle.conditionals.proofs.images.Images.{expression_sort, expression_type}
+use Rattle.evidence.specs.images.Open.{IsOpenUnder}
+use Rattle.evidence.proofs.images.Images.{expression_sort, expression_type}
 use Rattle.congruence.specs.Alike.{ArePair, HoleAt}
 use Rattle.congruence.proofs.CaseParts.{closed_formula}
 use Rattle.congruence.proofs.HoleTemplates.{closed_loose}
-use Rattle.conditionals.specs.Conditionals.{implications, first_if, replace_first, cases_over}
-use Rattle.conditionals.proofs.Cases.{first_case}
-use Rattle.conditionals.proofs.Placing.{then_smaller, else_smaller}
+use Rattle.tr_if.specs.conditionals.Conditionals.{implications, first_if, replace_first, cases_over}
+use Rattle.tr_if.specs.conditionals.lemmas.Cases.{first_case}
+use Rattle.tr_if.proofs.conditionals.Placing.{then_smaller, else_smaller}
 use Rattle.walking.specs.Places.{types_for, IsInstanceAt}
 use Rattle.walking.proofs.Places.{place_closed, place_sort}
 use Rattle.walking.proofs.EqualPlaces.{place_type}

@@ -8,9 +8,9 @@ use Rattle.congruence.specs.declared.conditionals.Conditional.{Conditional}
 use Rattle.congruence.specs.Conditionals.{IsConditional, IsIfAt}
 use Rattle.congruence.proofs.Later.{held_later, tree_later}
 use Rattle.congruence.proofs.CaseParts.{formula_closed, formula_pair, parts_later, if_later}
-use Rattle.conditionals.specs.Conditionals.{implications, replace_first, cases_over}
-use Rattle.conditionals.specs.declared.firsts.IfParts.{IfParts}
-use Rattle.conditionals.specs.Held.{AreIfParts}
+use Rattle.tr_if.specs.conditionals.Conditionals.{implications, replace_first, cases_over}
+use Rattle.tr_if.specs.declared.conditionals.firsts.IfParts.{IfParts}
+use Rattle.tr_if.specs.conditionals.Held.{AreIfParts}
 use Rattle.walking.specs.Places.{IsInstanceAt}
 use Rattle.walking.proofs.PlacesLater.{place_later}
 use Rattle.walking.proofs.IfPlaces.{if_first, if_second, if_third}

@@ -17,8 +17,8 @@ use Rattle.evidence.specs.Drafts.{DraftTree, Extends}
 use Rattle.evidence.specs.Laws.{Extends_trans}
 use Rattle.congruence.specs.tasks.typed_trees.instances.Instances.{AreFor}
 use Rattle.congruence.proofs.Later.{held_later, tree_later}
-use Rattle.conditionals.specs.Conditionals.{first_if, replace_first}
-use Rattle.conditionals.specs.Held.{CanPlace}
+use Rattle.tr_if.specs.conditionals.Conditionals.{first_if, replace_first}
+use Rattle.tr_if.specs.conditionals.Held.{CanPlace}
 use Rattle.walking.specs.Places.{types_for}
 use Rattle.walking.proofs.Instances.{hold_terms, instance_fits}
 use Rattle.walking.proofs.PlacesLater.{all_later, trees_later}

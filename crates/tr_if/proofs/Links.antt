@@ -10,15 +10,15 @@ use Rattle.tasks.specs.Task.{TaskTree}
 use Rattle.evidence.specs.Drafts.{DraftTree, Extends, IsFormulaAt}
 use Rattle.evidence.specs.Laws.{Extends_trans}
 use Rattle.evidence.proofs.Formulas.{formula_later}
-use Rattle.conditionals.specs.images.Open.{IsOpenUnder, IsAt}
+use Rattle.evidence.specs.images.Open.{IsOpenUnder, IsAt}
 use Rattle.congruence.specs.Alike.{ArePair}
 use Rattle.congruence.specs.declared.alike.AlikeBy.TheVariants as alike
 use Rattle.congruence.specs.declared.conditionals.Conditional.{Conditional}
 use Rattle.congruence.specs.Conditionals.{IsConditional}
 use Rattle.congruence.proofs.Later.{held_later, tree_later}
 use Rattle.congruence.proofs.CaseParts.{closed_formula, formula_pair}
-use Rattle.conditionals.specs.Conditionals.{implications}
-use Rattle.conditionals.specs.Held.{IsFormulaNumber}
+use Rattle.tr_if.specs.conditionals.Conditionals.{implications}
+use Rattle.tr_if.specs.conditionals.Held.{IsFormulaNumber}
 use Rattle.walking.specs.declared.linked.Linked.{Linked}
 use Rattle.walking.specs.Places.{types_for, IsInstanceAt, IsLinkOf}
 use Rattle.walking.proofs.Places.{place_closed, place_sort}

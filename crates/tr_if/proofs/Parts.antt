@@ -2,8 +2,8 @@
 -- that.
 use Rattle.std.proofs.Common.{◌≡◌, Option, Some, None, subst, ◌∙◌, refl}
 use Rattle.tasks.specs.trees.Tree.{Tree, Leaf, One, Two, Three, Head, HCell, HFun, HPred, HEq, HIf}
-use Rattle.conditionals.specs.Conditionals.{earlier, first_if, one_changed, replace_first}
-use Rattle.conditionals.proofs.Cases.{IsByParts}
+use Rattle.tr_if.specs.conditionals.Conditionals.{earlier, first_if, one_changed, replace_first}
+use Rattle.tr_if.specs.conditionals.lemmas.Cases.{IsByParts}
 
 module _ (Q : Tree → Type 0) (r : IsByParts Q) where
   in_two : (a b w : Tree) (o : Option Tree) → first_if a ≡ o → (first_if a ≡ Some w → Q w) → (first_if b ≡ Some w → Q w) → earlier o (first_if b) ≡ Some w → Q w

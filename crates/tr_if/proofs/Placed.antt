@@ -5,8 +5,8 @@ use Rattle.tasks.specs.trees.Tree.{Tree, Leaf, One, Two, Three, HCell, HFun, HPr
 use Rattle.tasks.specs.trees.Binding.{inst, inst_many, Bound}
 use Rattle.tasks.proofs.trees.Laws.{inst_closed}
 use Rattle.tasks.proofs.trees.Many.{many_above}
-use Rattle.conditionals.proofs.images.Holes.{hole_here}
-use Rattle.conditionals.specs.Conditionals.{earlier, first_if, one_changed, replace_first}
+use Rattle.evidence.proofs.images.Holes.{hole_here}
+use Rattle.tr_if.specs.conditionals.Conditionals.{earlier, first_if, one_changed, replace_first}
 
 -- the conditional in its own place
 module _ (w : Tree) where

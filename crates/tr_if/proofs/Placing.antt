@@ -10,15 +10,15 @@ use Rattle.tasks.specs.Vocabulary.{of_task}
 use Rattle.tasks.specs.Typing.{TypedUnder}
 use Rattle.tasks.specs.Valid.{IsGround}
 use Rattle.evidence.specs.Drafts.{DraftTree, Extends}
-use Rattle.conditionals.specs.images.Open.{IsEnvironment, IsOpenUnder}
+use Rattle.evidence.specs.images.Open.{IsEnvironment, IsOpenUnder}
 use Rattle.congruence.proofs.Later.{held_later, tree_later}
-use Rattle.conditionals.specs.Laws.{is_atom_head}
+use Rattle.tr_if.specs.conditionals.Laws.{is_atom_head}
 use Rattle.walking.specs.Places.{types_for, IsInstanceAt}
 use Rattle.walking.proofs.PlacesLater.{all_later, trees_later, place_later}
 use Rattle.tr_if.specs.declared.places.OpenAtom.{OpenAtom}
 use Rattle.tr_if.specs.Firsts.{IsOpenAt, IsAtomAt, IsFirstOf, IsPartFor, IsHoleOf}
-use Rattle.conditionals.specs.Held.{CanPlace}
-use Rattle.conditionals.specs.Conditionals.{first_if, replace_first}
+use Rattle.tr_if.specs.conditionals.Held.{CanPlace}
+use Rattle.tr_if.specs.conditionals.Conditionals.{first_if, replace_first}
 use Rattle.tr_if.proofs.Atoms.{put_open, put_own, put_atom, put_formula, put_sort}
 
 -- what a place is of

@@ -10,9 +10,9 @@ use Rattle.tasks.specs.trees.Node.{tree_at, node_tree}
 use Rattle.tasks.specs.trees.Sorts.{sort_of, IsExpression}
 use Rattle.tasks.specs.Vocabulary.{Vocabulary}
 use Rattle.tasks.specs.Typing.{TypedUnder}
-use Rattle.conditionals.proofs.images.Images.{expression_sort}
-use Rattle.conditionals.specs.Conditionals.{implications, cases_over, if_of_sort, if_rule}
-use Rattle.conditionals.specs.Laws.{is_atom_head}
+use Rattle.evidence.proofs.images.Images.{expression_sort}
+use Rattle.tr_if.specs.conditionals.Conditionals.{implications, cases_over, if_of_sort, if_rule}
+use Rattle.tr_if.specs.conditionals.Laws.{is_atom_head}
 
 -- ---- atoms
 pub atom_rule : (e : Tree) → is_atom_head (head_of e) → cases_over e (λ u. u) ≡ if_rule e

@@ -14,7 +14,7 @@ use Rattle.evidence.specs.Drafts.{DraftTree, Refutes, RefutesAt}
 use Rattle.evidence.specs.proof_scripts.Scripts.{LineTree, KeptLine, HoldingLine, FailingLine, CutLine, TailLine, Follows}
 use Rattle.evidence.proofs.proof_scripts.Lines.{clash_line, replace_line}
 use Rattle.congruence.specs.Alike.{TemplateFor}
-use Rattle.conditionals.specs.Conditionals.{implications}
+use Rattle.tr_if.specs.conditionals.Conditionals.{implications}
 
 -- `l <-> r`
 abbrev pub iff : Tree → Tree → Tree

@@ -5,7 +5,7 @@ use Rattle.tasks.specs.trees.Binding.{Bound}
 use Rattle.tasks.specs.trees.Sorts.{int_type}
 use Rattle.tasks.specs.Task.{BodyTree, Defines, Says, DeclarationTree, TaskTree}
 use Rattle.tasks.specs.Equations.{cells}
-use Rattle.conditionals.specs.Conditionals.{implications}
+use Rattle.tr_if.specs.conditionals.Conditionals.{implications}
 use Rattle.tr_if.specs.Eliminated.{if_equation}
 
 abbrev number : ℕ → Tree

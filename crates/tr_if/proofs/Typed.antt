@@ -10,10 +10,10 @@ use Rattle.tasks.specs.Task.{SymbolTree}
 use Rattle.tasks.specs.Vocabulary.{Vocabulary}
 use Rattle.tasks.specs.Typing.{members, entry, IsUse, TypedUnder}
 use Rattle.tasks.proofs.TypeInstances.{some_kept}
-use Rattle.conditionals.proofs.images.Images.{expression_sort, expression_first, expression_members, first_of}
-use Rattle.conditionals.proofs.images.OpenInstances.{for_all_opens}
-use Rattle.conditionals.specs.Conditionals.{earlier, first_if, one_changed, replace_first}
-use Rattle.conditionals.specs.Laws.{is_atom_head}
+use Rattle.evidence.proofs.images.Images.{expression_sort, expression_first, expression_members, first_of}
+use Rattle.evidence.proofs.images.OpenInstances.{for_all_opens}
+use Rattle.tr_if.specs.conditionals.Conditionals.{earlier, first_if, one_changed, replace_first}
+use Rattle.tr_if.specs.conditionals.Laws.{is_atom_head}
 
 -- ---- the first conditional
 module _ (v : Vocabulary) (types : List Tree) where

@@ -6,7 +6,7 @@ use Rattle.tasks.specs.Task.{BodyTree, Says, DeclarationTree, TaskTree}
 use Rattle.evidence.specs.Stages.{TaskEquation}
 use Rattle.walking.specs.declared.rewriting.formulas.FormulaScope.TheVariants as scope
 use Rattle.walking.specs.rewriting.Rewritten.{formulas_equation}
-use Rattle.conditionals.specs.Conditionals.{without_ifs, has_let_or_match}
+use Rattle.tr_if.specs.conditionals.Conditionals.{without_ifs, has_let_or_match}
 
 -- ---- what isn't taken
 -- a proposition with one; definitions and clauses may have them

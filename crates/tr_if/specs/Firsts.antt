@@ -10,10 +10,10 @@ use Rattle.tasks.specs.Vocabulary.{of_task}
 use Rattle.tasks.specs.Typing.{TypedUnder}
 use Rattle.tasks.specs.Valid.{IsGround}
 use Rattle.evidence.specs.Drafts.{DraftTree}
-use Rattle.conditionals.specs.images.Open.{IsEnvironment, IsOpenUnder}
+use Rattle.evidence.specs.images.Open.{IsEnvironment, IsOpenUnder}
 use Rattle.congruence.specs.Conditionals.{IsConditional, IsIfAt}
-use Rattle.conditionals.specs.Conditionals.{implications, first_if, replace_first, cases_over}
-use Rattle.conditionals.specs.Laws.{is_atom_head}
+use Rattle.tr_if.specs.conditionals.Conditionals.{implications, first_if, replace_first, cases_over}
+use Rattle.tr_if.specs.conditionals.Laws.{is_atom_head}
 use Rattle.walking.specs.Places.{types_for, IsInstanceAt}
 use Rattle.tr_if.specs.Values.{IsPlacedTerm}
 use Rattle.tr_if.specs.declared.places.OpenAtom.{OpenAtom}

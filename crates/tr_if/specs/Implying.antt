@@ -4,7 +4,7 @@ use Rattle.tasks.specs.trees.Node.{tree_at}
 use Rattle.evidence.specs.Drafts.{DraftTree}
 use Rattle.congruence.specs.declared.conditionals.Conditional.{Conditional}
 use Rattle.congruence.specs.Conditionals.{IsConditional}
-use Rattle.conditionals.specs.Conditionals.{implications}
+use Rattle.tr_if.specs.conditionals.Conditionals.{implications}
 
 -- the whole is `(c -> a) /\ (not c -> b)`, of formulas
 pub record AreImplications (d : DraftTree) (k : Conditional) : Type 0 where

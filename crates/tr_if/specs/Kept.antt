@@ -10,8 +10,8 @@ use Rattle.walking.specs.declared.rewriting.formulas.FormulaScope.TheVariants as
 use Rattle.walking.specs.rewriting.Formulas.{CommutesWithTypes}
 use Rattle.walking.specs.rewriting.Rewritten.{formulas_equation}
 use Rattle.walking.specs.rewriting.Kept.{rewritten_keeps}
-use Rattle.conditionals.proofs.Typed.{ifs_keep_typing}
-use Rattle.conditionals.proofs.AtTypes.{ifs_at_types}
+use Rattle.tr_if.specs.conditionals.lemmas.Typed.{ifs_keep_typing}
+use Rattle.tr_if.specs.conditionals.lemmas.AtTypes.{ifs_at_types}
 use Rattle.tr_if.specs.Eliminated.{eliminated_formula, taken_or_refused, refused_place, if_equation}
 
 taken_gives : (o : Option ℕ) (t : TaskTree) (ts : List TaskTree) → Gives (taken_or_refused o) t ts → Gives (formulas_equation scope.Everywhere eliminated_formula) t ts

@@ -1,3 +1,4 @@
+pub mod conditionals
 pub mod Values
 pub mod Implying
 pub mod Atoms

@@ -2,9 +2,9 @@
 ghost use Rattle.tr_if.specs.Eliminated.{eliminated_formula, if_equation};
 ghost use Rattle.tr_if.specs.Kept.{if_keeps_formulas, if_commutes, if_keeps};
 
+use crate::conditionals::{GrowthFault, eliminate_ifs};
 use crate::refused::refused_place;
 use crate::rule::IfRule;
-use conditionals::{GrowthFault, eliminate_ifs};
 use evidence::{Draft, StageFault, Transform};
 use std::alloc::{AllocError, Global};
 use tasks::{Fact, Store, Task, TermId};

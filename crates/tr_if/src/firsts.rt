@@ -6,9 +6,9 @@ ghost use Rattle.congruence.specs.Conditionals.{HasValues};
 ghost use Rattle.tr_if.specs.Firsts.{IsAtomAt, IsFirstOf, IsFirstCase};
 ghost use Rattle.tr_if.specs.Atoms.{atom_cases};
 
+use crate::conditionals::if_parts;
 use crate::places::{OpenAtom, open_place, parts_at, place_at, put_part};
 use crate::values::{PlacedTerm, value_in_place};
-use conditionals::if_parts;
 use congruence::{CaseValues, Conditional, if_values};
 use evidence::{Draft, negation};
 use std::alloc::AllocError;

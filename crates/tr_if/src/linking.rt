@@ -5,16 +5,16 @@ ghost use Rattle.tasks.specs.trees.Node.{tree_at, Holds};
 ghost use Rattle.tasks.specs.trees.Sorts.{sort_of};
 ghost use Rattle.evidence.specs.Drafts.{AddsTrees, Extends};
 ghost use Rattle.congruence.specs.Conditionals.{IsConditional, HasValues};
-ghost use Rattle.conditionals.specs.Conditionals.{implications, cases_over, if_rule};
+ghost use Rattle.tr_if.specs.conditionals.Conditionals.{implications, cases_over, if_rule};
 ghost use Rattle.walking.specs.Places.{IsInstanceAt, IsLinkOf};
 ghost use Rattle.tr_if.specs.Atoms.{atom_cases};
 ghost use Rattle.tr_if.specs.Firsts.{IsAtomAt, IsFirstCase};
 ghost use Rattle.tr_if.specs.Linking.{AreLinkedParts};
 
+use crate::conditionals::{first_if, if_parts, implications};
 use crate::firsts::{FirstCase, first_case, first_values};
 use crate::implying::implied_values;
 use crate::places::{OpenAtom, parts_at};
-use conditionals::{first_if, if_parts, implications};
 use congruence::{AlikeBy, CaseLinks, CaseValues, Conditional, alike_cases, if_values};
 use evidence::Draft;
 use std::alloc::AllocError;

@@ -5,11 +5,11 @@ ghost use Rattle.tasks.specs.trees.Sorts.{type_of};
 ghost use Rattle.tasks.specs.trees.Node.{tree_at, Holds};
 ghost use Rattle.evidence.specs.Drafts.{AddsTrees};
 ghost use Rattle.congruence.specs.Conditionals.{IsConditional, IsIfAt};
-ghost use Rattle.conditionals.specs.Conditionals.{replace_first};
+ghost use Rattle.tr_if.specs.conditionals.Conditionals.{replace_first};
 ghost use Rattle.walking.specs.Places.{IsInstanceAt};
 ghost use Rattle.tr_if.specs.Firsts.{IsAtomAt, IsFirstOf, IsOpenAt, IsPartFor, IsHoleOf};
 
-use conditionals::{if_parts, replace_first};
+use crate::conditionals::{if_parts, replace_first};
 use congruence::Conditional;
 use evidence::Draft;
 use std::alloc::AllocError;

@@ -3,10 +3,10 @@ ghost use Rattle.std.specs.Prelude.{◌≡◌, ◌≤◌, length, All};
 ghost use Rattle.std.specs.List.{list_any};
 ghost use Rattle.tasks.specs.trees.Node.{trees_at, Holds};
 ghost use Rattle.tasks.specs.Meaning.{body_at, declarations_at, task_at, BodyHeld, DeclHeld, TaskHeld};
-ghost use Rattle.conditionals.specs.Conditionals.{has_let_or_match};
+ghost use Rattle.tr_if.specs.conditionals.Conditionals.{has_let_or_match};
 ghost use Rattle.tr_if.specs.Eliminated.{says_let_or_match, before_refused, refused_place};
 
-use conditionals::has_let_or_match;
+use crate::conditionals::has_let_or_match;
 use tasks::{Body, Decl, Store, Task, TermId};
 
 // Whether a declaration is a proposition with one.

@@ -1,5 +1,5 @@
 // The rule for nodes that brings conditionals out, with its evidence.
-ghost use Rattle.conditionals.specs.Conditionals.{if_rule};
+ghost use Rattle.tr_if.specs.conditionals.Conditionals.{if_rule};
 ghost use Rattle.tr_if.specs.Rule.{if_others};
 
 use crate::linking::{link_atom, link_conditional};

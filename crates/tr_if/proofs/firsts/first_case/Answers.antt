@@ -3,9 +3,9 @@ use Rattle.tasks.specs.trees.Tree.{Tree, HIf, head_of}
 use Rattle.tasks.specs.trees.Node.{tree_at}
 use Rattle.evidence.specs.Laws.{Extends_trans, AddsTrees_trans, AddsTrees_extends}
 use Rattle.congruence.proofs.Later.{held_later, tree_later}
-use Rattle.conditionals.specs.Conditionals.{replace_first}
-use Rattle.conditionals.specs.Held.{AreIfParts}
-use Rattle.conditionals.proofs.Placing.{first_is_if}
+use Rattle.tr_if.specs.conditionals.Conditionals.{replace_first}
+use Rattle.tr_if.specs.conditionals.Held.{AreIfParts}
+use Rattle.tr_if.proofs.conditionals.Placing.{first_is_if}
 use Rattle.walking.specs.Places.{IsInstanceAt}
 use Rattle.walking.proofs.PlacesLater.{place_later, trees_later}
 use Rattle.tr_if.specs.Firsts.{IsHoleOf}

@@ -3,8 +3,8 @@ use Rattle.tasks.specs.trees.Tree.{Tree, size}
 use Rattle.tasks.specs.trees.Node.{tree_at, Holds}
 use Rattle.evidence.specs.Laws.{Extends_trans, AddsTrees_extends}
 use Rattle.congruence.proofs.Later.{held_later, tree_later}
-use Rattle.conditionals.specs.Conditionals.{first_if, implications, cases_over}
-use Rattle.conditionals.proofs.Cases.{no_first}
+use Rattle.tr_if.specs.conditionals.Conditionals.{first_if, implications, cases_over}
+use Rattle.tr_if.specs.conditionals.lemmas.Cases.{no_first}
 use Rattle.walking.specs.Places.{IsLinkOf}
 use Rattle.tr_if.proofs.Placing.{atom_later}
 use Rattle.tr_if.proofs.Cases.{case_later}

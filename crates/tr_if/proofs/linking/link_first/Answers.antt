@@ -5,7 +5,7 @@ use Rattle.tasks.specs.trees.Sorts.{sort_of}
 use Rattle.evidence.specs.Laws.{Extends_trans}
 use Rattle.congruence.proofs.Later.{tree_later}
 use Rattle.congruence.proofs.CaseParts.{parts_later}
-use Rattle.conditionals.specs.Conditionals.{implications}
+use Rattle.tr_if.specs.conditionals.Conditionals.{implications}
 use Rattle.walking.specs.Places.{IsLinkOf}
 use Rattle.tr_if.specs.Atoms.{atom_cases}
 use Rattle.tr_if.proofs.Cases.{case_conditional}

@@ -7,8 +7,8 @@ use Rattle.tasks.specs.Vocabulary.{of_task}
 use Rattle.evidence.specs.Laws.{Extends_trans}
 use Rattle.congruence.proofs.Later.{tree_later}
 use Rattle.congruence.proofs.CaseParts.{parts_later}
-use Rattle.conditionals.specs.Conditionals.{implications, if_rule}
-use Rattle.conditionals.specs.Held.{AreIfParts}
+use Rattle.tr_if.specs.conditionals.Conditionals.{implications, if_rule}
+use Rattle.tr_if.specs.conditionals.Held.{AreIfParts}
 use Rattle.walking.specs.Places.{types_for, IsLinkOf}
 use Rattle.walking.proofs.Places.{place_sort}
 use Rattle.tr_if.proofs.Rules.{formula_rule}

@@ -1,7 +1,7 @@
 use Rattle.std.proofs.Common.{subst}
 use Rattle.tasks.specs.trees.Node.{tree_at}
 use Rattle.congruence.proofs.CaseParts.{if_parts}
-use Rattle.conditionals.specs.Held.{AreIfParts}
+use Rattle.tr_if.specs.conditionals.Held.{AreIfParts}
 use Rattle.walking.proofs.Places.{place_closed}
 use Rattle.tr_if.proofs.places.parts_at.Goals as goal
 

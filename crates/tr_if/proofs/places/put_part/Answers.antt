@@ -2,7 +2,7 @@ use Rattle.std.proofs.Common.{sym, subst, ◌∙◌}
 use Rattle.tasks.specs.trees.Tree.{head_of}
 use Rattle.evidence.specs.Laws.{AddsTrees_extends}
 use Rattle.congruence.proofs.Later.{tree_later}
-use Rattle.conditionals.specs.Laws.{is_atom_head}
+use Rattle.tr_if.specs.conditionals.Laws.{is_atom_head}
 use Rattle.tr_if.proofs.Placing.{can_put, put_at, put_head}
 use Rattle.tr_if.proofs.places.put_part.Goals as goal
 

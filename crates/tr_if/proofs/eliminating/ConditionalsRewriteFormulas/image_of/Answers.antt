@@ -2,7 +2,7 @@ use Rattle.std.proofs.Common.{[]}
 use Rattle.tasks.specs.trees.Node.{tree_at}
 use Rattle.tasks.specs.Meaning.{task_at}
 use Rattle.tasks.specs.Vocabulary.{of_task}
-use Rattle.conditionals.proofs.images.typing_laws.Sorted.{typed_has}
+use Rattle.evidence.proofs.images.typing_laws.Sorted.{typed_has}
 use Rattle.tr_if.proofs.eliminating.ConditionalsRewriteFormulas.image_of.Goals as goal
 
 pub eliminate_ifs-requires : goal.eliminate_ifs-requires

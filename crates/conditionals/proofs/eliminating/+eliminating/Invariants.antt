@@ -1,8 +1,0 @@
-use Rattle.std.proofs.Common.{◌+◌, ◌*◌}
-use Rattle.conditionals.proofs.eliminating.+eliminating.Given as goal
-
-abbrev pub decreases-eliminate_ifs : goal.decreases-eliminate_ifs
-decreases-eliminate_ifs l = 2 * l.e.0 + 1
-
-abbrev pub decreases-eliminate_in_parts : goal.decreases-eliminate_in_parts
-decreases-eliminate_in_parts l = 2 * l.e.0

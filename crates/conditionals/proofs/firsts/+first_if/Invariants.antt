@@ -1,4 +1,0 @@
-use Rattle.conditionals.proofs.firsts.+first_if.Given as goal
-
-abbrev pub decreases-first_if : goal.decreases-first_if
-decreases-first_if l = l.e.0

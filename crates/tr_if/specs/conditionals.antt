@@ -1,0 +1,5 @@
+pub mod Conditionals
+pub mod Held
+pub mod Places
+pub mod Laws
+pub mod lemmas
