@@ -16,7 +16,7 @@ use Rattle.evidence.specs.Stages.{Gives, IsAmong, IsOwnTask}
 use Rattle.evidence.proofs.task_parts.One.{among_one}
 use Rattle.walking.proofs.rewriting.Facts.{own_proposition}
 use Rattle.walking.specs.rewriting.Facts.{IsImageAt}
-use Rattle.match_forms.specs.Forms.{without_matches}
+use Rattle.tr_match.specs.match_forms.Forms.{without_matches}
 use Rattle.algebraic_forms.specs.declared.origins.LawKind.{LawKind}
 use Rattle.tr_algebraic.specs.declared.algebraic_tasks.origins.PropositionOrigin.{PropositionOrigin}
 use Rattle.tr_algebraic.specs.declared.algebraic_tasks.origins.PropositionOrigin.TheVariants.{Proposition, Law}

@@ -10,7 +10,7 @@ use Rattle.evidence.specs.Stages.{Gives, EndIn, start_of}
 use Rattle.evidence.proofs.Rules.{refutes_later}
 use Rattle.tr_algebraic.specs.draft_images.Images.{HasImages}
 use Rattle.evidence.proofs.task_parts.One.{end_of_one}
-use Rattle.match_forms.specs.Forms.{without_matches}
+use Rattle.tr_match.specs.match_forms.Forms.{without_matches}
 use Rattle.tr_match.specs.Kept.{matches_equation}
 use Rattle.tr_algebraic.specs.Equation.{plain_task, algebraic_task, algebraic_equation}
 use Rattle.tr_algebraic.specs.Kept.{algebraic_one, plain_gives}

@@ -2,7 +2,7 @@
 -- no `match`, and in the place of each algebraic group are its symbols and its laws.
 use Rattle.std.specs.Prelude.{ℕ, List, [], ◌∷◌, Option, Some, None, Result, Ok, Err}
 use Rattle.tasks.specs.Task.{TaskTree}
-use Rattle.match_forms.specs.Forms.{without_matches}
+use Rattle.tr_match.specs.match_forms.Forms.{without_matches}
 use Rattle.walking.specs.evidence.changed_tasks.Changed.{changed_task}
 use Rattle.tr_algebraic.specs.algebraic_tasks.Plain.{task_with_laws}
 use Rattle.tr_algebraic.specs.algebraic_tasks.Refused.{refused_from}

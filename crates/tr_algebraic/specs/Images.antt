@@ -9,8 +9,8 @@ use Rattle.tasks.specs.Task.{TaskTree}
 use Rattle.tasks.specs.Conjunctions.{conjunction}
 use Rattle.tasks.specs.Equations.{cells}
 use Rattle.tasks.specs.MatchTests.{field, fields, rebuilt, constructor_projections, top, other_terms, parts, con_equation, tests, one_tests, two_tests, three_tests, test, pattern_terms, one_binds, two_binds, three_binds, bind}
-use Rattle.match_forms.specs.Forms.{branch_form, if_form, match_rule, without_matches}
-use Rattle.match_forms.specs.images.Images.{image}
+use Rattle.tr_match.specs.match_forms.Forms.{branch_form, if_form, match_rule, without_matches}
+use Rattle.tr_match.specs.images.Images.{image}
 use Rattle.algebraic_forms.specs.NoMatch.{NoMatchInOne, NoMatchInTwo, NoMatchInThree, HasNoMatch}
 
 -- ---- a node over parts without one

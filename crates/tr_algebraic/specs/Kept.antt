@@ -9,7 +9,7 @@ use Rattle.evidence.specs.Stages.{IsGrouped, Keeps, Gives, stage_answer, limited
 use Rattle.evidence.specs.Bounded.{gives_small}
 use Rattle.walking.specs.evidence.stage_limits.Limits.{are_small}
 use Rattle.walking.specs.evidence.changed_tasks.Changed.{with_formula, changed_declarations}
-use Rattle.match_forms.specs.Forms.{without_matches}
+use Rattle.tr_match.specs.match_forms.Forms.{without_matches}
 use Rattle.tr_match.specs.Kept.{matches_equation, matches_keep}
 use Rattle.algebraic_forms.specs.NoMatch.{HasNoMatch}
 use Rattle.tr_algebraic.specs.algebraic_tasks.Plain.{IsBodyWithoutMatches, AreDeclsWithoutMatches, IsTaskWithoutMatches}

@@ -11,18 +11,18 @@ use Rattle.tasks.specs.Vocabulary.{of_task}
 use Rattle.tasks.specs.Valid.{IsValid}
 use Rattle.evidence.specs.Drafts.{DraftTree, Extends}
 use Rattle.evidence.specs.Laws.{Extends_trans}
-use Rattle.match_forms.specs.images.Open.{IsOpenUnder, IsAt}
-use Rattle.match_forms.specs.images.typing_laws.HasTyping.{HasTyping, KeepsTyping}
+use Rattle.images.specs.Open.{IsOpenUnder, IsAt}
+use Rattle.images.specs.typing_laws.HasTyping.{HasTyping, KeepsTyping}
 use Rattle.congruence.specs.Alike.{IsClosedAt, ArePair}
 use Rattle.congruence.proofs.Later.{tree_later, closed_later}
 use Rattle.walking.specs.Places.{types_for, IsInstanceAt}
 use Rattle.walking.proofs.PlacesLater.{trees_later}
 use Rattle.walking.proofs.Places.{place_closed}
 use Rattle.walking.proofs.Placed.{placed}
-use Rattle.match_forms.specs.Forms.{if_form, match_rule}
-use Rattle.match_forms.proofs.images.typing_laws.Sorted.{typed_has, has_typed}
-use Rattle.match_forms.proofs.Rule.{match_typed_rule}
-use Rattle.match_forms.proofs.AtTerms.{match_at_terms}
+use Rattle.tr_match.specs.match_forms.Forms.{if_form, match_rule}
+use Rattle.images.proofs.typing_laws.Sorted.{typed_has, has_typed}
+use Rattle.tr_match.specs.match_forms.lemmas.Rule.{match_typed_rule}
+use Rattle.tr_match.proofs.match_forms.AtTerms.{match_at_terms}
 use Rattle.tr_match.specs.if_forms.IfForms.{IsIfForm}
 
 -- an open tree at an environment is typed under the types of its terms

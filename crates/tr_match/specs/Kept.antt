@@ -5,17 +5,17 @@ use Rattle.tasks.specs.Task.{TaskTree}
 use Rattle.tasks.specs.Vocabulary.{of_task}
 use Rattle.tasks.specs.Valid.{IsValid}
 use Rattle.evidence.specs.Stages.{Gives, Keeps}
-use Rattle.match_forms.specs.images.Images.{IsOtherHead}
-use Rattle.match_forms.specs.images.typing_laws.HasTyping.{IsTypedRule}
+use Rattle.images.specs.Images.{IsOtherHead}
+use Rattle.images.specs.typing_laws.HasTyping.{IsTypedRule}
 use Rattle.walking.specs.declared.rewriting.formulas.FormulaScope.TheVariants as scope
 use Rattle.walking.specs.rewriting.Rewritten.{formulas_equation}
 use Rattle.walking.specs.rewriting.Kept.{rewritten_keeps}
 use Rattle.walking.specs.evidence.changed_tasks.Changed.{KeepsFormulas}
 use Rattle.walking.specs.rewriting.Formulas.{CommutesWithTypes}
 use Rattle.walking.specs.rule_rewriting.Rules.{CommutesAtNodes}
-use Rattle.match_forms.specs.Forms.{match_rule, without_matches}
-use Rattle.match_forms.proofs.Rule.{match_others, match_typed_rule, without_keeps}
-use Rattle.match_forms.proofs.AtTypes.{match_at_types, without_at_types}
+use Rattle.tr_match.specs.match_forms.Forms.{match_rule, without_matches}
+use Rattle.tr_match.specs.match_forms.lemmas.Rule.{match_others, match_typed_rule, without_keeps}
+use Rattle.tr_match.specs.match_forms.lemmas.AtTypes.{match_at_types, without_at_types}
 
 -- ---- the rule at a node
 pub match_stays : (t : TaskTree) (e : Tree) → IsOtherHead (head_of e) → match_rule t e ≡ e

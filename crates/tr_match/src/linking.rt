@@ -7,11 +7,11 @@ ghost use Rattle.tasks.specs.Vocabulary.{of_task};
 ghost use Rattle.evidence.specs.Drafts.{Extends, AddsTrees};
 ghost use Rattle.walking.specs.Places.{IsInstanceAt, IsLinkOf};
 ghost use Rattle.walking.specs.rule_rewriting.Rules.{HasTypingSomewhere};
-ghost use Rattle.match_forms.specs.Forms.{match_rule};
+ghost use Rattle.tr_match.specs.match_forms.Forms.{match_rule};
 
 use crate::if_forms::match_evidence;
+use crate::match_forms::match_node;
 use evidence::Draft;
-use match_forms::match_node;
 use std::alloc::AllocError;
 use tasks::{Grow, Lookup, TermId};
 use walking::Linked;

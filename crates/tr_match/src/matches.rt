@@ -1,12 +1,12 @@
 // The transformation that makes `match`es their `if` forms: the rule at a node, its evidence, and the transformation by it.
 ghost use Rattle.std.specs.Prelude.{◌≡◌};
-ghost use Rattle.match_forms.specs.Forms.{match_rule, without_matches};
+ghost use Rattle.tr_match.specs.match_forms.Forms.{match_rule, without_matches};
 ghost use Rattle.tr_match.specs.Kept.{match_stays, match_keeps_typing, match_commutes, matches_keep_typing, matches_commute, matches_equation, matches_keep};
 
 use crate::linking::link_match;
+use crate::match_forms::match_node;
 use congruence::AlikeBy;
 use evidence::{Draft, StageFault, Transform};
-use match_forms::match_node;
 use std::alloc::{AllocError, Global};
 use tasks::{Fact, Grow, Lookup, Node, Store, Task, TermId};
 use walking::rule_rewriting::{

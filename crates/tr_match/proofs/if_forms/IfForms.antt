@@ -14,12 +14,12 @@ use Rattle.tasks.specs.Vocabulary.{Vocabulary, of_task}
 use Rattle.tasks.specs.Typing.{TypedUnder, BranchesFit, first_body}
 use Rattle.tasks.specs.MatchTests.{test, bind}
 use Rattle.congruence.specs.kernel.Right.{IsGroundExpression}
-use Rattle.match_forms.proofs.images.Images.{leaf_no_list, branches_alike, expression_sort, expression_type}
+use Rattle.images.proofs.Images.{leaf_no_list, branches_alike, expression_sort, expression_type}
 use Rattle.evidence.specs.Drafts.{DraftTree, Extends}
 use Rattle.congruence.specs.declared.conditionals.Conditional.{Conditional}
 use Rattle.congruence.specs.Alike.{IsClosedAt, ArePair}
 use Rattle.congruence.specs.Conditionals.{IsConditional, IsIfAt, IsMatchAt, IsLastBranch}
-use Rattle.match_forms.specs.Forms.{branch_form, if_form}
+use Rattle.tr_match.specs.match_forms.Forms.{branch_form, if_form}
 use Rattle.tr_match.specs.if_forms.IfForms.{IsIfForm, HasOthers, HasIf}
 use Rattle.congruence.proofs.Later.{tree_later, closed_later, pair_later}
 use Rattle.congruence.proofs.CaseParts.{if_parts, parts_later, pair_turned, pair_through}

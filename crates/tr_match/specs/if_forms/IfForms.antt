@@ -2,7 +2,7 @@
 use Rattle.std.specs.Prelude.{◌≡◌}
 use Rattle.tasks.specs.trees.Tree.{Tree, Two, Three, HCell, HCase, HIf}
 use Rattle.tasks.specs.Task.{TaskTree}
-use Rattle.match_forms.specs.Forms.{if_form}
+use Rattle.tr_match.specs.match_forms.Forms.{if_form}
 
 pub record IsIfForm (t : TaskTree) (e f : Tree) : Type 0 where
   pub scrutinee : Tree

@@ -1,7 +1,7 @@
 use Rattle.std.proofs.Common.{◌≡◌, List, refl, sym, ap, ◌∙◌}
 use Rattle.tasks.specs.trees.Tree.{Tree, Two, HCase}
 use Rattle.tasks.specs.trees.Node.{tree_at}
-use Rattle.match_forms.proofs.Opening.{node_stays}
+use Rattle.tr_match.proofs.match_forms.Opening.{node_stays}
 use Rattle.tr_match.proofs.matches.MatchesRewrite.link.Goals as goal
 
 pub link_match-requires-clause-node : goal.link_match-requires-clause-node

@@ -5,7 +5,7 @@ use Rattle.tasks.specs.Meaning.{task_at}
 use Rattle.tasks.specs.Vocabulary.{of_task}
 use Rattle.tasks.specs.Valid.{IsValid}
 use Rattle.walking.specs.rule_rewriting.Rules.{HasTypingSomewhere}
-use Rattle.match_forms.specs.Forms.{match_rule}
+use Rattle.tr_match.specs.match_forms.Forms.{match_rule}
 use Rattle.tr_match.proofs.matches.MatchesTaskRule.at_node.Goals as goal
 
 pub match_node-requires-clause-look : goal.match_node-requires-clause-look

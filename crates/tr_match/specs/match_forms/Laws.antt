@@ -7,7 +7,7 @@ use Rattle.tasks.specs.Vocabulary.{of_task}
 use Rattle.tasks.specs.Valid.{IsValid}
 use Rattle.images.specs.Open.{IsAt}
 use Rattle.images.specs.typing_laws.HasTyping.{HasTyping, IsTypeAt, IsTypedRule}
-use Rattle.match_forms.specs.Forms.{match_rule}
+use Rattle.tr_match.specs.match_forms.Forms.{match_rule}
 
 -- what a `match` becomes is typed as it is
 abbrev pub MatchRuleKeepsTyping : Type 0

@@ -8,7 +8,7 @@ use Rattle.tasks.specs.declared.signature.SymbolKind.{SymbolKind}
 use Rattle.tasks.specs.declared.signature.SymbolKind.TheVariants.{Constructor, Projection}
 use Rattle.tasks.specs.Task.{SymbolTree, int_symbol, ConstructorTree, Constructs, DeclarationTree, TaskTree}
 use Rattle.tasks.specs.Equations.{cells}
-use Rattle.match_forms.specs.Forms.{match_rule, without_matches}
+use Rattle.tr_match.specs.match_forms.Forms.{match_rule, without_matches}
 
 -- `type l = N | C int l`; l is 1, N is 2, C is 3, its projections are 4 and 5; `function plus int int : int` is 6, `predicate p l` is 7
 abbrev l : Tree

@@ -3,10 +3,10 @@ use Rattle.trees.specs.Tree.{Tree, Two, HCase}
 use Rattle.trees.specs.Node.{tree_at}
 use Rattle.tasks.specs.Vocabulary.{of_task}
 use Rattle.images.specs.typing_laws.HasTyping.{HasTyping}
-use Rattle.match_forms.specs.Forms.{match_rule}
-use Rattle.match_forms.specs.Held.{look_task}
-use Rattle.match_forms.proofs.Opening.{can_form, node_stays}
-use Rattle.match_forms.proofs.forms.match_node.Goals as goal
+use Rattle.tr_match.specs.match_forms.Forms.{match_rule}
+use Rattle.tr_match.specs.match_forms.Held.{look_task}
+use Rattle.tr_match.proofs.match_forms.Opening.{can_form, node_stays}
+use Rattle.tr_match.proofs.match_forms.forms.match_node.Goals as goal
 
 pub if_form-requires : goal.if_form-requires
 if_form-requires g c =

@@ -18,10 +18,10 @@ use Rattle.images.specs.typing_laws.HasTyping.{HasSorts, HasTyping, AreTermsFor,
 use Rattle.images.proofs.typing_laws.Sorted.{has_sorts}
 use Rattle.images.proofs.TypedImages.{image_keeps_typing}
 use Rattle.images.proofs.typing_laws.Changes.{many_has, many_sort, many_type, many_variables, many_above_params, many_parameters}
-use Rattle.match_forms.specs.Forms.{if_form, match_rule, without_matches}
-use Rattle.match_forms.specs.Branches.{ArmTree, arms_tree, IsTypedBranch, AreTypedBranches, IsMatchOf}
-use Rattle.match_forms.proofs.Branches.{HasBranches, branches_of}
-use Rattle.match_forms.proofs.Asked.{IsAsked, is_asked}
+use Rattle.tr_match.specs.match_forms.Forms.{if_form, match_rule, without_matches}
+use Rattle.tr_match.specs.match_forms.Branches.{ArmTree, arms_tree, IsTypedBranch, AreTypedBranches, IsMatchOf}
+use Rattle.tr_match.specs.match_forms.lemmas.Branches.{HasBranches, branches_of}
+use Rattle.tr_match.specs.match_forms.lemmas.Asked.{IsAsked, is_asked}
 
 -- what is made of a scrutinee and branches: typed as the first body is, with their type variables and parameters alone
 pub record IsMadeOf (v : Vocabulary) (types : List Tree) (s branches first e : Tree) : Type 0 where

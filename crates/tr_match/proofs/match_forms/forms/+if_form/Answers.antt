@@ -4,10 +4,10 @@ use Rattle.trees.specs.Node.{tree_at, Grows}
 use Rattle.trees.specs.Binding.{inst_many}
 use Rattle.trees.specs.Sorts.{Fits}
 use Rattle.tasks.specs.MatchTests.{test, bind}
-use Rattle.match_forms.specs.Forms.{if_form}
-use Rattle.match_forms.specs.Held.{look_task}
-use Rattle.match_forms.proofs.Opening.{first_is, can_open, has_rest, is_last, if_same, can_later, task_same, held_after, no_cell, branch_there, there}
-use Rattle.match_forms.proofs.forms.+if_form.Goals as goal
+use Rattle.tr_match.specs.match_forms.Forms.{if_form}
+use Rattle.tr_match.specs.match_forms.Held.{look_task}
+use Rattle.tr_match.proofs.match_forms.Opening.{first_is, can_open, has_rest, is_last, if_same, can_later, task_same, held_after, no_cell, branch_there, there}
+use Rattle.tr_match.proofs.match_forms.forms.+if_form.Goals as goal
 
 pub first_branch-first-requires-clause-branches : goal.first_branch-first-requires-clause-branches
 first_branch-first-requires-clause-branches g t c =

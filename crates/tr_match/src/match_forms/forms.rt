@@ -8,8 +8,8 @@ ghost use Rattle.tasks.specs.Looking.{LookupHeld};
 ghost use Rattle.tasks.specs.MatchTests.{test, bind};
 ghost use Rattle.tasks.specs.Valid.{IsValid};
 ghost use Rattle.images.specs.typing_laws.HasTyping.{HasTyping};
-ghost use Rattle.match_forms.specs.Forms.{if_form, match_rule};
-ghost use Rattle.match_forms.specs.Held.{look_task, CanForm, CanOpenBranch};
+ghost use Rattle.tr_match.specs.match_forms.Forms.{if_form, match_rule};
+ghost use Rattle.tr_match.specs.match_forms.Held.{look_task, CanForm, CanOpenBranch};
 
 use images::match_terms::ask;
 use std::alloc::{AllocError, Global};

@@ -1,5 +1,5 @@
-pub use Rattle.images.specs as images
 pub mod Forms
 pub mod Branches
 pub mod Held
 pub mod Laws
+pub mod lemmas

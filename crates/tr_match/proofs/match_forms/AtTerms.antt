@@ -16,10 +16,10 @@ use Rattle.images.proofs.Environments.{closed_for}
 use Rattle.images.proofs.Patterns.{test_at, bind_at}
 use Rattle.images.specs.typing_laws.HasTyping.{HasTyping}
 use Rattle.images.proofs.typing_laws.Sorted.{typed_has, has_sorts, bound_count}
-use Rattle.match_forms.specs.Forms.{if_form, match_rule}
-use Rattle.match_forms.specs.Branches.{ArmTree, arms_tree, IsTypedBranch, AreTypedBranches, IsMatchOf}
-use Rattle.match_forms.proofs.Asked.{pattern_anywhere, terms_no_patterns}
-use Rattle.match_forms.proofs.Rule.{asked, match_of}
+use Rattle.tr_match.specs.match_forms.Forms.{if_form, match_rule}
+use Rattle.tr_match.specs.match_forms.Branches.{ArmTree, arms_tree, IsTypedBranch, AreTypedBranches, IsMatchOf}
+use Rattle.tr_match.specs.match_forms.lemmas.Asked.{pattern_anywhere, terms_no_patterns}
+use Rattle.tr_match.specs.match_forms.lemmas.Rule.{asked, match_of}
 
 module _ (t : TaskTree) (valid : IsValid t) (env : List Tree) (closed : AreClosed env) (types : List Tree) (s : Tree) (ks : sort_of s ≡ Term) (xs : HasTyping (of_task t) types s) (first : Tree) where
   abbrev at : Tree → Tree

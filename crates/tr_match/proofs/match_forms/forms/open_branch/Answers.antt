@@ -3,8 +3,8 @@ use Rattle.trees.specs.Tree.{Tree}
 use Rattle.trees.specs.Node.{tree_at, trees_at, Grows}
 use Rattle.trees.specs.Binding.{inst_many}
 use Rattle.trees.specs.binders.Visits.{HoldTerms}
-use Rattle.match_forms.proofs.Opening.{held_after}
-use Rattle.match_forms.proofs.forms.open_branch.Goals as goal
+use Rattle.tr_match.proofs.match_forms.Opening.{held_after}
+use Rattle.tr_match.proofs.match_forms.forms.open_branch.Goals as goal
 
 pub ask-requires-clause-look : goal.ask-requires-clause-look
 ask-requires-clause-look g c = c.requires.look_held

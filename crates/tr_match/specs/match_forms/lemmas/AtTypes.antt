@@ -19,10 +19,10 @@ use Rattle.images.specs.typing_laws.HasTyping.{HasTyping, IsTypeAt}
 use Rattle.images.proofs.typing_laws.Sorted.{has_sorts, kinds_only}
 use Rattle.images.proofs.TypedImages.{image_at_types}
 use Rattle.images.proofs.typing_laws.TypeInstances.{at_one}
-use Rattle.match_forms.specs.Forms.{if_form, match_rule, without_matches}
-use Rattle.match_forms.specs.Branches.{ArmTree, arms_tree, IsTypedBranch, AreTypedBranches, IsMatchOf}
-use Rattle.match_forms.proofs.Asked.{terms_no_patterns}
-use Rattle.match_forms.proofs.Rule.{asked, match_of, match_typed_rule}
+use Rattle.tr_match.specs.match_forms.Forms.{if_form, match_rule, without_matches}
+use Rattle.tr_match.specs.match_forms.Branches.{ArmTree, arms_tree, IsTypedBranch, AreTypedBranches, IsMatchOf}
+use Rattle.tr_match.specs.match_forms.lemmas.Asked.{terms_no_patterns}
+use Rattle.tr_match.specs.match_forms.lemmas.Rule.{asked, match_of, match_typed_rule}
 
 -- a type is no `match`
 kind_stays : (t : TaskTree) (e : Tree) → HasTyping (of_task t) [] e → sort_of e ≡ Kind → match_rule t e ≡ e

@@ -1,8 +1,8 @@
 -- All are lemmas.
-use Rattle.match_forms.proofs.Rule.{match_typed_rule}
-use Rattle.match_forms.proofs.AtTypes.{match_at_types}
-use Rattle.match_forms.proofs.AtTerms.{match_at_terms}
-use Rattle.match_forms.proofs.law_of_match_forms.Goals as goal
+use Rattle.tr_match.specs.match_forms.lemmas.Rule.{match_typed_rule}
+use Rattle.tr_match.specs.match_forms.lemmas.AtTypes.{match_at_types}
+use Rattle.tr_match.proofs.match_forms.AtTerms.{match_at_terms}
+use Rattle.tr_match.proofs.match_forms.law_of_match_forms.Goals as goal
 
 pub returns-clause-typing : goal.returns-clause-typing
 returns-clause-typing c = λ t valid. match_typed_rule t valid

@@ -13,8 +13,8 @@ use Rattle.tasks.specs.Looking.{LookupHeld}
 use Rattle.tasks.specs.Valid.{IsValid}
 use Rattle.images.specs.PatternTerms.{IsTypedPattern}
 use Rattle.images.specs.typing_laws.HasTyping.{HasTyping}
-use Rattle.match_forms.specs.Branches.{ArmTree, arms_tree, AreTypedBranches}
-use Rattle.match_forms.specs.declared.forms.FirstBranch.{FirstBranch}
+use Rattle.tr_match.specs.match_forms.Branches.{ArmTree, arms_tree, AreTypedBranches}
+use Rattle.tr_match.specs.declared.match_forms.forms.FirstBranch.{FirstBranch}
 
 -- the task of a look-up
 abbrev pub look_task : List Tree → Lookup → TaskTree

@@ -1,10 +1,9 @@
-//! The `if` form of a `match`: its branches' bodies at the terms for their patterns' variables, under the patterns' tests; the rule
-//! that makes each `match` of a tree its form, with laws of it at a node.
-//!
-//! Contract: exactly the form of the definition, made in whatever grows by trees; laws.
-#![tactic(auto)]
+// The `if` form of a `match`: its branches' bodies at the terms for their patterns' variables, under the patterns' tests; the rule
+// that makes each `match` of a tree its form, with laws of it at a node.
+//
+// Contract: exactly the form of the definition, made in whatever grows by trees; laws.
 
-ghost use Rattle.match_forms.specs.Laws.{
+ghost use Rattle.tr_match.specs.match_forms.Laws.{
   MatchRuleKeepsTyping,
   MatchRuleAtTypes,
   MatchRuleAtTerms,

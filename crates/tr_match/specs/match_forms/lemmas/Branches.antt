@@ -6,7 +6,7 @@ use Rattle.trees.specs.Sorts.{sort_of, yield}
 use Rattle.tasks.specs.Vocabulary.{Vocabulary}
 use Rattle.tasks.specs.Typing.{BranchesFit}
 use Rattle.images.specs.typing_laws.HasTyping.{HasTyping}
-use Rattle.match_forms.specs.Branches.{ArmTree, arms_tree, AreTypedBranches}
+use Rattle.tr_match.specs.match_forms.Branches.{ArmTree, arms_tree, AreTypedBranches}
 
 pub record HasBranches (v : Vocabulary) (types : List Tree) (ty : Option Tree) (first e : Tree) : Type 0 where
   pub list : List ArmTree

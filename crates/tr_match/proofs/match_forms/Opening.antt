@@ -16,11 +16,11 @@ use Rattle.tasks.specs.Valid.{IsValid}
 use Rattle.tasks.proofs.Growth.{task_later, task_held_later}
 use Rattle.images.specs.PatternTerms.{IsTypedPattern}
 use Rattle.images.specs.typing_laws.HasTyping.{HasTyping}
-use Rattle.match_forms.specs.Forms.{if_form, match_rule}
-use Rattle.match_forms.specs.Branches.{ArmTree, arms_tree, AreTypedBranches, IsMatchOf}
-use Rattle.match_forms.specs.Held.{look_task, CanForm, CanOpenBranch}
-use Rattle.match_forms.specs.declared.forms.FirstBranch.{FirstBranch}
-use Rattle.match_forms.proofs.Rule.{IsMadeOf, asked, form_made, match_of}
+use Rattle.tr_match.specs.match_forms.Forms.{if_form, match_rule}
+use Rattle.tr_match.specs.match_forms.Branches.{ArmTree, arms_tree, AreTypedBranches, IsMatchOf}
+use Rattle.tr_match.specs.match_forms.Held.{look_task, CanForm, CanOpenBranch}
+use Rattle.tr_match.specs.declared.match_forms.forms.FirstBranch.{FirstBranch}
+use Rattle.tr_match.specs.match_forms.lemmas.Rule.{IsMadeOf, asked, form_made, match_of}
 
 -- a typed `match`
 pub can_form : (s : List Tree) (look : Lookup) (scrutinee branches : TermId) → LookupHeld s look → IsValid (look_task s look) → Holds s scrutinee → Holds s branches → (types : List Tree) → HasTyping (of_task (look_task s look)) types (Two HCase (tree_at s scrutinee) (tree_at s branches))

@@ -1,0 +1,3 @@
+pub mod AtTerms
+pub mod Opening
+pub mod Rows

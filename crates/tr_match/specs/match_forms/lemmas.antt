@@ -1,0 +1,4 @@
+pub mod Branches
+pub mod Asked
+pub mod Rule
+pub mod AtTypes
