@@ -5,10 +5,10 @@ use Rattle.tasks.specs.Task.{TaskTree, nodes}
 use Rattle.evidence.specs.declared.stage.StageFault.{StageFault}
 use Rattle.evidence.specs.declared.stage.StageFault.TheVariants as fault
 use Rattle.evidence.specs.Stages.{Misplaced, TooLarge, IsStageFault, stage_answer, stage_equation}
-use Rattle.wanted_instances.specs.name_tables.Occurrences.{Occurrence}
-use Rattle.wanted_instances.specs.Discriminated.{last_set, discriminated_at, discriminated_task, misplaced_from}
-use Rattle.wanted_instances.specs.Growing.{GoesOn}
-use Rattle.wanted_instances.proofs.Nodes.{task_more}
+use Rattle.name_tables.specs.Occurrences.{Occurrence}
+use Rattle.tr_discriminate.specs.wanted_instances.Discriminated.{last_set, discriminated_at, discriminated_task, misplaced_from}
+use Rattle.tr_discriminate.specs.wanted_instances.Growing.{GoesOn}
+use Rattle.tr_discriminate.proofs.wanted_instances.Nodes.{task_more}
 use Rattle.tr_discriminate.specs.instance_sets.Sets.{IsLargeAtSet}
 use Rattle.tr_discriminate.specs.Equation.{unless_misplaced, discriminate_equation}
 

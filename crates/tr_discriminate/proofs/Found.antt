@@ -11,7 +11,7 @@ use Rattle.tasks.specs.trees.Binding.{TyVar, change, one_by, leaf_by, typing, in
 use Rattle.tasks.specs.Vocabulary.{Vocabulary}
 use Rattle.tasks.specs.Typing.{bound_types, TypedUnder}
 use Rattle.tasks.specs.Valid.{VariablesBelow, IsTypeIn}
-use Rattle.wanted_instances.proofs.Typed.{kind_good}
+use Rattle.tr_discriminate.specs.wanted_instances.lemmas.Typed.{kind_good}
 use Rattle.tr_discriminate.specs.instance_sets.Made.{IsTypeTree}
 use Rattle.tr_discriminate.specs.Found.{is_type_sort, leaf_found, types_found, ints}
 

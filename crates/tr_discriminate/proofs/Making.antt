@@ -12,7 +12,7 @@ use Rattle.evidence.specs.Drafts.{DraftTree, Refutes}
 use Rattle.evidence.specs.Stages.{Gives, EndIn}
 use Rattle.evidence.specs.task_parts.Parts.{task_with, ArePartsHeld}
 use Rattle.evidence.proofs.task_parts.One.{end_there, end_of_one}
-use Rattle.wanted_instances.specs.Discriminated.{last_set, discriminated_decls, discriminated_task}
+use Rattle.tr_discriminate.specs.wanted_instances.Discriminated.{last_set, discriminated_decls, discriminated_task}
 use Rattle.declarations.proofs.Stored.{own_parts, task_is}
 use Rattle.tr_discriminate.specs.Equation.{discriminate_rule, discriminate_equation}
 use Rattle.tr_discriminate.specs.Kept.{discriminated_one}

@@ -12,10 +12,10 @@ use Rattle.tasks.specs.Valid.{IsTypeIn, IsTypeOver, IsValidBody, IsValidDecl, Is
 use Rattle.evidence.specs.Facts.{IsFact}
 use Rattle.evidence.specs.Stages.{Gives, IsAmong}
 use Rattle.evidence.proofs.task_parts.One.{among_one}
-use Rattle.wanted_instances.specs.name_tables.Occurrences.{Occurrence}
-use Rattle.wanted_instances.specs.Wanted.{wanted_types, wanted_formulas}
-use Rattle.wanted_instances.specs.Discriminated.{is_monomorphic, last_set, said_at, proposition_of, put_in_place, discriminated_decls, discriminated_task}
-use Rattle.wanted_instances.proofs.Kept.{AreFor, wanted_for, last_good}
+use Rattle.name_tables.specs.Occurrences.{Occurrence}
+use Rattle.tr_discriminate.specs.wanted_instances.Wanted.{wanted_types, wanted_formulas}
+use Rattle.tr_discriminate.specs.wanted_instances.Discriminated.{is_monomorphic, last_set, said_at, proposition_of, put_in_place, discriminated_decls, discriminated_task}
+use Rattle.tr_discriminate.specs.wanted_instances.lemmas.Kept.{AreFor, wanted_for, last_good}
 use Rattle.declarations.specs.Rewritten.{IsAsBefore}
 use Rattle.declarations.specs.Names.{IsOldName}
 use Rattle.declarations.proofs.Names.{fact_there}

@@ -25,7 +25,7 @@ use Rattle.tasks.specs.Valid.{VariablesBelow, IsTypeIn}
 use Rattle.evidence.specs.Drafts.{DraftTree, IsFormulaAt}
 use Rattle.evidence.specs.Facts.{IsFact}
 use Rattle.evidence.specs.Stages.{IsOwnTask}
-use Rattle.wanted_instances.proofs.Kept.{int_good}
+use Rattle.tr_discriminate.specs.wanted_instances.lemmas.Kept.{int_good}
 use Rattle.trees.specs.binders.Visits.{HoldTypes}
 use Rattle.tr_discriminate.specs.instance_sets.Made.{IsTypeTree}
 use Rattle.tr_discriminate.specs.Found.{is_type_sort, type_noted, tree_noted, types_found, ints}

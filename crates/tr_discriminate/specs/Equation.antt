@@ -1,8 +1,8 @@
 -- What a task becomes where polymorphic propositions are replaced by their wanted instances (Why3 manual, "discriminate").
 use Rattle.std.specs.Prelude.{ℕ, List, [], ◌∷◌, Option, Some, None, Result, Ok, Err}
 use Rattle.tasks.specs.Task.{TaskTree}
-use Rattle.wanted_instances.specs.name_tables.Occurrences.{Occurrence}
-use Rattle.wanted_instances.specs.Discriminated.{put_in_place, discriminated_task, misplaced_from}
+use Rattle.name_tables.specs.Occurrences.{Occurrence}
+use Rattle.tr_discriminate.specs.wanted_instances.Discriminated.{put_in_place, discriminated_task, misplaced_from}
 use Rattle.declarations.specs.Rewritten.{DeclarationRule}
 
 -- what is put in the place of a declaration, where the instances that are wanted are those at a set

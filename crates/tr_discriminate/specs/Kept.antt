@@ -7,10 +7,10 @@ use Rattle.tasks.specs.Roles.{maker, role_by, role_in, is_made_by, is_constructo
 use Rattle.tasks.specs.Valid.{IsValid}
 use Rattle.evidence.specs.Stages.{Gives, Keeps, stage_answer, limited_gives}
 use Rattle.evidence.specs.task_parts.Kept.{one_keeps}
-use Rattle.wanted_instances.specs.name_tables.Occurrences.{Occurrence}
-use Rattle.wanted_instances.specs.Wanted.{wanted_formulas}
-use Rattle.wanted_instances.specs.Discriminated.{is_monomorphic, said_at, proposition_of, put_in_place, last_set, discriminated_task, misplaced_from}
-use Rattle.wanted_instances.proofs.Kept.{last_good, body_valid}
+use Rattle.name_tables.specs.Occurrences.{Occurrence}
+use Rattle.tr_discriminate.specs.wanted_instances.Wanted.{wanted_formulas}
+use Rattle.tr_discriminate.specs.wanted_instances.Discriminated.{is_monomorphic, said_at, proposition_of, put_in_place, last_set, discriminated_task, misplaced_from}
+use Rattle.tr_discriminate.specs.wanted_instances.lemmas.Kept.{last_good, body_valid}
 use Rattle.declarations.specs.Rewritten.{KeepsMade, KeepsConstructors}
 use Rattle.declarations.proofs.Rewritten.{alone_made, alone_role, rewritten_kept}
 use Rattle.tr_discriminate.specs.Equation.{discriminate_rule, unless_misplaced, discriminate_equation}

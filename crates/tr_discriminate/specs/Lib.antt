@@ -1,5 +1,4 @@
-pub use Rattle.name_tables.specs as name_tables
-pub use Rattle.wanted_instances.specs as wanted_instances
+pub mod wanted_instances
 pub mod instance_search
 pub mod instance_sets
 pub mod wanted_search

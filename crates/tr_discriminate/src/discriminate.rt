@@ -4,7 +4,7 @@ ghost use Rattle.trees.specs.Tree.{Tree};
 ghost use Rattle.trees.specs.Node.{Grows};
 ghost use Rattle.tasks.specs.Meaning.{body_at, declarations_at, task_at, TaskHeld};
 ghost use Rattle.tasks.specs.Valid.{IsValid};
-ghost use Rattle.wanted_instances.specs.Discriminated.{is_misplaced, misplaced_from, discriminated_task};
+ghost use Rattle.tr_discriminate.specs.wanted_instances.Discriminated.{is_misplaced, misplaced_from, discriminated_task};
 ghost use Rattle.tr_discriminate.specs.instance_sets.Sets.{IsLargeAtSet};
 ghost use Rattle.tr_discriminate.specs.Equation.{discriminate_equation};
 ghost use Rattle.tr_discriminate.specs.Kept.{discriminate_keeps};

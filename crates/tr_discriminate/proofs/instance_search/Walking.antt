@@ -7,7 +7,7 @@ use Rattle.trees.specs.Tree.{Tree, Leaf, One, Two, Three, HEnd}
 use Rattle.name_tables.specs.Occurrences.{Occurrence}
 use Rattle.name_tables.specs.Seen.{seen_occurrences, with_all, AreIn, GainsKeys}
 use Rattle.name_tables.proofs.Gathering.{in_later, added_in, with_all_there, with_all-append}
-use Rattle.wanted_instances.specs.Instances.{inner_instances, types_within}
+use Rattle.tr_discriminate.specs.wanted_instances.Instances.{inner_instances, types_within}
 use Rattle.tr_discriminate.specs.declared.instance_search.gathering.Sought.{Sought}
 use Rattle.tr_discriminate.specs.declared.instance_search.gathering.Sought.TheVariants.{Instances, Types}
 use Rattle.tr_discriminate.specs.instance_search.Gather.{gathered, before_parts, after_parts, in_parts, TreesAreIn, IsGathering, WalkGains}

@@ -21,9 +21,9 @@ use Rattle.trees.specs.binders.Visits.{HoldTypes, held_stays}
 use Rattle.evidence.specs.declared.stage.StageFault.{StageFault}
 use Rattle.evidence.specs.declared.stage.StageFault.TheVariants as fault
 use Rattle.name_tables.specs.Occurrences.{Occurrence}
-use Rattle.wanted_instances.specs.Wanted.{wanted_formulas}
-use Rattle.wanted_instances.specs.Discriminated.{is_monomorphic, said_at, proposition_of, put_in_place, discriminated_decls}
-use Rattle.wanted_instances.proofs.Nodes.{said_nodes}
+use Rattle.tr_discriminate.specs.wanted_instances.Wanted.{wanted_formulas}
+use Rattle.tr_discriminate.specs.wanted_instances.Discriminated.{is_monomorphic, said_at, proposition_of, put_in_place, discriminated_decls}
+use Rattle.tr_discriminate.proofs.wanted_instances.Nodes.{said_nodes}
 use Rattle.tr_discriminate.specs.instance_sets.Made.{IsTypeTree, AreTypeLists, IsSearchable, IsSearchableBody, polymorphic_formula, PutsDeclarations, IsAboveAllowed, instances_of}
 
 two_nodes : (ds es : List DeclarationTree) → declaration_nodes (ds ++ es) ≡ declaration_nodes ds + declaration_nodes es

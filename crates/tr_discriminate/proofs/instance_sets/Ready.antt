@@ -26,13 +26,13 @@ use Rattle.name_tables.specs.Occurrences.{Occurrence, occurrence}
 use Rattle.name_tables.specs.Seen.{occurrence_at, seen_occurrences, with_all, AreIn, KeyHeld, KeysHeld, GainsKeys}
 use Rattle.name_tables.proofs.Steps.{gains_then}
 use Rattle.name_tables.proofs.Gathering.{in_later, added_in, with_all_there, with_all-append}
-use Rattle.wanted_instances.specs.Instances.{inner_instances, instance_types}
-use Rattle.wanted_instances.specs.Wanted.{wanted_types, wanted_formulas}
-use Rattle.wanted_instances.specs.Growing.{GoesOn}
-use Rattle.wanted_instances.specs.Discriminated.{is_monomorphic, monomorphic, polymorphic, first_set, next_set, last_set, said_at, proposition_of, put_in_place, discriminated_decls}
-use Rattle.wanted_instances.proofs.Nodes.{first_goes_on, second_goes_on}
-use Rattle.wanted_instances.proofs.Typed.{IsGoodInstance}
-use Rattle.wanted_instances.proofs.Kept.{int_good, AreFor, wanted_for, last_good}
+use Rattle.tr_discriminate.specs.wanted_instances.Instances.{inner_instances, instance_types}
+use Rattle.tr_discriminate.specs.wanted_instances.Wanted.{wanted_types, wanted_formulas}
+use Rattle.tr_discriminate.specs.wanted_instances.Growing.{GoesOn}
+use Rattle.tr_discriminate.specs.wanted_instances.Discriminated.{is_monomorphic, monomorphic, polymorphic, first_set, next_set, last_set, said_at, proposition_of, put_in_place, discriminated_decls}
+use Rattle.tr_discriminate.proofs.wanted_instances.Nodes.{first_goes_on, second_goes_on}
+use Rattle.tr_discriminate.specs.wanted_instances.lemmas.Typed.{IsGoodInstance}
+use Rattle.tr_discriminate.specs.wanted_instances.lemmas.Kept.{int_good, AreFor, wanted_for, last_good}
 use Rattle.tr_discriminate.specs.instance_sets.Made.{IsRanked, IsTypeTree, IsSearchable, IsSearchableBody, IsAboveAllowed, monomorphic_formula, option_instances, said_instances}
 use Rattle.tr_discriminate.specs.instance_sets.Sets.{IsKeySet, IsEarlySet, IsLargeAtSet}
 

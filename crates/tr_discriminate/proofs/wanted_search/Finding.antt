@@ -12,11 +12,11 @@ use Rattle.trees.specs.Node.{Holds, tree_at, trees_at}
 use Rattle.trees.specs.Sorts.{int_type}
 use Rattle.name_tables.specs.Occurrences.{Occurrence}
 use Rattle.name_tables.specs.Seen.{seen_occurrences, GainsKeys}
-use Rattle.wanted_instances.specs.Instances.{instance_types, has_variable}
-use Rattle.wanted_instances.specs.Wanted.{type_choices, assignments, is_wanted, wanted_types}
-use Rattle.wanted_instances.specs.Discriminated.{proposition_of}
-use Rattle.wanted_instances.specs.Search.{found_from, may_go_on}
-use Rattle.wanted_instances.proofs.Searching.{found_more, found_none, found_one}
+use Rattle.tr_discriminate.specs.wanted_instances.Instances.{instance_types, has_variable}
+use Rattle.tr_discriminate.specs.wanted_instances.Wanted.{type_choices, assignments, is_wanted, wanted_types}
+use Rattle.tr_discriminate.specs.wanted_instances.Discriminated.{proposition_of}
+use Rattle.tr_discriminate.specs.wanted_instances.Search.{found_from, may_go_on}
+use Rattle.tr_discriminate.proofs.wanted_instances.Searching.{found_more, found_none, found_one}
 use Rattle.tr_discriminate.specs.wanted_search.Search.{key_type, assignments_at, IsSearchResult, FindsUpTo, found_each}
 
 -- the first ones of a list of which only the first ones were kept

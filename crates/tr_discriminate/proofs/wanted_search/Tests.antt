@@ -7,7 +7,7 @@ use Rattle.std.proofs.lemmas.List.{at_drop_more, drop_all}
 use Rattle.std.proofs.lemmas.List.Folds.{list_any-append}
 use Rattle.std.proofs.lemmas.Option.{slice_get-map}
 use Rattle.std.specs.Option.{option_map}
-use Rattle.wanted_instances.specs.linear_leaf.Valuations.{same_tree}
+use Rattle.linear_leaf.specs.Valuations.{same_tree}
 use Rattle.trees.specs.declared.TermId.{TermId}
 use Rattle.trees.specs.Node.{tree_at, trees_at}
 use Rattle.trees.specs.Tree.{Tree, Leaf, One, Two, Three, Head, HTyVar, HTyRigid, HTyApp}
@@ -15,9 +15,9 @@ use Rattle.name_tables.specs.Occurrences.{Occurrence}
 use Rattle.name_tables.specs.Tables.{is_same}
 use Rattle.name_tables.specs.Seen.{occurrence_at, seen_occurrences, has, with_one, with_all, GainsKeys}
 use Rattle.name_tables.proofs.Gathering.{same_occurrence, same_itself}
-use Rattle.wanted_instances.specs.Instances.{equality_at, leaf_types, one_types, types_within, has_variable, mentions}
-use Rattle.wanted_instances.specs.Wanted.{each_below, is_of_symbol, occurring, of_symbols, named_suffice, driving}
-use Rattle.wanted_instances.specs.Search.{known_fits, may_fit, matches}
+use Rattle.tr_discriminate.specs.wanted_instances.Instances.{equality_at, leaf_types, one_types, types_within, has_variable, mentions}
+use Rattle.tr_discriminate.specs.wanted_instances.Wanted.{each_below, is_of_symbol, occurring, of_symbols, named_suffice, driving}
+use Rattle.tr_discriminate.specs.wanted_instances.Search.{known_fits, may_fit, matches}
 use Rattle.tr_discriminate.specs.declared.wanted_search.asking.AskingInstance.{AskingInstance}
 use Rattle.tr_discriminate.specs.declared.wanted_search.asking.Asking.{Asking}
 use Rattle.tr_discriminate.specs.wanted_search.Asking.{is_type_variable, asking_at, IsAsking}

@@ -3,7 +3,7 @@ use Rattle.std.specs.Prelude.{◌≡◌, ℕ, List, [], ◌∷◌, ◌++◌, get
 use Rattle.trees.specs.Tree.{Tree, Leaf, One, Two, Three, HEnd}
 use Rattle.name_tables.specs.Occurrences.{Occurrence}
 use Rattle.name_tables.specs.Seen.{seen_occurrences, with_all, AreIn, KeysHeld}
-use Rattle.wanted_instances.specs.Instances.{two_instance, three_instance, inner_instances, leaf_types, one_types, types_within}
+use Rattle.tr_discriminate.specs.wanted_instances.Instances.{two_instance, three_instance, inner_instances, leaf_types, one_types, types_within}
 use Rattle.tr_discriminate.specs.declared.instance_search.gathering.Sought.{Sought}
 use Rattle.tr_discriminate.specs.declared.instance_search.gathering.Sought.TheVariants.{Instances, Types}
 

@@ -14,9 +14,9 @@ use Rattle.evidence.specs.declared.stage.StageFault.{StageFault}
 use Rattle.evidence.specs.declared.stage.StageFault.TheVariants as fault
 use Rattle.name_tables.specs.Occurrences.{Occurrence}
 use Rattle.name_tables.specs.Seen.{seen_occurrences, KeysHeld, GainsKeys}
-use Rattle.wanted_instances.specs.Instances.{inner_instances, instance_types}
-use Rattle.wanted_instances.specs.Wanted.{wanted_types, wanted_formulas}
-use Rattle.wanted_instances.specs.Discriminated.{is_monomorphic, said_at, proposition_of}
+use Rattle.tr_discriminate.specs.wanted_instances.Instances.{inner_instances, instance_types}
+use Rattle.tr_discriminate.specs.wanted_instances.Wanted.{wanted_types, wanted_formulas}
+use Rattle.tr_discriminate.specs.wanted_instances.Discriminated.{is_monomorphic, said_at, proposition_of}
 
 -- a set of instances, and the types in them in the order of their ranks
 pub record IsRanked (s : List Tree) (keys types : List (ℕ × ℕ)) : Type 0 where

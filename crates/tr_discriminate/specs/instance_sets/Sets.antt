@@ -7,9 +7,9 @@ use Rattle.evidence.specs.declared.stage.StageFault.{StageFault}
 use Rattle.evidence.specs.declared.stage.StageFault.TheVariants as fault
 use Rattle.name_tables.specs.Occurrences.{Occurrence}
 use Rattle.name_tables.specs.Seen.{seen_occurrences, AreIn, KeysHeld}
-use Rattle.wanted_instances.specs.Instances.{inner_instances}
-use Rattle.wanted_instances.specs.Discriminated.{monomorphic, last_set, discriminated_at}
-use Rattle.wanted_instances.specs.Growing.{GoesOn}
+use Rattle.tr_discriminate.specs.wanted_instances.Instances.{inner_instances}
+use Rattle.tr_discriminate.specs.wanted_instances.Discriminated.{monomorphic, last_set, discriminated_at}
+use Rattle.tr_discriminate.specs.wanted_instances.Growing.{GoesOn}
 
 -- keys of a set
 pub record IsKeySet (s : List Tree) (set : List Occurrence) (keys : List (ℕ × ℕ)) : Type 0 where

@@ -4,8 +4,8 @@ use Rattle.trees.specs.Tree.{Tree, Leaf, Head, HTyVar, above_ty_vars}
 use Rattle.trees.specs.Node.{tree_at, Holds}
 use Rattle.name_tables.specs.Occurrences.{Occurrence, occurrence}
 use Rattle.name_tables.specs.Seen.{KeysHeld, GainsKeys}
-use Rattle.wanted_instances.specs.Instances.{types_within}
-use Rattle.wanted_instances.specs.Wanted.{occurring, named_suffice}
+use Rattle.tr_discriminate.specs.wanted_instances.Instances.{types_within}
+use Rattle.tr_discriminate.specs.wanted_instances.Wanted.{occurring, named_suffice}
 use Rattle.tr_discriminate.specs.declared.wanted_search.asking.AskingInstance.{AskingInstance}
 use Rattle.tr_discriminate.specs.declared.wanted_search.asking.Asking.{Asking}
 

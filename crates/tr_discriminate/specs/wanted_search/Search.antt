@@ -6,9 +6,9 @@ use Rattle.trees.specs.Tree.{Tree}
 use Rattle.trees.specs.Node.{Holds, trees_at}
 use Rattle.name_tables.specs.Occurrences.{Occurrence}
 use Rattle.name_tables.specs.Seen.{occurrence_at}
-use Rattle.wanted_instances.specs.Instances.{mentions}
-use Rattle.wanted_instances.specs.Wanted.{is_of_symbol}
-use Rattle.wanted_instances.specs.Search.{found_from, matches}
+use Rattle.tr_discriminate.specs.wanted_instances.Instances.{mentions}
+use Rattle.tr_discriminate.specs.wanted_instances.Wanted.{is_of_symbol}
+use Rattle.tr_discriminate.specs.wanted_instances.Search.{found_from, matches}
 
 -- the type at which a key is an instance of `=`
 abbrev pub key_type : List Tree → ℕ × ℕ → Tree

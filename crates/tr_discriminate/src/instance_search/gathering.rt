@@ -6,7 +6,7 @@ ghost use Rattle.trees.specs.Tree.{Leaf, HEnd};
 ghost use Rattle.trees.specs.Node.{tree_at, node_tree, parts_of, Holds, AreBelow};
 ghost use Rattle.trees.specs.Sorts.{type_of};
 ghost use Rattle.name_tables.specs.Seen.{occurrence_at, seen_occurrences, KeyHeld, KeysHeld, GainsKeys};
-ghost use Rattle.wanted_instances.specs.Instances.{type_or_end, instance_types};
+ghost use Rattle.tr_discriminate.specs.wanted_instances.Instances.{type_or_end, instance_types};
 ghost use Rattle.tr_discriminate.specs.instance_search.Gather.{gathered, own_instances, types_at_top, before_parts, after_parts, in_parts, IsGathering, WalkGains};
 
 use indexmap::IndexSet;

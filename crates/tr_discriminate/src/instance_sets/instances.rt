@@ -8,9 +8,9 @@ ghost use Rattle.trees.specs.binders.Visits.{HoldTypes};
 ghost use Rattle.tasks.specs.Meaning.{body_at, declaration_at, declarations_at, task_at, BodyHeld, DeclHeld, TaskHeld};
 ghost use Rattle.tasks.specs.Valid.{IsValid};
 ghost use Rattle.name_tables.specs.Seen.{seen_occurrences, KeysHeld};
-ghost use Rattle.wanted_instances.specs.Wanted.{wanted_formulas};
-ghost use Rattle.wanted_instances.specs.Growing.{GoesOn};
-ghost use Rattle.wanted_instances.specs.Discriminated.{said_at, proposition_of, put_in_place, discriminated_decls, last_set};
+ghost use Rattle.tr_discriminate.specs.wanted_instances.Wanted.{wanted_formulas};
+ghost use Rattle.tr_discriminate.specs.wanted_instances.Growing.{GoesOn};
+ghost use Rattle.tr_discriminate.specs.wanted_instances.Discriminated.{said_at, proposition_of, put_in_place, discriminated_decls, last_set};
 ghost use Rattle.tr_discriminate.specs.wanted_search.Search.{assignments_at};
 ghost use Rattle.tr_discriminate.specs.instance_sets.Made.{IsRanked, IsSearchable, IsSearchableBody, IsAboveAllowed, PutsDeclarations, polymorphic_formula, instances_of, AreTypeLists};
 

@@ -8,8 +8,8 @@ ghost use Rattle.tasks.specs.Task.{props};
 ghost use Rattle.tasks.specs.Meaning.{body_at, declarations_at, task_at, BodyHeld, DeclHeld, TaskHeld};
 ghost use Rattle.tasks.specs.Valid.{IsValid};
 ghost use Rattle.name_tables.specs.Seen.{seen_occurrences, KeysHeld, GainsKeys};
-ghost use Rattle.wanted_instances.specs.Instances.{inner_instances};
-ghost use Rattle.wanted_instances.specs.Discriminated.{first_set, next_set, last_set, discriminated_decls};
+ghost use Rattle.tr_discriminate.specs.wanted_instances.Instances.{inner_instances};
+ghost use Rattle.tr_discriminate.specs.wanted_instances.Discriminated.{first_set, next_set, last_set, discriminated_decls};
 ghost use Rattle.tr_discriminate.specs.instance_sets.Made.{option_instances, monomorphic_formula, said_instances, IsAboveAllowed};
 ghost use Rattle.tr_discriminate.specs.instance_sets.Sets.{IsKeySet, IsEarlySet, IsLargeAtSet};
 

@@ -5,8 +5,8 @@ ghost use Rattle.std.specs.List.{list_any};
 ghost use Rattle.trees.specs.Tree.{Tree, above_ty_vars};
 ghost use Rattle.trees.specs.Node.{tree_at, Holds};
 ghost use Rattle.name_tables.specs.Seen.{occurrence_at, seen_occurrences, KeyHeld, KeysHeld, GainsKeys};
-ghost use Rattle.wanted_instances.specs.Instances.{types_within, has_variable, mentions};
-ghost use Rattle.wanted_instances.specs.Wanted.{is_of_symbol, mention_all};
+ghost use Rattle.tr_discriminate.specs.wanted_instances.Instances.{types_within, has_variable, mentions};
+ghost use Rattle.tr_discriminate.specs.wanted_instances.Wanted.{is_of_symbol, mention_all};
 ghost use Rattle.tr_discriminate.specs.wanted_search.Asking.{is_type_variable, asking_at, IsAskingInstance, HasCandidates, IsAsking};
 
 use crate::instance_search::{InstanceKey, Sought, gather};

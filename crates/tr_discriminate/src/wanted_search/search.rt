@@ -6,10 +6,10 @@ ghost use Rattle.std.specs.List.{flat_map, list_any};
 ghost use Rattle.trees.specs.Tree.{Tree, above_ty_vars};
 ghost use Rattle.trees.specs.Node.{tree_at, trees_at, Holds};
 ghost use Rattle.name_tables.specs.Seen.{seen_occurrences, KeysHeld, GainsKeys};
-ghost use Rattle.wanted_instances.specs.Instances.{instance_types};
-ghost use Rattle.wanted_instances.specs.Wanted.{wanted_types};
-ghost use Rattle.wanted_instances.specs.Discriminated.{proposition_of};
-ghost use Rattle.wanted_instances.specs.Search.{found_from, may_fit, matches, may_go_on};
+ghost use Rattle.tr_discriminate.specs.wanted_instances.Instances.{instance_types};
+ghost use Rattle.tr_discriminate.specs.wanted_instances.Wanted.{wanted_types};
+ghost use Rattle.tr_discriminate.specs.wanted_instances.Discriminated.{proposition_of};
+ghost use Rattle.tr_discriminate.specs.wanted_instances.Search.{found_from, may_fit, matches, may_go_on};
 ghost use Rattle.tr_discriminate.specs.wanted_search.Asking.{asking_at, IsAskingInstance, HasCandidates, IsAsking};
 ghost use Rattle.tr_discriminate.specs.wanted_search.Search.{key_type, assignments_at, AssignmentsHeld, IsSearchResult, FindsUpTo, may_ask, found_each};
 

@@ -1,7 +1,7 @@
 use Rattle.std.proofs.Common.{◌≡◌, List, drop}
 use Rattle.tasks.specs.trees.Tree.{Tree}
 use Rattle.tasks.specs.Meaning.{declarations_at}
-use Rattle.wanted_instances.specs.Discriminated.{misplaced_from}
+use Rattle.tr_discriminate.specs.wanted_instances.Discriminated.{misplaced_from}
 use Rattle.tr_discriminate.proofs.discriminate.misplaced.Given as goal
 
 abbrev pub invariant-loop-place : goal.invariant-loop-place

@@ -2,7 +2,7 @@ use Rattle.std.proofs.Common.{ℕ}
 use Rattle.tasks.proofs.plain_laws.Lists.{flat_more}
 use Rattle.name_tables.specs.Seen.{occurrence_at}
 use Rattle.name_tables.proofs.Loops.{gains_step}
-use Rattle.wanted_instances.specs.Instances.{instance_types}
+use Rattle.tr_discriminate.specs.wanted_instances.Instances.{instance_types}
 use Rattle.tr_discriminate.proofs.instance_search.gathering.types_in_order.Goals as goal
 
 pub loop-key-preserved : goal.loop-key-preserved

@@ -1,7 +1,7 @@
 use Rattle.std.proofs.Common.{[], take}
 use Rattle.std.specs.List.{flat_map}
 use Rattle.name_tables.specs.Seen.{seen_occurrences, GainsKeys}
-use Rattle.wanted_instances.specs.Instances.{instance_types}
+use Rattle.tr_discriminate.specs.wanted_instances.Instances.{instance_types}
 use Rattle.tr_discriminate.proofs.instance_search.gathering.types_in_order.Given as goal
 
 abbrev pub invariant-loop-key : goal.invariant-loop-key

@@ -4,8 +4,8 @@ use Rattle.tasks.specs.trees.Node.{tree_at}
 use Rattle.tasks.specs.Task.{DeclarationTree}
 use Rattle.tasks.specs.Meaning.{trees_at, declaration_at}
 use Rattle.name_tables.specs.Seen.{seen_occurrences}
-use Rattle.wanted_instances.specs.Wanted.{wanted_types}
-use Rattle.wanted_instances.specs.Discriminated.{proposition_of}
+use Rattle.tr_discriminate.specs.wanted_instances.Wanted.{wanted_types}
+use Rattle.tr_discriminate.specs.wanted_instances.Discriminated.{proposition_of}
 use Rattle.tr_discriminate.specs.instance_sets.Made.{IsTypeTree, AreTypeLists, IsAboveAllowed, instances_of}
 use Rattle.tr_discriminate.proofs.instance_sets.Puts.{size_positive, too_many, few_enough, type_lists, puts_as, fault_passed}
 use Rattle.tr_discriminate.proofs.instance_sets.instances.push_wanted.Goals as goal

@@ -3,7 +3,7 @@ use Rattle.tasks.specs.trees.declared.TermId.{TermId}
 use Rattle.tasks.specs.trees.Node.{tree_at}
 use Rattle.name_tables.proofs.Steps.{gains_none}
 use Rattle.name_tables.proofs.Loops.{gains_step}
-use Rattle.wanted_instances.specs.Instances.{inner_instances}
+use Rattle.tr_discriminate.specs.wanted_instances.Instances.{inner_instances}
 use Rattle.tr_discriminate.proofs.instance_sets.sets.add_formulas.Goals as goal
 
 pub loop-formula-init : goal.loop-formula-init

@@ -2,7 +2,7 @@ use Rattle.std.proofs.Common.{take}
 use Rattle.std.specs.List.{flat_map}
 use Rattle.tasks.specs.Meaning.{trees_at}
 use Rattle.name_tables.specs.Seen.{GainsKeys}
-use Rattle.wanted_instances.specs.Instances.{inner_instances}
+use Rattle.tr_discriminate.specs.wanted_instances.Instances.{inner_instances}
 use Rattle.tr_discriminate.proofs.instance_sets.sets.add_formulas.Given as goal
 
 abbrev pub invariant-loop-formula : goal.invariant-loop-formula

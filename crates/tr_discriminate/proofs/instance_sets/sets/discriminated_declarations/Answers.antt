@@ -5,7 +5,7 @@ use Rattle.tasks.specs.Meaning.{task_at}
 use Rattle.tasks.proofs.Growth.{task_held_later, task_later}
 use Rattle.name_tables.specs.Occurrences.{Occurrence}
 use Rattle.name_tables.specs.Seen.{seen_occurrences}
-use Rattle.wanted_instances.specs.Discriminated.{last_set, discriminated_decls}
+use Rattle.tr_discriminate.specs.wanted_instances.Discriminated.{last_set, discriminated_decls}
 use Rattle.tr_discriminate.proofs.instance_sets.Puts.{fault_passed}
 use Rattle.tr_discriminate.proofs.instance_sets.Ready.{goes_itself, fault_there, fault_later}
 use Rattle.tr_discriminate.proofs.instance_sets.sets.discriminated_declarations.Goals as goal

@@ -2,8 +2,8 @@ use Rattle.std.proofs.Common.{◌≡◌, ◌==◌, ◌&&◌, not, true, false, [
 use Rattle.std.proofs.lemmas.Bool.Decides.{nat_tests}
 use Rattle.trees.specs.Node.{tree_at}
 use Rattle.name_tables.specs.Seen.{GainsKeys}
-use Rattle.wanted_instances.specs.Instances.{types_within, mentions}
-use Rattle.wanted_instances.specs.Wanted.{is_of_symbol}
+use Rattle.tr_discriminate.specs.wanted_instances.Instances.{types_within, mentions}
+use Rattle.tr_discriminate.specs.wanted_instances.Wanted.{is_of_symbol}
 use Rattle.tr_discriminate.specs.wanted_search.Asking.{asking_at, IsAskingInstance}
 use Rattle.tr_discriminate.proofs.wanted_search.Tests.{and_none, any_now, any_later, any_over, named_mentions, named_as}
 use Rattle.tr_discriminate.proofs.wanted_search.asking.is_mentioned_by_named.Goals.{else-instance-ne0-via-then-instance-ne0+else-has_variable, else-instance-ne0-via-else-instance-ne0}

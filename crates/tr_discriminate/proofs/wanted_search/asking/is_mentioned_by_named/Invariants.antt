@@ -1,7 +1,7 @@
 use Rattle.std.proofs.Common.{◌≡◌, ◌&&◌, drop}
 use Rattle.std.specs.List.{list_any}
-use Rattle.wanted_instances.specs.Instances.{mentions}
-use Rattle.wanted_instances.specs.Wanted.{is_of_symbol}
+use Rattle.tr_discriminate.specs.wanted_instances.Instances.{mentions}
+use Rattle.tr_discriminate.specs.wanted_instances.Wanted.{is_of_symbol}
 use Rattle.tr_discriminate.specs.declared.wanted_search.asking.AskingInstance.{AskingInstance}
 use Rattle.tr_discriminate.specs.wanted_search.Asking.{asking_at}
 use Rattle.tr_discriminate.proofs.wanted_search.asking.is_mentioned_by_named.Given as goal

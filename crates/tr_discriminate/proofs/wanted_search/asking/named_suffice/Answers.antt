@@ -1,7 +1,7 @@
 use Rattle.std.proofs.Common.{Bool, not, ◌||◌, map, filter, sym, ap, ◌∙◌}
 use Rattle.std.specs.List.{list_any}
-use Rattle.wanted_instances.specs.Instances.{has_variable, mentions}
-use Rattle.wanted_instances.specs.Wanted.{is_of_symbol}
+use Rattle.tr_discriminate.specs.wanted_instances.Instances.{has_variable, mentions}
+use Rattle.tr_discriminate.specs.wanted_instances.Wanted.{is_of_symbol}
 use Rattle.tr_discriminate.specs.wanted_search.Asking.{asking_at}
 use Rattle.tr_discriminate.proofs.wanted_search.Tests.{each_fails}
 use Rattle.tr_discriminate.proofs.wanted_search.asking.named_suffice.Goals as goal

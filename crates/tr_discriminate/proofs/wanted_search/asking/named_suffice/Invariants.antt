@@ -1,8 +1,8 @@
 use Rattle.std.proofs.Common.{◌≡◌, true, map, filter, []}
 use Rattle.trees.specs.Tree.{Tree}
 use Rattle.name_tables.specs.Seen.{GainsKeys}
-use Rattle.wanted_instances.specs.Instances.{types_within}
-use Rattle.wanted_instances.specs.Wanted.{is_of_symbol, mention_all}
+use Rattle.tr_discriminate.specs.wanted_instances.Instances.{types_within}
+use Rattle.tr_discriminate.specs.wanted_instances.Wanted.{is_of_symbol, mention_all}
 use Rattle.tr_discriminate.specs.wanted_search.Asking.{asking_at}
 use Rattle.tr_discriminate.proofs.wanted_search.asking.named_suffice.Given as goal
 

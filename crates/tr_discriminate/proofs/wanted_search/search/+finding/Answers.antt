@@ -6,8 +6,8 @@ use Rattle.trees.specs.declared.TermId.{TermId}
 use Rattle.trees.specs.Tree.{Tree}
 use Rattle.trees.specs.Node.{tree_at, trees_at}
 use Rattle.name_tables.specs.Seen.{seen_occurrences, GainsKeys}
-use Rattle.wanted_instances.specs.Instances.{types_within, has_variable}
-use Rattle.wanted_instances.specs.Search.{found_from, may_go_on}
+use Rattle.tr_discriminate.specs.wanted_instances.Instances.{types_within, has_variable}
+use Rattle.tr_discriminate.specs.wanted_instances.Search.{found_from, may_go_on}
 use Rattle.tr_discriminate.specs.wanted_search.Search.{key_type, FindsUpTo}
 use Rattle.tr_discriminate.proofs.wanted_search.Finding.{finds_none, finds_one, finds_step, goes_on_by, choices_used, choices_unused, stops, ends, each_more}
 use Rattle.tr_discriminate.proofs.wanted_search.search.+finding.Goals as goal

@@ -2,7 +2,7 @@ use Rattle.std.proofs.Common.{ℕ, Bool, List, drop, sym, ap, ◌∙◌}
 use Rattle.std.specs.List.{list_any}
 use Rattle.trees.specs.Tree.{Tree}
 use Rattle.trees.specs.Node.{tree_at, trees_at}
-use Rattle.wanted_instances.specs.Search.{may_fit}
+use Rattle.tr_discriminate.specs.wanted_instances.Search.{may_fit}
 use Rattle.tr_discriminate.specs.wanted_search.Asking.{asking_at}
 use Rattle.tr_discriminate.specs.wanted_search.Search.{key_type}
 use Rattle.tr_discriminate.proofs.wanted_search.Tests.{any_now, any_over, matched_among}

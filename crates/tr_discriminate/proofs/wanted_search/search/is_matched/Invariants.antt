@@ -1,7 +1,7 @@
 use Rattle.std.proofs.Common.{◌≡◌, ℕ, drop}
 use Rattle.std.specs.List.{list_any}
 use Rattle.trees.specs.Node.{tree_at, trees_at}
-use Rattle.wanted_instances.specs.Search.{may_fit}
+use Rattle.tr_discriminate.specs.wanted_instances.Search.{may_fit}
 use Rattle.tr_discriminate.specs.wanted_search.Search.{key_type}
 use Rattle.tr_discriminate.proofs.wanted_search.search.is_matched.Given as goal
 

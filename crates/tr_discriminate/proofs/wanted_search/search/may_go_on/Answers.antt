@@ -5,9 +5,9 @@ use Rattle.trees.specs.Tree.{above_ty_vars}
 use Rattle.trees.specs.Node.{tree_at, trees_at}
 use Rattle.name_tables.specs.Occurrences.{Occurrence}
 use Rattle.name_tables.specs.Seen.{seen_occurrences, GainsKeys}
-use Rattle.wanted_instances.specs.Instances.{types_within, has_variable, mentions}
-use Rattle.wanted_instances.specs.Wanted.{driving}
-use Rattle.wanted_instances.specs.Search.{matches, may_mention}
+use Rattle.tr_discriminate.specs.wanted_instances.Instances.{types_within, has_variable, mentions}
+use Rattle.tr_discriminate.specs.wanted_instances.Wanted.{driving}
+use Rattle.tr_discriminate.specs.wanted_instances.Search.{matches, may_mention}
 use Rattle.tr_discriminate.proofs.wanted_search.Tests.{each_fails, each_more, asked_driving}
 use Rattle.tr_discriminate.proofs.wanted_search.search.may_go_on.Goals.{else-has_variable-via-then-has_variable+else-not-is_asked, else-has_variable-via-else-has_variable}
 use Rattle.tr_discriminate.proofs.wanted_search.search.may_go_on.Goals as goal

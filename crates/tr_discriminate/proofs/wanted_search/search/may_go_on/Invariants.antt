@@ -1,8 +1,8 @@
 use Rattle.std.proofs.Common.{◌≡◌, true}
 use Rattle.trees.specs.Node.{tree_at, trees_at}
 use Rattle.name_tables.specs.Seen.{seen_occurrences}
-use Rattle.wanted_instances.specs.Wanted.{each_below}
-use Rattle.wanted_instances.specs.Search.{may_mention}
+use Rattle.tr_discriminate.specs.wanted_instances.Wanted.{each_below}
+use Rattle.tr_discriminate.specs.wanted_instances.Search.{may_mention}
 use Rattle.tr_discriminate.proofs.wanted_search.search.may_go_on.Given as goal
 
 abbrev pub invariant-loop-number : goal.invariant-loop-number

@@ -2,7 +2,7 @@ use Rattle.std.proofs.Common.{◌+◌, ◌++◌, List, map, take, ap, ◌∙◌}
 use Rattle.trees.specs.declared.TermId.{TermId}
 use Rattle.trees.specs.Node.{tree_at, trees_at}
 use Rattle.name_tables.specs.Seen.{seen_occurrences}
-use Rattle.wanted_instances.specs.Search.{found_from}
+use Rattle.tr_discriminate.specs.wanted_instances.Search.{found_from}
 use Rattle.tr_discriminate.specs.wanted_search.Search.{key_type, assignments_at}
 use Rattle.tr_discriminate.proofs.wanted_search.Finding.{starts}
 use Rattle.tr_discriminate.proofs.wanted_search.search.wanted_assignments.Goals as goal

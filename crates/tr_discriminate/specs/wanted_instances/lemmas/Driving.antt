@@ -6,8 +6,8 @@ use Rattle.tasks.specs.trees.Tree.{Tree, Leaf, One, Two, Three, Head, HBound, HP
 use Rattle.tasks.specs.trees.Sorts.{yield_type, top_type, type_of, int_type}
 use Rattle.name_tables.specs.Occurrences.{Occurrence}
 use Rattle.name_tables.specs.Seen.{has, with_one, with_all}
-use Rattle.wanted_instances.specs.Instances.{type_or_end, two_instance, three_instance, inner_instances}
-use Rattle.wanted_instances.specs.Wanted.{is_of_symbol, occurring, of_symbols, named_suffice, driving}
+use Rattle.tr_discriminate.specs.wanted_instances.Instances.{type_or_end, two_instance, three_instance, inner_instances}
+use Rattle.tr_discriminate.specs.wanted_instances.Wanted.{is_of_symbol, occurring, of_symbols, named_suffice, driving}
 
 pub with_all_have : (P : Occurrence → Type 0) (s os : List Occurrence) → All P s → All P os → All P (with_all s os)
 with_all_have P s [] a b = a

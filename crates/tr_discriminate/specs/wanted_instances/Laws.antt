@@ -6,10 +6,10 @@ use Rattle.tasks.specs.Task.{TaskTree, DeclarationTree, nodes, props}
 use Rattle.tasks.specs.Vocabulary.{of_task}
 use Rattle.tasks.specs.Valid.{IsValid, IsValidDecl}
 use Rattle.name_tables.specs.Occurrences.{Occurrence}
-use Rattle.wanted_instances.specs.Wanted.{type_choices, is_wanted}
-use Rattle.wanted_instances.specs.Discriminated.{first_set, next_set, last_set, put_in_place, discriminated_at}
-use Rattle.wanted_instances.specs.Search.{found_from, may_go_on}
-use Rattle.wanted_instances.specs.Growing.{GoesOn}
+use Rattle.tr_discriminate.specs.wanted_instances.Wanted.{type_choices, is_wanted}
+use Rattle.tr_discriminate.specs.wanted_instances.Discriminated.{first_set, next_set, last_set, put_in_place, discriminated_at}
+use Rattle.tr_discriminate.specs.wanted_instances.Search.{found_from, may_go_on}
+use Rattle.tr_discriminate.specs.wanted_instances.Growing.{GoesOn}
 
 -- what is wanted at a set is wanted at each that goes on from it
 abbrev pub WantedStays : Type 0

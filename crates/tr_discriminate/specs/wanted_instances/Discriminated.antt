@@ -6,8 +6,8 @@ use Rattle.tasks.specs.trees.Tree.{Tree, above_ty_vars}
 use Rattle.tasks.specs.Task.{BodyTree, Defines, Induces, Says, DeclarationTree, TaskTree, PropositionTree, props}
 use Rattle.name_tables.specs.Occurrences.{Occurrence}
 use Rattle.name_tables.specs.Seen.{with_all}
-use Rattle.wanted_instances.specs.Instances.{inner_instances}
-use Rattle.wanted_instances.specs.Wanted.{wanted_formulas}
+use Rattle.tr_discriminate.specs.wanted_instances.Instances.{inner_instances}
+use Rattle.tr_discriminate.specs.wanted_instances.Wanted.{wanted_formulas}
 
 abbrev pub is_monomorphic : Tree → Bool
 is_monomorphic a = above_ty_vars a == 0

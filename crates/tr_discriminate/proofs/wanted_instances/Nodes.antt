@@ -5,11 +5,11 @@ use Rattle.std.proofs.lemmas.List.Sums.{sum_by-cons, sum_by-append}
 use Rattle.tasks.specs.trees.Tree.{Tree, size}
 use Rattle.tasks.specs.Task.{BodyTree, MakesType, Makes, Defines, Induces, Constructs, Says, DeclarationTree, TaskTree, body_nodes, declaration_nodes, formula_nodes, props, nodes}
 use Rattle.name_tables.specs.Occurrences.{Occurrence}
-use Rattle.wanted_instances.specs.Instances.{inner_instances}
-use Rattle.wanted_instances.specs.Wanted.{wanted_formulas}
-use Rattle.wanted_instances.specs.Discriminated.{is_monomorphic, polymorphic, first_set, next_set, last_set, said_at, proposition_of, put_in_place, discriminated_decls, discriminated_at}
-use Rattle.wanted_instances.specs.Growing.{GoesOn}
-use Rattle.wanted_instances.proofs.Growing.{all_go_on, nodes_more}
+use Rattle.tr_discriminate.specs.wanted_instances.Instances.{inner_instances}
+use Rattle.tr_discriminate.specs.wanted_instances.Wanted.{wanted_formulas}
+use Rattle.tr_discriminate.specs.wanted_instances.Discriminated.{is_monomorphic, polymorphic, first_set, next_set, last_set, said_at, proposition_of, put_in_place, discriminated_decls, discriminated_at}
+use Rattle.tr_discriminate.specs.wanted_instances.Growing.{GoesOn}
+use Rattle.tr_discriminate.proofs.wanted_instances.Growing.{all_go_on, nodes_more}
 
 pub said_nodes : (d : DeclarationTree) (es : List Tree) → declaration_nodes (map (said_at d) es) ≡ formula_nodes es
 said_nodes d [] = refl

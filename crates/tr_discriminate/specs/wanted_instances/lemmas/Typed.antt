@@ -11,8 +11,8 @@ use Rattle.tasks.specs.Typing.{bound_types, OneTyped, TypedUnder}
 use Rattle.tasks.specs.Valid.{VariablesBelow, IsTypeIn}
 use Rattle.tasks.proofs.Closing.{typed_sorted}
 use Rattle.name_tables.specs.Occurrences.{Occurrence}
-use Rattle.wanted_instances.specs.Instances.{equality_at, type_or_end, two_instance, three_instance, inner_instances, leaf_types, one_types, types_within}
-use Rattle.wanted_instances.proofs.Driving.{some_top, same_some}
+use Rattle.tr_discriminate.specs.wanted_instances.Instances.{equality_at, type_or_end, two_instance, three_instance, inner_instances, leaf_types, one_types, types_within}
+use Rattle.tr_discriminate.specs.wanted_instances.lemmas.Driving.{some_top, same_some}
 
 kind_one : (t : Vocabulary) (types more : List Tree) (h : Head) (a : Tree) (n : ℕ) → h ≡ HTyApp n → OneTyped t types h a → OneTyped t more h a
 kind_one t types more (HBound i) a n q x = absurd (cc)

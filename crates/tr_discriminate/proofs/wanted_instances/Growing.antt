@@ -15,9 +15,9 @@ use Rattle.name_tables.specs.Occurrences.{Occurrence}
 use Rattle.name_tables.specs.Tables.{is_same}
 use Rattle.name_tables.specs.Seen.{has, with_one, with_all}
 use Rattle.name_tables.proofs.Gathering.{with_all-append}
-use Rattle.wanted_instances.specs.Instances.{at_types, instance_types, types_of, has_variable, mentions}
-use Rattle.wanted_instances.specs.Wanted.{each_below, driving, type_choices, assignments, is_wanted, wanted_types}
-use Rattle.wanted_instances.specs.Growing.{GoesOn, wanted_nodes}
+use Rattle.tr_discriminate.specs.wanted_instances.Instances.{at_types, instance_types, types_of, has_variable, mentions}
+use Rattle.tr_discriminate.specs.wanted_instances.Wanted.{each_below, driving, type_choices, assignments, is_wanted, wanted_types}
+use Rattle.tr_discriminate.specs.wanted_instances.Growing.{GoesOn, wanted_nodes}
 
 -- ---- one list goes on where another ends
 goes_on_refl : {A : Type 0} (xs : List A) → GoesOn xs xs

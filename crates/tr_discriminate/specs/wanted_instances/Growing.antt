@@ -3,7 +3,7 @@ use Rattle.std.specs.Prelude.{◌≡◌, ℕ, List, ◌++◌, sum_by}
 use Rattle.tasks.specs.trees.Tree.{size}
 use Rattle.tasks.specs.Task.{PropositionTree}
 use Rattle.name_tables.specs.Occurrences.{Occurrence}
-use Rattle.wanted_instances.specs.Wanted.{wanted_formulas}
+use Rattle.tr_discriminate.specs.wanted_instances.Wanted.{wanted_formulas}
 
 -- a list goes on where another ends
 pub record GoesOn {A : Type 0} (xs ys : List A) : Type 0 where

@@ -5,8 +5,8 @@ use Rattle.std.specs.List.{list_any}
 use Rattle.tasks.specs.trees.Tree.{Tree, Leaf, One, Two, Three, Head, HTyVar, above_ty_vars}
 use Rattle.linear_leaf.specs.Valuations.{same_tree, same_head}
 use Rattle.name_tables.specs.Occurrences.{Occurrence}
-use Rattle.wanted_instances.specs.Instances.{has_variable, mentions}
-use Rattle.wanted_instances.specs.Wanted.{each_below, driving, assignments, is_wanted}
+use Rattle.tr_discriminate.specs.wanted_instances.Instances.{has_variable, mentions}
+use Rattle.tr_discriminate.specs.wanted_instances.Wanted.{each_below, driving, assignments, is_wanted}
 
 -- the wanted assignments that begin with these types, with so many more to choose
 abbrev pub found_from : List Occurrence → List Tree → Tree → List Tree → ℕ → List (List Tree)

@@ -18,11 +18,11 @@ use Rattle.tasks.proofs.Ground.{ground}
 use Rattle.tasks.proofs.TypeInstances.{formula_at_types}
 use Rattle.name_tables.specs.Occurrences.{Occurrence}
 use Rattle.name_tables.specs.Seen.{with_all}
-use Rattle.wanted_instances.specs.Instances.{inner_instances, instance_types, types_of, has_variable}
-use Rattle.wanted_instances.specs.Wanted.{type_choices, assignments, is_wanted, wanted_types, wanted_formulas}
-use Rattle.wanted_instances.specs.Discriminated.{is_monomorphic, monomorphic, polymorphic, first_set, next_set, last_set, said_at, proposition_of, put_in_place}
-use Rattle.wanted_instances.proofs.Driving.{with_all_have}
-use Rattle.wanted_instances.proofs.Typed.{IsGoodInstance, GoodType, instances_good, instance_parts}
+use Rattle.tr_discriminate.specs.wanted_instances.Instances.{inner_instances, instance_types, types_of, has_variable}
+use Rattle.tr_discriminate.specs.wanted_instances.Wanted.{type_choices, assignments, is_wanted, wanted_types, wanted_formulas}
+use Rattle.tr_discriminate.specs.wanted_instances.Discriminated.{is_monomorphic, monomorphic, polymorphic, first_set, next_set, last_set, said_at, proposition_of, put_in_place}
+use Rattle.tr_discriminate.specs.wanted_instances.lemmas.Driving.{with_all_have}
+use Rattle.tr_discriminate.specs.wanted_instances.lemmas.Typed.{IsGoodInstance, GoodType, instances_good, instance_parts}
 
 pub all_flat : {A B : Type 0} (P : A → Type 0) (Q : B → Type 0) (f : A → List B) → ((x : A) → P x → All Q (f x)) → (xs : List A) → All P xs → All Q (flat_map f xs)
 all_flat P Q f w [] a = All-nil Q

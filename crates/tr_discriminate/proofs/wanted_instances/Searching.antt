@@ -4,18 +4,18 @@ use Rattle.std.specs.Prelude.{All}
 use Rattle.std.specs.List.{flat_map, list_any}
 use Rattle.std.proofs.lemmas.List.{append-nil, map-append}
 use Rattle.std.proofs.lemmas.List.Elements.{filter-append}
-use Rattle.plain_laws.proofs.Bools.{and_both as both}
+use Rattle.tasks.proofs.plain_laws.Bools.{and_both as both}
 use Rattle.tasks.specs.trees.Tree.{Tree, Leaf, One, Two, Three, Head, HTyVar, HBound, HParam, above_ty_vars}
 use Rattle.tasks.specs.trees.Binding.{typing, inst_types, change, one_by, TyVar}
 use Rattle.linear_leaf.specs.Valuations.{same_tree, same_head}
 use Rattle.name_tables.specs.Occurrences.{Occurrence}
 use Rattle.name_tables.specs.Tables.{is_same}
 use Rattle.name_tables.specs.Seen.{has}
-use Rattle.wanted_instances.specs.Instances.{at_types, has_variable, mentions}
-use Rattle.wanted_instances.specs.Wanted.{driving, type_choices, assignments, is_wanted}
-use Rattle.wanted_instances.specs.Search.{found_from, known_fits, leaf_fits, may_fit, matches, may_go_on}
-use Rattle.wanted_instances.proofs.Growing.{each_weaker}
-use Rattle.wanted_instances.proofs.Driving.{driving_below}
+use Rattle.tr_discriminate.specs.wanted_instances.Instances.{at_types, has_variable, mentions}
+use Rattle.tr_discriminate.specs.wanted_instances.Wanted.{driving, type_choices, assignments, is_wanted}
+use Rattle.tr_discriminate.specs.wanted_instances.Search.{found_from, known_fits, leaf_fits, may_fit, matches, may_go_on}
+use Rattle.tr_discriminate.proofs.wanted_instances.Growing.{each_weaker}
+use Rattle.tr_discriminate.specs.wanted_instances.lemmas.Driving.{driving_below}
 
 -- ---- one variable more
 module _ (s : List Occurrence) (types : List Tree) (a : Tree) where

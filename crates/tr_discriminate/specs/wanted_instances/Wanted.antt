@@ -7,7 +7,7 @@ use Rattle.tasks.specs.trees.Binding.{inst_types}
 use Rattle.tasks.specs.Task.{PropositionTree}
 use Rattle.name_tables.specs.Occurrences.{Occurrence}
 use Rattle.name_tables.specs.Seen.{has, with_all}
-use Rattle.wanted_instances.specs.Instances.{inner_instances, at_types, types_of, has_variable, mentions}
+use Rattle.tr_discriminate.specs.wanted_instances.Instances.{inner_instances, at_types, types_of, has_variable, mentions}
 
 -- whether a test holds of each number below n
 abbrev pub each_below : ℕ → (ℕ → Bool) → Bool

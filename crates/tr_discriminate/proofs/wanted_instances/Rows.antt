@@ -7,9 +7,9 @@ use Rattle.tasks.specs.trees.Binding.{TyVar, Bound}
 use Rattle.tasks.specs.Task.{Says, DeclarationTree, TaskTree, int_symbol}
 use Rattle.tasks.specs.Equations.{cells}
 use Rattle.name_tables.specs.Occurrences.{Occurrence, occurrence}
-use Rattle.wanted_instances.specs.Instances.{equality_at, types_of}
-use Rattle.wanted_instances.specs.Wanted.{wanted_types}
-use Rattle.wanted_instances.specs.Discriminated.{proposition_of, first_set, last_set, discriminated_task}
+use Rattle.tr_discriminate.specs.wanted_instances.Instances.{equality_at, types_of}
+use Rattle.tr_discriminate.specs.wanted_instances.Wanted.{wanted_types}
+use Rattle.tr_discriminate.specs.wanted_instances.Discriminated.{proposition_of, first_set, last_set, discriminated_task}
 
 -- `type u`, `type t 'a`, and predicates from 3 on
 abbrev u : Tree
