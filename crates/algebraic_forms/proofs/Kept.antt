@@ -15,9 +15,9 @@ use Rattle.tasks.proofs.Closing.{typed_sorted}
 use Rattle.tasks.proofs.Declared.{contains_step}
 use Rattle.declarations.specs.Rewritten.{AreUsable, IsAsBefore, KeepsMade, KeepsValid}
 use Rattle.declarations.specs.Within.{NamesAll}
-use Rattle.declarations.proofs.Rewritten.{alone_made, alone_role}
+use Rattle.declarations.specs.lemmas.Rewritten.{alone_made, alone_role}
 use Rattle.declarations.proofs.Within.{formula_there, type_there}
-use Rattle.spelled_groups.specs.Spelled.{as_symbol}
+use Rattle.declarations.specs.spelled_groups.Spelled.{as_symbol}
 use Rattle.algebraic_forms.specs.declared.origins.LawKind.{LawKind}
 use Rattle.algebraic_forms.specs.declared.origins.LawKind.TheVariants.{Projection, Distinctness, Exhaustion}
 use Rattle.algebraic_forms.specs.Formulas.{all_projection_laws, distinctness_laws, exhaustion_law}

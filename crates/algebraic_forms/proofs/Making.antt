@@ -15,8 +15,8 @@ use Rattle.tasks.specs.Task.{ConstructorTree}
 use Rattle.tasks.specs.Equations.{cells, type_variables, for_all}
 use Rattle.tasks.specs.Meaning.{con_at, cons_at, algebraic_at, algebraics_at}
 use Rattle.tasks.proofs.Growth.{map_agree, held_later, all_held_later, tree_later, trees_later}
-use Rattle.spelled_groups.specs.Making.{IsKindAt}
-use Rattle.spelled_groups.proofs.Making.{kind_later, kinds_later, kind_trees}
+use Rattle.declarations.specs.spelled_groups.Making.{IsKindAt}
+use Rattle.declarations.proofs.spelled_groups.Making.{kind_later, kinds_later, kind_trees}
 use Rattle.algebraic_forms.specs.declared.terms.OwnType.{OwnType}
 use Rattle.algebraic_forms.specs.Formulas.{variable_under, projection_law, projection_laws, all_projection_laws, distinctness_law, distinctness_laws, case_equation, disjunction}
 use Rattle.algebraic_forms.specs.Making.{IsTermAt, AreTermsAt, IsOwnType, ConIsFit, AlgIsFit}

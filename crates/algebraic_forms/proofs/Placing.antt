@@ -17,8 +17,8 @@ use Rattle.tasks.specs.Valid.{IsTypeIn, IsAlgebraic, IsConstructorOf, IsValidBod
 use Rattle.tasks.specs.Meaning.{symbols_at, con_at, cons_at, algebraic_at, algebraics_at, body_at, declaration_at, declarations_at, SymbolHeld, ConHeld, AlgebraicHeld, BodyHeld, DeclHeld}
 use Rattle.tasks.proofs.Growth.{symbols_later, declaration_later, declarations_later, decl_held_later}
 use Rattle.declarations.specs.Stored.{IsValidIn}
-use Rattle.spelled_groups.specs.Making.{IsKindAt}
-use Rattle.spelled_groups.specs.Stored.{IsDeclaredAs}
+use Rattle.declarations.specs.spelled_groups.Making.{IsKindAt}
+use Rattle.declarations.specs.spelled_groups.Stored.{IsDeclaredAs}
 use Rattle.algebraic_forms.specs.Groups.{law, type_laws, type_formulas, type_vars, group_laws, group_symbols, group_place, as_formula, as_law}
 use Rattle.algebraic_forms.specs.Formulas.{all_projection_laws, distinctness_laws, exhaustion_law}
 use Rattle.algebraic_forms.specs.declared.origins.LawKind.{LawKind}

@@ -20,7 +20,7 @@ use Rattle.tasks.specs.Valid.{IsFormulaOver, IsTypeIn, IsTypeEntry, IsSignatureO
 use Rattle.tasks.proofs.Declared.{contains_step}
 use Rattle.tasks.specs.declared.signature.SymbolKind.{SymbolKind}
 use Rattle.tasks.specs.declared.signature.SymbolKind.TheVariants as kinds
-use Rattle.spelled_groups.specs.Formulas.{IsGoodUnder, AreGood, under, under_at, members_cells, count_variables, own_variables_stay, good_formula, true_good, false_good, join_good, equal_good, variable_good, forall_good, for_all_good, own_good, own_fit}
+use Rattle.declarations.specs.spelled_groups.Formulas.{IsGoodUnder, AreGood, under, under_at, members_cells, count_variables, own_variables_stay, good_formula, true_good, false_good, join_good, equal_good, variable_good, forall_good, for_all_good, own_good, own_fit}
 use Rattle.algebraic_forms.specs.Formulas.{own_type_list, variable_under, variables_under, con_on, field_of, projected_fields, projection_laws, all_projection_laws, different, distinctness_law, distinctness_laws, case_equation, disjunction, own_variable, exhaustion_law}
 
 -- ---- places under binders

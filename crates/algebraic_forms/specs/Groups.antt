@@ -5,7 +5,7 @@ use Rattle.std.specs.Prelude.{ℕ, List, [], ◌∷◌, ◌++◌, map}
 use Rattle.trees.specs.Tree.{Tree}
 use Rattle.tasks.specs.Task.{SymbolTree, symbol_or, AlgebraicTree, BodyTree, MakesType, Constructs, Says, DeclarationTree, made_by_cons}
 use Rattle.declarations.specs.Rewritten.{DeclarationRule}
-use Rattle.spelled_groups.specs.Spelled.{as_symbol}
+use Rattle.declarations.specs.spelled_groups.Spelled.{as_symbol}
 use Rattle.algebraic_forms.specs.declared.origins.LawKind.{LawKind}
 use Rattle.algebraic_forms.specs.declared.origins.LawKind.TheVariants.{Projection, Distinctness, Exhaustion}
 use Rattle.algebraic_forms.specs.Formulas.{all_projection_laws, distinctness_laws, exhaustion_law}

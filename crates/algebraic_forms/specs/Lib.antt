@@ -1,4 +1,4 @@
-pub use Rattle.spelled_groups.specs as spelled_groups
+pub use Rattle.declarations.specs as declarations
 pub mod Formulas
 pub mod Groups
 pub mod Making

@@ -10,7 +10,7 @@ use Rattle.tasks.specs.declared.declaration.Alg.{Alg}
 use Rattle.tasks.specs.declared.declaration.Body.{Body}
 use Rattle.tasks.specs.declared.declaration.Body.TheVariants.{Algebraics}
 use Rattle.tasks.specs.Valid.{own_type}
-use Rattle.spelled_groups.specs.Making.{IsKindAt}
+use Rattle.declarations.specs.spelled_groups.Making.{IsKindAt}
 use Rattle.algebraic_forms.specs.declared.terms.OwnType.{OwnType}
 use Rattle.algebraic_forms.specs.Formulas.{own_type_list}
 

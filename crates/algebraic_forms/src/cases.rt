@@ -4,7 +4,7 @@ ghost use Rattle.std.specs.Prelude.{◌≡◌, map, All, IfOk};
 ghost use Rattle.trees.specs.Node.{tree_at, trees_at, Grows};
 ghost use Rattle.tasks.specs.Equations.{cells};
 ghost use Rattle.tasks.specs.Meaning.{con_at, cons_at};
-ghost use Rattle.spelled_groups.specs.Making.{IsKindAt, IsFormulaId};
+ghost use Rattle.declarations.specs.spelled_groups.Making.{IsKindAt, IsFormulaId};
 ghost use Rattle.algebraic_forms.specs.Formulas.{projected_fields, case_equation, disjunction, exhaustion_law};
 ghost use Rattle.algebraic_forms.specs.Making.{IsOwnType, IsTermAt, AreTermsAt, ConIsFit};
 

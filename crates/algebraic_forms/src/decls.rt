@@ -5,8 +5,8 @@ ghost use Rattle.trees.specs.Node.{trees_at, Holds, Grows};
 ghost use Rattle.tasks.specs.Task.{symbol_or, made_by_cons};
 ghost use Rattle.tasks.specs.Meaning.{symbols_at, cons_at, algebraics_at, declaration_at, declarations_at, DeclHeld, SymbolHeld};
 ghost use Rattle.declarations.specs.Stored.{IsValidIn};
-ghost use Rattle.spelled_groups.specs.Spelled.{as_symbol};
-ghost use Rattle.spelled_groups.specs.Stored.{IsDeclaredAs};
+ghost use Rattle.declarations.specs.spelled_groups.Spelled.{as_symbol};
+ghost use Rattle.declarations.specs.spelled_groups.Stored.{IsDeclaredAs};
 ghost use Rattle.algebraic_forms.specs.Groups.{as_formula, as_law, group_laws, group_symbols, algebraic_rule};
 ghost use Rattle.algebraic_forms.specs.Making.{AlgIsFit};
 

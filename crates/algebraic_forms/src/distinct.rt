@@ -5,7 +5,7 @@ ghost use Rattle.trees.specs.Node.{tree_at, trees_at, Holds, Grows};
 ghost use Rattle.tasks.specs.Task.{neg};
 ghost use Rattle.tasks.specs.Equations.{for_all};
 ghost use Rattle.tasks.specs.Meaning.{con_at, cons_at};
-ghost use Rattle.spelled_groups.specs.Making.{IsFormulaId};
+ghost use Rattle.declarations.specs.spelled_groups.Making.{IsFormulaId};
 ghost use Rattle.algebraic_forms.specs.Formulas.{different, distinctness_law, distinctness_laws};
 ghost use Rattle.algebraic_forms.specs.Making.{IsOwnType, ConIsFit};
 

@@ -4,7 +4,7 @@ ghost use Rattle.std.specs.Prelude.{◌≡◌, ◌+◌, ◌++◌, All, IfOk, OnO
 ghost use Rattle.trees.specs.Binding.{Bound};
 ghost use Rattle.trees.specs.Node.{tree_at, trees_at, Holds, Grows};
 ghost use Rattle.tasks.specs.Meaning.{con_at, cons_at};
-ghost use Rattle.spelled_groups.specs.Making.{IsKindAt, IsFormulaId};
+ghost use Rattle.declarations.specs.spelled_groups.Making.{IsKindAt, IsFormulaId};
 ghost use Rattle.algebraic_forms.specs.Formulas.{projection_law, projection_laws, all_projection_laws};
 ghost use Rattle.algebraic_forms.specs.Making.{IsOwnType, ConIsFit};
 

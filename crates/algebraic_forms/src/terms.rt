@@ -8,7 +8,7 @@ ghost use Rattle.trees.specs.Sorts.{IsList};
 ghost use Rattle.trees.specs.declared.Sort.TheVariants.{Kind};
 ghost use Rattle.tasks.specs.Equations.{cells, type_variables, for_all};
 ghost use Rattle.tasks.specs.Meaning.{con_at};
-ghost use Rattle.spelled_groups.specs.Making.{IsKindAt, IsFormulaId};
+ghost use Rattle.declarations.specs.spelled_groups.Making.{IsKindAt, IsFormulaId};
 ghost use Rattle.algebraic_forms.specs.Formulas.{own_type_list, variables_under, variable_under, con_on, field_of};
 ghost use Rattle.algebraic_forms.specs.Making.{IsOwnType, IsTermAt, AreTermsAt, ConIsFit};
 

@@ -18,8 +18,8 @@ use Rattle.tasks.proofs.TypeInstances.{some_kept}
 use Rattle.images.specs.typing_laws.HasTyping.{HasTyping}
 use Rattle.images.proofs.typing_laws.Sorted.{has_sorts, kinds_only, kind_has, types_parameters}
 use Rattle.inlining.proofs.Bodies.{onto}
-use Rattle.spelled_groups.specs.Spelled.{PatternsAreUsable}
-use Rattle.spelled_groups.specs.Formulas.{members_cells}
+use Rattle.declarations.specs.spelled_groups.Spelled.{PatternsAreUsable}
+use Rattle.declarations.specs.spelled_groups.Formulas.{members_cells}
 use Rattle.branch_equations.specs.Branches.{ConstructorBranch, is_plain_field, is_variable_field, field_type, bound_fields}
 use Rattle.branch_equations.proofs.Terms.{IsBinderType, IsTermUnder, AreTermsUnder}
 use Rattle.branch_equations.proofs.Matches.{IsTypedBranch}

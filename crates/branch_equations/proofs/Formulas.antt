@@ -19,9 +19,9 @@ use Rattle.images.proofs.typing_laws.Sorted.{typed_has, small_typed}
 use Rattle.checks.specs.recursive_groups.Groups.{is_recursive}
 use Rattle.checks.specs.decl_checks.Structure.{defining_body}
 use Rattle.inlining.proofs.Bodies.{onto, under_typed, under_variables, under_parameters, under_body}
-use Rattle.spelled_groups.specs.declarations.Rewritten.{AreUsable}
-use Rattle.spelled_groups.specs.Spelled.{IsSpellable, IsSayable, PatternsAreUsable, IsSpelling}
-use Rattle.spelled_groups.specs.Inductives.{IsSmallTree}
+use Rattle.declarations.specs.Rewritten.{AreUsable}
+use Rattle.declarations.specs.spelled_groups.Spelled.{IsSpellable, IsSayable, PatternsAreUsable, IsSpelling}
+use Rattle.declarations.specs.spelled_groups.Inductives.{IsSmallTree}
 use Rattle.branch_equations.specs.Branches.{ConstructorBranch, matched_parameter, quantifiers, below_quantifiers, HasSides, branch_types, branch_sides, branch_equation, branch_fact, facts_by, member_facts, recursion_facts, branch_parameters}
 use Rattle.branch_equations.proofs.Terms.{IsBinderType}
 use Rattle.branch_equations.proofs.Matches.{IsMatch, matched_is, IsTypedBranch, IsTypedMatch, match_typed}

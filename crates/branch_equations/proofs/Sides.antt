@@ -17,7 +17,7 @@ use Rattle.images.specs.typing_laws.HasTyping.{HasTyping}
 use Rattle.images.proofs.typing_laws.Sorted.{has_sorts, has_further}
 use Rattle.images.proofs.typing_laws.Changes.{many_has, many_type, many_sort, many_variables, many_parameters}
 use Rattle.inlining.proofs.Bodies.{onto}
-use Rattle.spelled_groups.specs.Spelled.{PatternsAreUsable}
+use Rattle.declarations.specs.spelled_groups.Spelled.{PatternsAreUsable}
 use Rattle.branch_equations.specs.Branches.{ConstructorBranch, is_plain_field, field_type, parameters_before, parameters_after, variables_above, branch_types, branch_fields, built_term, branch_parameters, pattern_fields}
 use Rattle.branch_equations.proofs.Terms.{IsBinderType, IsTermUnder, AreTermsUnder, terms_append, terms_for, terms_variables, terms_parameters, variables_under, onto_at, onto_append}
 use Rattle.branch_equations.proofs.Matches.{IsTypedBranch}

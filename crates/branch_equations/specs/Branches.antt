@@ -15,7 +15,7 @@ use Rattle.tasks.specs.Equations.{cells, for_all}
 use Rattle.tasks.specs.Facts.{FactTree, equation_fact}
 use Rattle.checks.specs.recursive_groups.Groups.{is_recursive}
 use Rattle.checks.specs.decl_checks.Structure.{defining_body}
-use Rattle.spelled_groups.specs.Spelled.{GroupFacts}
+use Rattle.declarations.specs.spelled_groups.Spelled.{GroupFacts}
 
 -- a branch whose pattern is a constructor, at types, on variables and wildcards
 pub record ConstructorBranch : Type 0 where

@@ -3,8 +3,8 @@ use Rattle.std.specs.Prelude.{◌≡◌, ℕ, ◌≤◌, List, ◌∷◌, ◌++�
 use Rattle.trees.specs.Tree.{Tree, Two, Three, Head, HFun, binders_over, loose}
 use Rattle.trees.specs.Binding.{inst_many, AreClosed}
 use Rattle.tasks.specs.Equations.{cells}
-use Rattle.spelled_groups.specs.Spelled.{IsSpelling}
-use Rattle.spelled_groups.specs.Inductives.{IsSmallTree}
+use Rattle.declarations.specs.spelled_groups.Spelled.{IsSpelling}
+use Rattle.declarations.specs.spelled_groups.Inductives.{IsSmallTree}
 use Rattle.branch_equations.specs.Branches.{ConstructorBranch, parameters_before, parameters_after, branch_parameters, pattern_fields, bound_fields, branch_sides, recursion_facts}
 
 -- only definitions are spelled out, and what is said of valid ones are formulas, where they are small

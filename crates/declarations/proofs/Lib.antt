@@ -1,6 +1,4 @@
 pub mod Within
-pub mod Rewritten
-pub mod Said
 pub mod Names
 pub mod Stored
 pub mod Places

@@ -19,8 +19,8 @@ use Rattle.evidence.proofs.FactNames.{all_named}
 use Rattle.declarations.specs.Rewritten.{DeclarationRule, rewritten_task, KeepsMade}
 use Rattle.declarations.specs.Said.{Sayings, all_said, content, AreSaid, AreOwnFacts}
 use Rattle.declarations.specs.Names.{IsOldName}
-use Rattle.declarations.proofs.Rewritten.{roles_rewritten}
-use Rattle.declarations.proofs.Said.{said_props, said_listed}
+use Rattle.declarations.specs.lemmas.Rewritten.{roles_rewritten}
+use Rattle.declarations.specs.lemmas.Said.{said_props, said_listed}
 
 -- what is at a place of a list of contents
 record IsAt (xs : List FactTree) (k : ℕ) (p : PropositionTree) (x : FactTree) : Type 0 where

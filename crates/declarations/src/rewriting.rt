@@ -8,9 +8,8 @@ ghost use Rattle.declarations.specs.Rewritten.{rewritten_decls, rewritten_task};
 
 use crate::RewriteDeclarations;
 use evidence::task_parts::{one_task, with_parts};
-use outside::Seq;
 use std::alloc::{AllocError, Global};
-use tasks::{Decl, Task};
+use tasks::{Decl, Seq, Task};
 use trees::store::Store;
 
 // What is put in the place of each declaration, in order.

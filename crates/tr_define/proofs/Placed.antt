@@ -9,7 +9,7 @@ use Rattle.tasks.specs.Task.{SymbolTree, DeclarationTree}
 use Rattle.tasks.specs.Facts.{FactTree}
 use Rattle.tasks.specs.Meaning.{symbols_at, body_at, declaration_at, declarations_at, SymbolHeld, DeclHeld}
 use Rattle.tasks.proofs.Growth.{symbols_later, declaration_later, declarations_later, decl_held_later}
-use Rattle.spelled_groups.specs.Spelled.{GroupFacts, in_place, spelling_rule}
+use Rattle.declarations.specs.spelled_groups.Spelled.{GroupFacts, in_place, spelling_rule}
 
 module _ (s s1 : List Tree) (g : Grows s s1) where
   pub all_held : (ds : List Decl) → All (DeclHeld s) ds → All (DeclHeld s1) ds

@@ -7,8 +7,8 @@ use Rattle.trees.specs.Sorts.{int_type}
 use Rattle.tasks.specs.declared.signature.SymbolKind.TheVariants.{Function, Predicate}
 use Rattle.tasks.specs.Task.{SymbolTree, int_symbol, BodyTree, Makes, Defines, Induces, Says, DeclarationTree}
 use Rattle.tasks.specs.Equations.{cells}
-use Rattle.spelled_groups.specs.Spelled.{spelling_rule}
-use Rattle.spelled_groups.specs.Groups.{definition_facts, inductive_facts}
+use Rattle.declarations.specs.spelled_groups.Spelled.{spelling_rule}
+use Rattle.declarations.specs.spelled_groups.Groups.{definition_facts, inductive_facts}
 
 -- `function f (x: int) : int` is 1, `predicate p (x: int)` is 2
 abbrev symbols : List SymbolTree

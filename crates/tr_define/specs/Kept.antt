@@ -16,13 +16,13 @@ use Rattle.evidence.specs.Stages.{Gives, Keeps}
 use Rattle.evidence.specs.task_parts.Kept.{one_keeps}
 use Rattle.declarations.specs.Rewritten.{rewritten_decls, rewritten_task}
 use Rattle.declarations.specs.Equation.{rewrite_equation}
-use Rattle.declarations.proofs.Rewritten.{rewritten_kept}
+use Rattle.declarations.specs.lemmas.Rewritten.{rewritten_kept}
 use Rattle.declarations.proofs.Stage.{one_task}
-use Rattle.spelled_groups.specs.Spelled.{GroupFacts, spelling_rule, SaysSmall, PatternsAreUsable, IsSpelling}
-use Rattle.spelled_groups.specs.Groups.{definition_facts, inductive_facts}
-use Rattle.spelled_groups.specs.Kept.{spelling_keeps, spelling_constructors, spelling_valid}
-use Rattle.spelled_groups.specs.Definitions.{definitions_spelling}
-use Rattle.spelled_groups.specs.Inductives.{IsSmallTree, inductives_spelling}
+use Rattle.declarations.specs.spelled_groups.Spelled.{GroupFacts, spelling_rule, SaysSmall, PatternsAreUsable, IsSpelling}
+use Rattle.declarations.specs.spelled_groups.Groups.{definition_facts, inductive_facts}
+use Rattle.declarations.specs.spelled_groups.Kept.{spelling_keeps, spelling_constructors, spelling_valid}
+use Rattle.declarations.specs.spelled_groups.Definitions.{definitions_spelling}
+use Rattle.declarations.specs.spelled_groups.Inductives.{IsSmallTree, inductives_spelling}
 
 -- ---- a task that a stage gives has few nodes
 at_most : (n m : ℕ) → nat_le n m ≡ true → n ≤ m

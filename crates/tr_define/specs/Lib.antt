@@ -1,2 +1,2 @@
 pub mod Kept
-pub use Rattle.spelled_groups.specs as spelled_groups
+pub use Rattle.declarations.specs as declarations

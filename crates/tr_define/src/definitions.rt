@@ -1,11 +1,11 @@
 // The transformation that spells out definitions that aren't recursive.
-ghost use Rattle.spelled_groups.specs.Groups.{definition_facts};
-ghost use Rattle.spelled_groups.specs.Spelled.{spelling_rule, spelling_said};
+ghost use Rattle.declarations.specs.spelled_groups.Groups.{definition_facts};
+ghost use Rattle.declarations.specs.spelled_groups.Spelled.{spelling_rule, spelling_said};
 ghost use Rattle.tr_define.specs.Kept.{definitions_equation, definitions_keep};
 
+use declarations::spelled_groups::{definitions_origin, definitions_said, push_in_place};
 use declarations::{FactSearch, RewriteDeclarations, cite_old, only_end, rewritten_tasks};
 use evidence::{Draft, StageFault, Transform};
-use spelled_groups::{definitions_origin, definitions_said, push_in_place};
 use std::alloc::{AllocError, Global};
 use tasks::{Decl, Fact, Signature, Store, Task, TermId};
 

@@ -6,6 +6,6 @@
 mod definitions;
 mod inductive;
 
+pub use declarations::spelled_groups::push_in_place;
 pub use definitions::Definitions;
 pub use inductive::InductiveGroups;
-pub use spelled_groups::push_in_place;

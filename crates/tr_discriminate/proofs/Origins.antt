@@ -19,7 +19,7 @@ use Rattle.tr_discriminate.specs.wanted_instances.lemmas.Kept.{AreFor, wanted_fo
 use Rattle.declarations.specs.Rewritten.{IsAsBefore}
 use Rattle.declarations.specs.Names.{IsOldName}
 use Rattle.declarations.proofs.Names.{fact_there}
-use Rattle.declarations.proofs.Rewritten.{roles_rewritten}
+use Rattle.declarations.specs.lemmas.Rewritten.{roles_rewritten}
 use Rattle.tr_discriminate.specs.Equation.{discriminate_rule, discriminate_equation}
 use Rattle.tr_discriminate.specs.Kept.{discriminate_rule_keeps, discriminated_one}
 use Rattle.tr_discriminate.specs.instance_sets.Made.{IsTypeTree}

@@ -12,7 +12,7 @@ use Rattle.tr_discriminate.specs.wanted_instances.Wanted.{wanted_formulas}
 use Rattle.tr_discriminate.specs.wanted_instances.Discriminated.{is_monomorphic, said_at, proposition_of, put_in_place, last_set, discriminated_task, misplaced_from}
 use Rattle.tr_discriminate.specs.wanted_instances.lemmas.Kept.{last_good, body_valid}
 use Rattle.declarations.specs.Rewritten.{KeepsMade, KeepsConstructors}
-use Rattle.declarations.proofs.Rewritten.{alone_made, alone_role, rewritten_kept}
+use Rattle.declarations.specs.lemmas.Rewritten.{alone_made, alone_role, rewritten_kept}
 use Rattle.tr_discriminate.specs.Equation.{discriminate_rule, unless_misplaced, discriminate_equation}
 
 said_made : (d : DeclarationTree) (es : List Tree) → made (map (said_at d) es) ≡ []

@@ -18,12 +18,12 @@ use Rattle.evidence.specs.Stages.{Gives, IsAmong, task_or}
 use Rattle.declarations.specs.Rewritten.{rewritten_task}
 use Rattle.declarations.specs.Said.{all_said, content}
 use Rattle.declarations.specs.Names.{IsOldName}
-use Rattle.declarations.proofs.Rewritten.{roles_rewritten}
+use Rattle.declarations.specs.lemmas.Rewritten.{roles_rewritten}
 use Rattle.declarations.proofs.Names.{fact_there}
 use Rattle.declarations.proofs.Stage.{one_task}
-use Rattle.tr_define.specs.spelled_groups.Spelled.{spelling_rule, spelling_said}
-use Rattle.tr_define.specs.spelled_groups.Kept.{spelling_keeps, spelling_props}
-use Rattle.tr_define.specs.spelled_groups.Inductives.{IsSmallTree}
+use Rattle.tr_define.specs.declarations.spelled_groups.Spelled.{spelling_rule, spelling_said}
+use Rattle.tr_define.specs.declarations.spelled_groups.Kept.{spelling_keeps, spelling_props}
+use Rattle.tr_define.specs.declarations.spelled_groups.Inductives.{IsSmallTree}
 use Rattle.branch_equations.specs.Branches.{branch_fact, recursion_facts}
 use Rattle.branch_equations.proofs.Formulas.{recursions_spelling}
 use Rattle.tr_recursion.specs.branch_instances.Origins.{IsBranchOf, IsOldFact}

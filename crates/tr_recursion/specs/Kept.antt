@@ -4,7 +4,7 @@ use Rattle.tasks.specs.Task.{TaskTree}
 use Rattle.tasks.specs.Valid.{IsValid}
 use Rattle.evidence.specs.Stages.{Gives, Keeps}
 use Rattle.declarations.specs.Equation.{rewrite_equation}
-use Rattle.tr_define.specs.spelled_groups.Spelled.{spelling_rule}
+use Rattle.tr_define.specs.declarations.spelled_groups.Spelled.{spelling_rule}
 use Rattle.branch_equations.specs.Branches.{recursion_facts}
 use Rattle.branch_equations.proofs.Formulas.{recursions_spelling}
 use Rattle.tr_define.specs.Kept.{spelled_keep}

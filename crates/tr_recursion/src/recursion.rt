@@ -1,5 +1,5 @@
 // The transformation that spells out recursive definitions.
-ghost use Rattle.tr_define.specs.spelled_groups.Spelled.{spelling_rule, spelling_said};
+ghost use Rattle.tr_define.specs.declarations.spelled_groups.Spelled.{spelling_rule, spelling_said};
 ghost use Rattle.branch_equations.specs.Branches.{recursion_facts};
 ghost use Rattle.tr_recursion.specs.Kept.{recursions_equation, recursions_keep};
 

@@ -5,7 +5,7 @@ use Rattle.std.proofs.lemmas.List.{at_drop_more}
 use Rattle.tasks.specs.Task.{props_of}
 use Rattle.tasks.specs.Facts.{body_facts}
 use Rattle.declarations.specs.Said.{content, AreSaid, AreOwnFacts, own_said}
-use Rattle.declarations.proofs.Said.{own_props, own_facts, none_said}
+use Rattle.declarations.specs.lemmas.Said.{own_props, own_facts, none_said}
 use Rattle.tr_remove.specs.Remove.{is_removed, removal_rule, left_said}
 
 pub left_props : (props : List (List ℕ × List ℕ)) → AreSaid (removal_rule props) (left_said props)

@@ -10,7 +10,7 @@ use Rattle.tasks.specs.Vocabulary.{Vocabulary}
 use Rattle.tasks.specs.Valid.{IsValid, IsValidDecl}
 use Rattle.evidence.specs.Stages.{Gives, Keeps}
 use Rattle.declarations.specs.Rewritten.{KeepsMade, KeepsConstructors}
-use Rattle.declarations.proofs.Rewritten.{alone_made, alone_role, rewritten_kept}
+use Rattle.declarations.specs.lemmas.Rewritten.{alone_made, alone_role, rewritten_kept}
 use Rattle.declarations.proofs.Stage.{one_task}
 use Rattle.evidence.specs.task_parts.Kept.{one_keeps}
 use Rattle.tr_remove.specs.Remove.{is_proposition, is_removed, removal_rule, removed_task, remove_equation}

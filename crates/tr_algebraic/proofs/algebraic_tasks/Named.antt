@@ -12,7 +12,7 @@ use Rattle.kernel.specs.rules.Rows.{equation, clauses}
 use Rattle.evidence.specs.changed_tasks.Changed.{changed_task}
 use Rattle.evidence.proofs.ChangedTasks.{role_changed}
 use Rattle.declarations.specs.Names.{IsOldName}
-use Rattle.declarations.proofs.Rewritten.{roles_rewritten}
+use Rattle.declarations.specs.lemmas.Rewritten.{roles_rewritten}
 use Rattle.declarations.proofs.Names.{fact_there}
 use Rattle.algebraic_forms.specs.Groups.{algebraic_rule}
 use Rattle.algebraic_forms.proofs.Kept.{algebraic_keeps}

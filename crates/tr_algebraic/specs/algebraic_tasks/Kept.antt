@@ -13,9 +13,9 @@ use Rattle.tasks.specs.Valid.{IsFormulaOver, IsTypeIn, IsValid}
 use Rattle.tasks.proofs.Closing.{typed_sorted}
 use Rattle.evidence.specs.stage_limits.Limits.{TooLarge, body_height, declaration_height, task_height, are_small, limited}
 use Rattle.evidence.specs.Stages.{Keeps}
-use Rattle.declarations.proofs.Rewritten.{names_all, kept_over}
+use Rattle.declarations.specs.lemmas.Rewritten.{names_all, kept_over}
 use Rattle.declarations.proofs.Within.{formula_there, type_there}
-use Rattle.algebraic_forms.specs.spelled_groups.Spelled.{as_symbol}
+use Rattle.algebraic_forms.specs.declarations.spelled_groups.Spelled.{as_symbol}
 use Rattle.algebraic_forms.specs.Groups.{LawTree, group_laws, group_symbols, group_place, as_type, as_law, algebraic_rule}
 use Rattle.algebraic_forms.specs.NoMatch.{HasNoMatch, IsMatchFreeBody, IsMatchFree}
 use Rattle.algebraic_forms.proofs.NoMatch.{kinds_match_none, matches_none, laws_have_no_match}

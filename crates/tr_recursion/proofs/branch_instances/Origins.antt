@@ -13,10 +13,10 @@ use Rattle.evidence.specs.Facts.{fact_named, IsFoundByName}
 use Rattle.evidence.proofs.FactNames.{all_named, first_or_rest, first_contained, rest_contains, nothing_in}
 use Rattle.declarations.specs.Rewritten.{rewritten_task}
 use Rattle.declarations.specs.Said.{said_from, all_said, content, own_said, AreSaid}
-use Rattle.declarations.proofs.Said.{said_props, own_facts}
+use Rattle.declarations.specs.lemmas.Said.{said_props, own_facts}
 use Rattle.checks.specs.recursive_groups.Groups.{is_recursive}
 use Rattle.checks.specs.decl_checks.Structure.{defining_body}
-use Rattle.spelled_groups.specs.Spelled.{said_of, spelling_rule, spelling_said}
+use Rattle.declarations.specs.spelled_groups.Spelled.{said_of, spelling_rule, spelling_said}
 use Rattle.tr_recursion.specs.branch_instances.Origins.{IsBranchOf, IsFrom, IsOldFact}
 use Rattle.branch_equations.specs.Branches.{ConstructorBranch, matched_parameter, quantifiers, branch_fact, facts_by, member_facts, recursion_facts}
 

@@ -15,11 +15,11 @@ use Rattle.tasks.specs.Task.{SymbolTree, symbol_or, int_symbol, DefinitionTree}
 use Rattle.tasks.specs.Facts.{FactTree}
 use Rattle.tasks.specs.Meaning.{symbol_at, symbols_at, definition_at, definitions_at, SymbolHeld}
 use Rattle.tasks.proofs.Growth.{symbols_later, definitions_later}
-use Rattle.spelled_groups.specs.declared.said.Said.{Said}
-use Rattle.spelled_groups.specs.Stored.{facts_at}
+use Rattle.declarations.specs.declared.spelled_groups.said.Said.{Said}
+use Rattle.declarations.specs.spelled_groups.Stored.{facts_at}
 use Rattle.branch_equations.specs.Branches.{ConstructorBranch, constructor_branch, constructor_branches, add_branch, below_quantifiers, HasSides, matched_parameter, quantifiers, branch_equation, facts_by, member_facts}
 use Rattle.checks.specs.decl_checks.Structure.{defining_body}
-use Rattle.spelled_groups.proofs.Saying.{got_some}
+use Rattle.declarations.proofs.spelled_groups.Saying.{got_some}
 use Rattle.tr_recursion.specs.declared.recursion_forms.branches.Branch.{Branch}
 use Rattle.tr_recursion.specs.declared.recursion_forms.saying.Member.{Member}
 use Rattle.tr_recursion.specs.declared.recursion_forms.branches.Matched.{Matched}

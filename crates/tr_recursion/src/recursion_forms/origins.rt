@@ -9,7 +9,7 @@ ghost use Rattle.tasks.specs.Task.{SymbolTree, DefinitionTree};
 ghost use Rattle.tasks.specs.Looking.{fact_name};
 ghost use Rattle.tasks.specs.Meaning.{definition_at, definitions_at, declaration_at, DeclHeld};
 ghost use Rattle.declarations.specs.Said.{IsFactSearch};
-ghost use Rattle.spelled_groups.specs.Spelled.{spelling_said};
+ghost use Rattle.declarations.specs.spelled_groups.Spelled.{spelling_said};
 ghost use Rattle.branch_equations.specs.Branches.{ConstructorBranch, constructor_branches, branch_fact, member_facts, recursion_facts};
 
 use crate::recursion_forms::branches::matched_parameter;

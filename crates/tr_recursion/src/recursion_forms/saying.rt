@@ -9,7 +9,7 @@ ghost use Rattle.trees.specs.binders.Visits.{HoldTypes};
 ghost use Rattle.tasks.specs.Facts.{FactTree};
 ghost use Rattle.tasks.specs.Meaning.{symbols_at, definition_at, definitions_at, body_at, SymbolHeld};
 ghost use Rattle.declarations.specs.Stored.{IsValidIn};
-ghost use Rattle.spelled_groups.specs.Stored.{facts_at, SaidHeld};
+ghost use Rattle.declarations.specs.spelled_groups.Stored.{facts_at, SaidHeld};
 ghost use Rattle.branch_equations.specs.Branches.{ConstructorBranch, constructor_branches, below_quantifiers, HasSides, member_facts, recursion_facts};
 ghost use Rattle.tr_recursion.specs.recursion_forms.Read.{constructor_branch_at, IsBranchHeld};
 ghost use Rattle.tr_recursion.specs.recursion_forms.Made.{DefinitionIsFit};
@@ -18,7 +18,7 @@ ghost use Rattle.tr_recursion.specs.recursion_forms.Members.{member_branch_fact,
 use crate::recursion_forms::branches::{Branch, branch_of, matched_parameter};
 use crate::recursion_forms::equations::branch_equation;
 use checks::recursive_groups::is_recursive;
-use spelled_groups::Said;
+use declarations::spelled_groups::Said;
 use std::alloc::{AllocError, Global};
 use tasks::{Body, Decl, Def, Fact, Signature};
 use trees::store::{Grow, Store};

@@ -3,7 +3,7 @@ use Rattle.trees.specs.Tree.{Tree, Two, HCell}
 use Rattle.trees.specs.Node.{tree_at, trees_at}
 use Rattle.tasks.specs.Equations.{cells}
 use Rattle.tasks.proofs.Growth.{tree_later}
-use Rattle.spelled_groups.proofs.Making.{kind_later, first_kind, rest_kinds}
+use Rattle.declarations.proofs.spelled_groups.Making.{kind_later, first_kind, rest_kinds}
 use Rattle.algebraic_forms.specs.Formulas.{field_of, projected_fields}
 use Rattle.algebraic_forms.proofs.Making.{own_later, term_later}
 use Rattle.algebraic_forms.proofs.cases.+projected_fields.Goals as goal

@@ -1,7 +1,7 @@
 use Rattle.std.proofs.lemmas.Result.{on_ok_weaker}
 use Rattle.tasks.specs.Task.{made_by_cons}
 use Rattle.tasks.specs.Meaning.{symbols_at, cons_at, declaration_at, declarations_at}
-use Rattle.spelled_groups.specs.Spelled.{as_symbol}
+use Rattle.declarations.specs.spelled_groups.Spelled.{as_symbol}
 use Rattle.algebraic_forms.proofs.Placing.{cons_pushed}
 use Rattle.algebraic_forms.proofs.decls.+push_constructors.Goals as goal
 

@@ -4,7 +4,7 @@ use Rattle.std.proofs.lemmas.List.Elements.{All-push}
 use Rattle.tasks.specs.declared.declaration.Body.TheVariants.{TypeSymbol}
 use Rattle.tasks.specs.Task.{made_by_cons}
 use Rattle.tasks.specs.Meaning.{symbols_at, cons_at, algebraics_at, declaration_at, declarations_at, BodyHeld, DeclHeld}
-use Rattle.spelled_groups.specs.Spelled.{as_symbol}
+use Rattle.declarations.specs.spelled_groups.Spelled.{as_symbol}
 use Rattle.algebraic_forms.specs.Groups.{as_type, group_symbols}
 use Rattle.algebraic_forms.proofs.Placing.{declared_one, types_pushed}
 use Rattle.algebraic_forms.proofs.decls.+push_types.Goals as goal

@@ -4,7 +4,7 @@ use Rattle.trees.specs.Node.{tree_at, trees_at}
 use Rattle.trees.proofs.Nodes.{Grows_trans}
 use Rattle.tasks.specs.Equations.{for_all}
 use Rattle.tasks.specs.Meaning.{con_at}
-use Rattle.spelled_groups.proofs.Making.{kinds_later, kind_trees}
+use Rattle.declarations.proofs.spelled_groups.Making.{kinds_later, kind_trees}
 use Rattle.algebraic_forms.specs.Formulas.{different}
 use Rattle.algebraic_forms.proofs.Making.{for_all_append}
 use Rattle.algebraic_forms.proofs.distinct.distinctness_law.Goals as goal

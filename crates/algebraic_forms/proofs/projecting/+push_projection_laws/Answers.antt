@@ -1,6 +1,6 @@
 use Rattle.std.proofs.Common.{length, ap, arith}
 use Rattle.std.proofs.lemmas.Result.{on_ok_weaker}
-use Rattle.spelled_groups.proofs.Making.{kinds_later, first_kind, rest_kinds}
+use Rattle.declarations.proofs.spelled_groups.Making.{kinds_later, first_kind, rest_kinds}
 use Rattle.algebraic_forms.proofs.Making.{own_later, con_fit_later, pushed_held, projections_more}
 use Rattle.algebraic_forms.proofs.projecting.+push_projection_laws.Goals as goal
 

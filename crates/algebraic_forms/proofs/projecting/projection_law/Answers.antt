@@ -7,7 +7,7 @@ use Rattle.trees.proofs.Nodes.{Grows_trans}
 use Rattle.tasks.specs.Equations.{for_all}
 use Rattle.tasks.specs.Meaning.{con_at}
 use Rattle.tasks.proofs.Growth.{tree_later}
-use Rattle.spelled_groups.proofs.Making.{kind_later, kinds_later, kind_trees}
+use Rattle.declarations.proofs.spelled_groups.Making.{kind_later, kinds_later, kind_trees}
 use Rattle.algebraic_forms.specs.Formulas.{con_on, field_of, variables_under}
 use Rattle.algebraic_forms.proofs.Making.{own_later, term_later}
 use Rattle.algebraic_forms.proofs.projecting.projection_law.Goals as goal

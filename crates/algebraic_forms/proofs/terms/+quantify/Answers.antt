@@ -1,4 +1,4 @@
-use Rattle.spelled_groups.proofs.Making.{kind_later, first_kind}
+use Rattle.declarations.proofs.spelled_groups.Making.{kind_later, first_kind}
 use Rattle.algebraic_forms.proofs.terms.+quantify.Goals as goal
 
 pub add-requires-clause-fits : goal.add-requires-clause-fits

@@ -5,7 +5,7 @@ use Rattle.trees.specs.Binding.{Bound}
 use Rattle.trees.specs.Node.{tree_at, trees_at}
 use Rattle.tasks.specs.Equations.{cells}
 use Rattle.tasks.proofs.Growth.{tree_later}
-use Rattle.spelled_groups.proofs.Making.{first_kind}
+use Rattle.declarations.proofs.spelled_groups.Making.{first_kind}
 use Rattle.algebraic_forms.specs.Formulas.{variables_under}
 use Rattle.algebraic_forms.proofs.terms.+variables.Goals as goal
 

@@ -1,4 +1,4 @@
-use Rattle.spelled_groups.specs.Kept.{spelling_props}
+use Rattle.declarations.specs.spelled_groups.Kept.{spelling_props}
 use Rattle.branch_equations.specs.Branches.{recursion_facts}
 use Rattle.branch_equations.proofs.AtTerms.{branches_at_terms}
 use Rattle.tr_recursion.proofs.branch_instances.Instances.{says_chosen}

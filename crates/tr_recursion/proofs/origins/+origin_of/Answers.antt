@@ -1,7 +1,7 @@
 use Rattle.std.proofs.Common.{◌∙◌, ◌+◌, ℕ, ap}
 use Rattle.tasks.specs.Meaning.{declaration_at, declarations_at}
 use Rattle.declarations.proofs.Places.{origin_here, origin_after}
-use Rattle.tr_define.specs.spelled_groups.Spelled.{spelling_said}
+use Rattle.tr_define.specs.declarations.spelled_groups.Spelled.{spelling_said}
 use Rattle.branch_equations.specs.Branches.{recursion_facts}
 use Rattle.tr_recursion.proofs.origins.+origin_of.Goals as goal
 

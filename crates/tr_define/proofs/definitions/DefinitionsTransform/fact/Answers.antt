@@ -1,7 +1,7 @@
-use Rattle.spelled_groups.specs.Groups.{definition_facts}
-use Rattle.spelled_groups.specs.Kept.{spelling_keeps, spelling_props, spelling_facts}
-use Rattle.spelled_groups.specs.Definitions.{definitions_spelling, definitions_say_facts}
-use Rattle.spelled_groups.specs.Inductives.{IsSmallTree}
+use Rattle.declarations.specs.spelled_groups.Groups.{definition_facts}
+use Rattle.declarations.specs.spelled_groups.Kept.{spelling_keeps, spelling_props, spelling_facts}
+use Rattle.declarations.specs.spelled_groups.Definitions.{definitions_spelling, definitions_say_facts}
+use Rattle.declarations.specs.spelled_groups.Inductives.{IsSmallTree}
 use Rattle.tr_define.proofs.definitions.DefinitionsTransform.fact.Goals as goal
 
 pub cite_old-requires-clause-keeps : goal.cite_old-requires-clause-keeps

@@ -1,7 +1,7 @@
 use Rattle.std.proofs.Common.{◌∙◌}
 use Rattle.std.proofs.lemmas.Result.{on_ok_weaker}
 use Rattle.tasks.proofs.Growth.{decl_held_later}
-use Rattle.spelled_groups.specs.Groups.{inductive_facts}
+use Rattle.declarations.specs.spelled_groups.Groups.{inductive_facts}
 use Rattle.tr_define.proofs.Placed.{all_held, placed}
 use Rattle.tr_define.proofs.inductive.InductiveGroupsRewriteDeclarations.push_in_place.Goals as goal
 

@@ -1,6 +1,6 @@
-use Rattle.spelled_groups.specs.Groups.{inductive_facts}
-use Rattle.spelled_groups.specs.Kept.{spelling_keeps, spelling_props, spelling_facts}
-use Rattle.spelled_groups.specs.Inductives.{IsSmallTree, inductives_spelling, inductives_say_facts}
+use Rattle.declarations.specs.spelled_groups.Groups.{inductive_facts}
+use Rattle.declarations.specs.spelled_groups.Kept.{spelling_keeps, spelling_props, spelling_facts}
+use Rattle.declarations.specs.spelled_groups.Inductives.{IsSmallTree, inductives_spelling, inductives_say_facts}
 use Rattle.tr_define.proofs.inductive.InductiveGroupsTransform.fact.Goals as goal
 
 pub cite_old-requires-clause-keeps : goal.cite_old-requires-clause-keeps

@@ -7,7 +7,7 @@ use Rattle.tasks.specs.Looking.{fact_name}
 use Rattle.tasks.specs.Meaning.{declarations_at, task_at}
 use Rattle.evidence.specs.Facts.{IsFact}
 use Rattle.declarations.specs.Said.{said_from}
-use Rattle.tr_define.specs.spelled_groups.Spelled.{spelling_said}
+use Rattle.tr_define.specs.declarations.spelled_groups.Spelled.{spelling_said}
 use Rattle.branch_equations.specs.Branches.{recursion_facts}
 use Rattle.tr_recursion.proofs.Followed.{followed, none_followed, fact_stays}
 use Rattle.tr_recursion.proofs.recursion.RecursionTransform.fact.Goals as goal

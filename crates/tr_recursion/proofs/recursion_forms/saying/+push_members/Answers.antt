@@ -4,7 +4,7 @@ use Rattle.std.proofs.lemmas.List.Elements.{All-weaker}
 use Rattle.tasks.specs.Meaning.{SymbolHeld}
 use Rattle.tasks.proofs.Growth.{symbol_held_later}
 use Rattle.tasks.proofs.Lists.{split_all}
-use Rattle.spelled_groups.specs.Stored.{facts_at}
+use Rattle.declarations.specs.spelled_groups.Stored.{facts_at}
 use Rattle.tr_recursion.specs.recursion_forms.Made.{DefinitionIsFit}
 use Rattle.tr_recursion.proofs.recursion_forms.Definitions.{fit_later, members_more}
 use Rattle.tr_recursion.proofs.recursion_forms.saying.+push_members.Goals as goal

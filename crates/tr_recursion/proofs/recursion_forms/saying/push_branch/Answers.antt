@@ -1,7 +1,7 @@
 use Rattle.std.proofs.Common.{ap}
 use Rattle.trees.specs.Tree.{Tree}
 use Rattle.tasks.specs.declared.facts.Fact.TheVariants.{Equation}
-use Rattle.spelled_groups.proofs.Saying.{one_said}
+use Rattle.declarations.proofs.spelled_groups.Saying.{one_said}
 use Rattle.tr_recursion.specs.recursion_forms.Read.{constructor_branch_at}
 use Rattle.tr_recursion.specs.recursion_forms.Members.{member_branch_fact}
 use Rattle.tr_recursion.proofs.recursion_forms.saying.push_branch.Goals as goal

@@ -4,8 +4,8 @@ use Rattle.trees.proofs.Nodes.{Grows_refl}
 use Rattle.trees.specs.Node.{tree_at}
 use Rattle.tasks.specs.declared.facts.Fact.TheVariants.{Equation}
 use Rattle.tasks.specs.Facts.{FactTree}
-use Rattle.spelled_groups.specs.Stored.{facts_at}
-use Rattle.spelled_groups.proofs.Saying.{one_said}
+use Rattle.declarations.specs.spelled_groups.Stored.{facts_at}
+use Rattle.declarations.proofs.spelled_groups.Saying.{one_said}
 use Rattle.branch_equations.specs.Branches.{constructor_branches}
 use Rattle.tr_recursion.specs.declared.recursion_forms.saying.Member.{Member}
 use Rattle.tr_recursion.specs.recursion_forms.Read.{branches_or_none}
