@@ -17,7 +17,7 @@ use Rattle.evidence.proofs.task_parts.One.{among_one}
 use Rattle.walking.proofs.rewriting.Facts.{own_proposition}
 use Rattle.walking.specs.rewriting.Facts.{IsImageAt}
 use Rattle.tr_match.specs.match_forms.Forms.{without_matches}
-use Rattle.algebraic_forms.specs.declared.origins.LawKind.{LawKind}
+use Rattle.tr_algebraic.specs.declared.algebraic_forms.origins.LawKind.{LawKind}
 use Rattle.tr_algebraic.specs.declared.algebraic_tasks.origins.PropositionOrigin.{PropositionOrigin}
 use Rattle.tr_algebraic.specs.declared.algebraic_tasks.origins.PropositionOrigin.TheVariants.{Proposition, Law}
 use Rattle.tr_algebraic.specs.algebraic_tasks.Origins.{placed_from, origins, IsLawThere, ComesFrom}

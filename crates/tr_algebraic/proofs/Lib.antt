@@ -1,5 +1,3 @@
-pub use Rattle.evidence.proofs as evidence
-pub use Rattle.walking.proofs as walking
 pub mod Composed
 pub mod Facts
 pub mod Parameters

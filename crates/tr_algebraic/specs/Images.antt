@@ -11,7 +11,7 @@ use Rattle.tasks.specs.Equations.{cells}
 use Rattle.tasks.specs.MatchTests.{field, fields, rebuilt, constructor_projections, top, other_terms, parts, con_equation, tests, one_tests, two_tests, three_tests, test, pattern_terms, one_binds, two_binds, three_binds, bind}
 use Rattle.tr_match.specs.match_forms.Forms.{branch_form, if_form, match_rule, without_matches}
 use Rattle.tr_match.specs.images.Images.{image}
-use Rattle.algebraic_forms.specs.NoMatch.{NoMatchInOne, NoMatchInTwo, NoMatchInThree, HasNoMatch}
+use Rattle.tr_algebraic.specs.algebraic_forms.NoMatch.{NoMatchInOne, NoMatchInTwo, NoMatchInThree, HasNoMatch}
 
 -- ---- a node over parts without one
 one_none : (h : Head) (A : Type 0) → A → NoMatchInOne h A

@@ -11,7 +11,7 @@ use Rattle.walking.specs.evidence.stage_limits.Limits.{are_small}
 use Rattle.walking.specs.evidence.changed_tasks.Changed.{with_formula, changed_declarations}
 use Rattle.tr_match.specs.match_forms.Forms.{without_matches}
 use Rattle.tr_match.specs.Kept.{matches_equation, matches_keep}
-use Rattle.algebraic_forms.specs.NoMatch.{HasNoMatch}
+use Rattle.tr_algebraic.specs.algebraic_forms.NoMatch.{HasNoMatch}
 use Rattle.tr_algebraic.specs.algebraic_tasks.Plain.{IsBodyWithoutMatches, AreDeclsWithoutMatches, IsTaskWithoutMatches}
 use Rattle.tr_algebraic.specs.algebraic_tasks.Refused.{refused_by, refused_from}
 use Rattle.tr_algebraic.specs.algebraic_tasks.Kept.{small_limited, small_before, laws_keep}

@@ -1,5 +1,4 @@
-pub use Rattle.algebraic_forms.specs as algebraic_forms
-pub use Rattle.walking.specs as walking
+pub mod algebraic_forms
 pub mod algebraic_tasks
 pub mod draft_images
 pub mod law_evidence

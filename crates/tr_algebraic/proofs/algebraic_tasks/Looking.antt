@@ -8,9 +8,9 @@ use Rattle.tasks.specs.declared.declaration.Decl.{Decl}
 use Rattle.tasks.specs.Task.{SymbolTree, DeclarationTree}
 use Rattle.tasks.specs.Facts.{said_in}
 use Rattle.tasks.specs.Meaning.{algebraics_at, body_at, declaration_at}
-use Rattle.algebraic_forms.specs.declared.origins.LawKind.{LawKind}
-use Rattle.algebraic_forms.specs.Groups.{LawTree, group_laws}
-use Rattle.algebraic_forms.specs.Search.{kinds_of_laws}
+use Rattle.tr_algebraic.specs.declared.algebraic_forms.origins.LawKind.{LawKind}
+use Rattle.tr_algebraic.specs.algebraic_forms.Groups.{LawTree, group_laws}
+use Rattle.tr_algebraic.specs.algebraic_forms.Search.{kinds_of_laws}
 use Rattle.tr_algebraic.specs.declared.algebraic_tasks.origins.PropositionOrigin.{PropositionOrigin}
 use Rattle.tr_algebraic.specs.declared.algebraic_tasks.origins.PropositionOrigin.TheVariants.{Law}
 use Rattle.tr_algebraic.specs.algebraic_tasks.Origins.{placed_law, placed_by, placed_from, origins}

@@ -14,8 +14,8 @@ use Rattle.evidence.proofs.ChangedTasks.{role_changed}
 use Rattle.declarations.specs.Names.{IsOldName}
 use Rattle.declarations.specs.lemmas.Rewritten.{roles_rewritten}
 use Rattle.declarations.proofs.Names.{fact_there}
-use Rattle.algebraic_forms.specs.Groups.{algebraic_rule}
-use Rattle.algebraic_forms.proofs.Kept.{algebraic_keeps}
+use Rattle.tr_algebraic.specs.algebraic_forms.Groups.{algebraic_rule}
+use Rattle.tr_algebraic.specs.algebraic_forms.lemmas.Kept.{algebraic_keeps}
 use Rattle.tr_algebraic.specs.algebraic_tasks.Plain.{task_with_laws}
 
 module _ (t : TaskTree) (g : Tree → Tree) where

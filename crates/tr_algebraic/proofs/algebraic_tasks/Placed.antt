@@ -7,11 +7,11 @@ use Rattle.tasks.specs.trees.Tree.{Tree}
 use Rattle.tasks.specs.Task.{SymbolTree, AlgebraicTree, BodyTree, MakesType, Makes, Defines, Induces, Constructs, Says, DeclarationTree, PropositionTree, TaskTree, props, props_of, said_by, made_by_cons}
 use Rattle.tasks.specs.Facts.{said_in}
 use Rattle.declarations.proofs.Places.{slice_left, slice_right}
-use Rattle.algebraic_forms.specs.declarations.spelled_groups.Spelled.{as_symbol}
+use Rattle.declarations.specs.spelled_groups.Spelled.{as_symbol}
 use Rattle.evidence.specs.changed_tasks.Changed.{with_formula, changed_declarations, changed_task}
-use Rattle.algebraic_forms.specs.declared.origins.LawKind.{LawKind}
-use Rattle.algebraic_forms.specs.Groups.{LawTree, group_laws, group_symbols, group_place, as_law, algebraic_rule}
-use Rattle.algebraic_forms.specs.Search.{kinds_of_laws}
+use Rattle.tr_algebraic.specs.declared.algebraic_forms.origins.LawKind.{LawKind}
+use Rattle.tr_algebraic.specs.algebraic_forms.Groups.{LawTree, group_laws, group_symbols, group_place, as_law, algebraic_rule}
+use Rattle.tr_algebraic.specs.algebraic_forms.Search.{kinds_of_laws}
 use Rattle.tr_algebraic.specs.declared.algebraic_tasks.origins.PropositionOrigin.{PropositionOrigin}
 use Rattle.tr_algebraic.specs.declared.algebraic_tasks.origins.PropositionOrigin.TheVariants.{Proposition, Law}
 use Rattle.tr_algebraic.specs.algebraic_tasks.Plain.{task_with_laws}

@@ -16,8 +16,8 @@ use Rattle.tasks.specs.MatchTests.{result_at, field, fields, rebuilt}
 use Rattle.tasks.specs.Valid.{own_type, IsTypeIn, IsSignatureOf, IsProjectionOf, AreProjections, IsConstructorOf}
 use Rattle.tasks.proofs.Closing.{typed_sorted}
 use Rattle.kernel.specs.rules.Forms.{equal}
-use Rattle.algebraic_forms.specs.declarations.spelled_groups.Formulas.{members_cells}
-use Rattle.algebraic_forms.specs.Formulas.{own_type_list, field_of, projected_fields, case_equation, disjunction, own_variable, exhaustion_law}
+use Rattle.declarations.specs.spelled_groups.Formulas.{members_cells}
+use Rattle.tr_algebraic.specs.algebraic_forms.Formulas.{own_type_list, field_of, projected_fields, case_equation, disjunction, own_variable, exhaustion_law}
 use Rattle.tr_algebraic.specs.law_evidence.Shapes.{disjuncts, cases_at, AreCases}
 
 -- ---- types, and types at types

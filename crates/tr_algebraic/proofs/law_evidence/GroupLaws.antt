@@ -8,9 +8,9 @@ use Rattle.tasks.specs.Task.{TaskTree, ConstructorTree, AlgebraicTree, BodyTree,
 use Rattle.tasks.specs.Vocabulary.{of_task}
 use Rattle.tasks.specs.Valid.{IsTypeOver, IsConstructorOf, IsAlgebraic, IsValidBody, IsValidDecl, IsValid}
 use Rattle.tasks.proofs.Declared.{contains_step}
-use Rattle.algebraic_forms.specs.declared.origins.LawKind.TheVariants.{Projection, Distinctness, Exhaustion}
-use Rattle.algebraic_forms.specs.Formulas.{projection_laws, all_projection_laws, distinctness_law, distinctness_laws, exhaustion_law}
-use Rattle.algebraic_forms.specs.Groups.{LawTree, law, type_laws, type_vars, group_laws}
+use Rattle.tr_algebraic.specs.declared.algebraic_forms.origins.LawKind.TheVariants.{Projection, Distinctness, Exhaustion}
+use Rattle.tr_algebraic.specs.algebraic_forms.Formulas.{projection_laws, all_projection_laws, distinctness_law, distinctness_laws, exhaustion_law}
+use Rattle.tr_algebraic.specs.algebraic_forms.Groups.{LawTree, law, type_laws, type_vars, group_laws}
 use Rattle.tr_algebraic.specs.law_evidence.Laws.{IsLawOf}
 use Rattle.tr_algebraic.proofs.law_evidence.Roles.{Apart, head_apart, right_apart, con_in, cons_apart, type_role, con_role, projection_role}
 use Rattle.tr_algebraic.proofs.law_evidence.LawShapes.{projection_shape, difference_shape}

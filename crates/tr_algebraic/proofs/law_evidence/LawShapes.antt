@@ -7,7 +7,7 @@ use Rattle.tasks.specs.Roles.{RoleTree, ProjectionRole, ConstructorRole, role, i
 use Rattle.tasks.specs.Typing.{members}
 use Rattle.tasks.specs.Equations.{cells, for_all}
 use Rattle.tasks.specs.Valid.{own_type}
-use Rattle.algebraic_forms.specs.Formulas.{own_type_list, variable_under, variables_under, con_on, field_of, projection_law, different, distinctness_law}
+use Rattle.tr_algebraic.specs.algebraic_forms.Formulas.{own_type_list, variable_under, variables_under, con_on, field_of, projection_law, different, distinctness_law}
 use Rattle.tr_algebraic.specs.law_evidence.Shapes.{Quantified, IsProjected, AreApart}
 use Rattle.tr_algebraic.proofs.law_evidence.Shapes.{quantified_stays, projected_stays, apart_stays}
 

@@ -5,7 +5,7 @@ use Rattle.std.proofs.Common.{inl, inr, sym, subst, ap, ◌∙◌, arith}
 use Rattle.std.proofs.lemmas.Bool.Decides.{nat_tests}
 use Rattle.std.proofs.lemmas.List.Elements.{All-cons, All-nil, All-append, All-weaker}
 use Rattle.std.proofs.lemmas.List.Sums.{sum_by-cons}
-use Rattle.plain_laws.proofs.Bools.{and_first, and_second}
+use Rattle.tasks.proofs.plain_laws.Bools.{and_first, and_second}
 use Rattle.tasks.specs.trees.Tree.{Tree, size}
 use Rattle.tasks.specs.Task.{SymbolTree, AlgebraicTree, BodyTree, MakesType, Makes, Defines, Induces, Constructs, Says, DeclarationTree, TaskTree, made_by_cons, body_nodes, declaration_nodes, nodes}
 use Rattle.tasks.specs.Vocabulary.{of_task}
@@ -15,11 +15,11 @@ use Rattle.evidence.specs.stage_limits.Limits.{TooLarge, body_height, declaratio
 use Rattle.evidence.specs.Stages.{Keeps}
 use Rattle.declarations.specs.lemmas.Rewritten.{names_all, kept_over}
 use Rattle.declarations.proofs.Within.{formula_there, type_there}
-use Rattle.algebraic_forms.specs.declarations.spelled_groups.Spelled.{as_symbol}
-use Rattle.algebraic_forms.specs.Groups.{LawTree, group_laws, group_symbols, group_place, as_type, as_law, algebraic_rule}
-use Rattle.algebraic_forms.specs.NoMatch.{HasNoMatch, IsMatchFreeBody, IsMatchFree}
-use Rattle.algebraic_forms.proofs.NoMatch.{kinds_match_none, matches_none, laws_have_no_match}
-use Rattle.algebraic_forms.proofs.Kept.{algebraic_keeps, algebraic_valid}
+use Rattle.declarations.specs.spelled_groups.Spelled.{as_symbol}
+use Rattle.tr_algebraic.specs.algebraic_forms.Groups.{LawTree, group_laws, group_symbols, group_place, as_type, as_law, algebraic_rule}
+use Rattle.tr_algebraic.specs.algebraic_forms.NoMatch.{HasNoMatch, IsMatchFreeBody, IsMatchFree}
+use Rattle.tr_algebraic.specs.algebraic_forms.lemmas.NoMatch.{kinds_match_none, matches_none, laws_have_no_match}
+use Rattle.tr_algebraic.specs.algebraic_forms.lemmas.Kept.{algebraic_keeps, algebraic_valid}
 use Rattle.tr_algebraic.specs.algebraic_tasks.Plain.{IsBodyWithoutMatches, AreDeclsWithoutMatches, IsTaskWithoutMatches, task_with_laws}
 
 -- ---- numbers of nodes and heights

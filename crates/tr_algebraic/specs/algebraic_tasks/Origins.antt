@@ -3,8 +3,8 @@ use Rattle.std.specs.Prelude.{◌≡◌, ℕ, ◌+◌, List, [], ◌∷◌, ◌+
 use Rattle.tasks.specs.trees.Tree.{Tree}
 use Rattle.tasks.specs.Task.{SymbolTree, AlgebraicTree, BodyTree, Constructs, Says, DeclarationTree, PropositionTree, TaskTree, props}
 use Rattle.tasks.specs.Facts.{said_in}
-use Rattle.algebraic_forms.specs.declared.origins.LawKind.{LawKind}
-use Rattle.algebraic_forms.specs.Groups.{LawTree, group_laws}
+use Rattle.tr_algebraic.specs.declared.algebraic_forms.origins.LawKind.{LawKind}
+use Rattle.tr_algebraic.specs.algebraic_forms.Groups.{LawTree, group_laws}
 use Rattle.tr_algebraic.specs.declared.algebraic_tasks.origins.PropositionOrigin.{PropositionOrigin}
 use Rattle.tr_algebraic.specs.declared.algebraic_tasks.origins.PropositionOrigin.TheVariants.{Proposition, Law}
 

@@ -2,8 +2,8 @@
 use Rattle.std.specs.Prelude.{List, All}
 use Rattle.tasks.specs.Task.{BodyTree, Defines, Induces, Says, DeclarationTree, TaskTree}
 use Rattle.declarations.specs.Rewritten.{rewritten_task}
-use Rattle.algebraic_forms.specs.Groups.{algebraic_rule}
-use Rattle.algebraic_forms.specs.NoMatch.{HasNoMatch}
+use Rattle.tr_algebraic.specs.algebraic_forms.Groups.{algebraic_rule}
+use Rattle.tr_algebraic.specs.algebraic_forms.NoMatch.{HasNoMatch}
 
 -- a proposition has none, and there is no definition or inductive predicate
 abbrev pub IsBodyWithoutMatches : BodyTree → Type 0

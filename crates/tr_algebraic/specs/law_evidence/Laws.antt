@@ -2,8 +2,8 @@
 use Rattle.std.specs.Prelude.{ℕ}
 use Rattle.tasks.specs.trees.Tree.{Tree}
 use Rattle.tasks.specs.Task.{TaskTree}
-use Rattle.algebraic_forms.specs.declared.origins.LawKind.{LawKind}
-use Rattle.algebraic_forms.specs.declared.origins.LawKind.TheVariants.{Projection, Distinctness, Exhaustion}
+use Rattle.tr_algebraic.specs.declared.algebraic_forms.origins.LawKind.{LawKind}
+use Rattle.tr_algebraic.specs.declared.algebraic_forms.origins.LawKind.TheVariants.{Projection, Distinctness, Exhaustion}
 use Rattle.tr_algebraic.specs.law_evidence.Shapes.{Quantified, IsProjected, AreApart, AreCases}
 
 abbrev pub IsLawOf : TaskTree → LawKind → Tree → Type 0

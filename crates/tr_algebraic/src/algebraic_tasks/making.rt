@@ -4,10 +4,10 @@ ghost use Rattle.tasks.specs.trees.Node.{Grows};
 ghost use Rattle.tasks.specs.Meaning.{task_at, tasks_at, TaskHeld, TasksHeld};
 ghost use Rattle.tasks.specs.Valid.{IsValid};
 ghost use Rattle.declarations.specs.Said.{own_said};
-ghost use Rattle.algebraic_forms.specs.Groups.{algebraic_rule};
+ghost use Rattle.tr_algebraic.specs.algebraic_forms.Groups.{algebraic_rule};
 ghost use Rattle.tr_algebraic.specs.algebraic_tasks.Plain.{task_with_laws};
 
-use algebraic_forms::push_in_place;
+use crate::algebraic_forms::push_in_place;
 use declarations::{FactSearch, RewriteDeclarations, own_origin, rewritten_tasks};
 use std::alloc::{AllocError, Global};
 use tasks::{Decl, Signature, Store, Task};

@@ -4,7 +4,7 @@ ghost use Rattle.tasks.specs.Task.{SymbolTree};
 ghost use Rattle.tasks.specs.Meaning.{declarations_at};
 ghost use Rattle.tr_algebraic.specs.algebraic_tasks.Origins.{placed_from, origins};
 
-use algebraic_forms::{LawKind, LawSearch, search_laws};
+use crate::algebraic_forms::{LawKind, LawSearch, search_laws};
 use tasks::{Body, Decl, Store};
 
 /// A proposition of the old task, by its number, or a law of an algebraic type.

@@ -14,9 +14,9 @@ ghost use Rattle.tr_algebraic.specs.law_evidence.Shapes.{
 };
 ghost use Rattle.tr_algebraic.specs.law_evidence.Laws.{IsLawOf};
 
+use crate::algebraic_forms::LawKind;
 use crate::law_evidence::cases::refute_exhaustion;
 use crate::law_evidence::opening::{by_new_parameter, open_body};
-use algebraic_forms::LawKind;
 use evidence::proof_scripts::{Line, Word, derive};
 use evidence::{Draft, negation};
 use std::alloc::AllocError;

@@ -1,6 +1,6 @@
 use Rattle.std.proofs.Common.{ℕ, inl, inr, subst}
 use Rattle.tasks.specs.trees.Node.{tree_at}
-use Rattle.algebraic_forms.specs.declared.origins.LawKind.{LawKind}
+use Rattle.tr_algebraic.specs.declared.algebraic_forms.origins.LawKind.{LawKind}
 use Rattle.tr_algebraic.specs.law_evidence.Shapes.{Quantified, IsProjected, AreApart, IsProjectedOrApart}
 use Rattle.tr_algebraic.specs.law_evidence.Laws.{IsLawOf}
 use Rattle.tr_algebraic.proofs.law_evidence.Shapes.{quantified_more}

@@ -1,5 +1,0 @@
-use Rattle.std.proofs.Common.{length}
-use Rattle.algebraic_forms.proofs.cases.+cases_of.Given as goal
-
-abbrev pub decreases-cases_of : goal.decreases-cases_of
-decreases-cases_of l = length l.cons.now

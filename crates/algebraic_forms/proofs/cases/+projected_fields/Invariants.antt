@@ -1,5 +1,0 @@
-use Rattle.std.proofs.Common.{length}
-use Rattle.algebraic_forms.proofs.cases.+projected_fields.Given as goal
-
-abbrev pub decreases-projected_fields : goal.decreases-projected_fields
-decreases-projected_fields l = length l.projections.now

@@ -1,5 +1,0 @@
-use Rattle.std.proofs.Common.{length}
-use Rattle.algebraic_forms.proofs.decls.+push_constructors.Given as goal
-
-abbrev pub decreases-push_constructors : goal.decreases-push_constructors
-decreases-push_constructors l = length l.cons.now

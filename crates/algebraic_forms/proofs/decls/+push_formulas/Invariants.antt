@@ -1,5 +1,0 @@
-use Rattle.std.proofs.Common.{length}
-use Rattle.algebraic_forms.proofs.decls.+push_formulas.Given as goal
-
-abbrev pub decreases-push_formulas : goal.decreases-push_formulas
-decreases-push_formulas l = length l.formulas.now

@@ -1,5 +1,0 @@
-use Rattle.std.proofs.Common.{length}
-use Rattle.algebraic_forms.proofs.decls.+push_laws.Given as goal
-
-abbrev pub decreases-push_laws : goal.decreases-push_laws
-decreases-push_laws l = length l.types.now

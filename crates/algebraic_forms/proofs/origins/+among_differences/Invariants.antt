@@ -1,5 +1,0 @@
-use Rattle.std.proofs.Common.{length}
-use Rattle.algebraic_forms.proofs.origins.+among_differences.Given as goal
-
-abbrev pub decreases-among_differences : goal.decreases-among_differences
-decreases-among_differences l = length l.cons.now

@@ -1,5 +1,0 @@
-use Rattle.std.proofs.Common.{length}
-use Rattle.algebraic_forms.proofs.origins.+among_projections.Given as goal
-
-abbrev pub decreases-among_projections : goal.decreases-among_projections
-decreases-among_projections l = length l.cons.now

@@ -1,5 +1,0 @@
-use Rattle.std.proofs.Common.{length}
-use Rattle.algebraic_forms.proofs.origins.+search_laws.Given as goal
-
-abbrev pub decreases-search_laws : goal.decreases-search_laws
-decreases-search_laws l = length l.types.now

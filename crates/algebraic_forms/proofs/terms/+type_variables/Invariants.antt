@@ -1,4 +1,0 @@
-use Rattle.algebraic_forms.proofs.terms.+type_variables.Given as goal
-
-abbrev pub decreases-type_variables : goal.decreases-type_variables
-decreases-type_variables l = l.many

@@ -1,7 +1,0 @@
-pub use Rattle.declarations.specs as declarations
-pub mod Formulas
-pub mod Groups
-pub mod Making
-pub mod Search
-pub mod NoMatch
-pub mod Laws

@@ -1,0 +1,3 @@
+pub mod NoMatch
+pub mod Typed
+pub mod Kept
