@@ -1,20 +1,20 @@
 -- The rule at the type instance of a typed node is the type instance of the rule at the node.
 use Rattle.std.proofs.Common.{◌≡◌, ℕ, ◌==◌, inl, Bool, true, false, if◌then◌else◌, List, [], ◌∷◌, map, length, get_or, refl, sym, ap, ◌∙◌}
-use Rattle.trees.specs.declared.Sort.TheVariants.{Kind, Term}
-use Rattle.trees.specs.Tree.{Tree, Leaf, One, Two, Three, HTyVar, HFun, HPred}
-use Rattle.trees.specs.Binding.{inst_types, inst_many, TyVar, AreTypes, AreNoPatterns}
-use Rattle.trees.specs.Sorts.{sort_of, IsList}
-use Rattle.trees.specs.Facts.{Each}
-use Rattle.trees.specs.laws.Sorts.{term_no_vars, kind_no_vars}
-use Rattle.trees.proofs.Types.{loose_types}
-use Rattle.trees.proofs.Many.{inst_types_inst_many, inst_types_inst_types}
+use Rattle.tasks.specs.trees.declared.Sort.TheVariants.{Kind, Term}
+use Rattle.tasks.specs.trees.Tree.{Tree, Leaf, One, Two, Three, HTyVar, HFun, HPred}
+use Rattle.tasks.specs.trees.Binding.{inst_types, inst_many, TyVar, AreTypes, AreNoPatterns}
+use Rattle.tasks.specs.trees.Sorts.{sort_of, IsList}
+use Rattle.tasks.specs.trees.Facts.{Each}
+use Rattle.tasks.specs.trees.laws.Sorts.{term_no_vars, kind_no_vars}
+use Rattle.tasks.proofs.trees.Types.{loose_types}
+use Rattle.tasks.proofs.trees.Many.{inst_types_inst_many, inst_types_inst_types}
 use Rattle.tasks.specs.Vocabulary.{Vocabulary}
 use Rattle.tasks.specs.Typing.{members}
 use Rattle.tasks.specs.Valid.{VariablesBelow}
 use Rattle.tasks.proofs.TypeInstances.{below}
-use Rattle.images.specs.typing_laws.HasTyping.{HasTyping, IsTypeAt}
-use Rattle.images.proofs.typing_laws.Sorted.{has_sorts, kinds_only}
-use Rattle.images.proofs.typing_laws.TypeInstances.{at_one, members_at}
+use Rattle.evidence.specs.images.typing_laws.HasTyping.{HasTyping, IsTypeAt}
+use Rattle.evidence.proofs.images.typing_laws.Sorted.{has_sorts, kinds_only}
+use Rattle.evidence.proofs.images.typing_laws.TypeInstances.{at_one, members_at}
 use Rattle.inlining.specs.Inlining.{use_body, unfold_rule}
 use Rattle.inlining.proofs.Bodies.{IsBody}
 use Rattle.inlining.proofs.Uses.{IsTermHere, member_terms, function_count, predicate_count}

@@ -1,10 +1,10 @@
 -- The body of a definition of a valid task: it has its typing under the parameters, with the types of the symbol's entry.
 use Rattle.std.proofs.Common.{◌≡◌, ℕ, List, [], ◌∷◌, map, Option, Some, None, subst, refl, sym, ap, ◌∙◌}
 use Rattle.std.proofs.lemmas.Option.{slice_get-get_or}
-use Rattle.trees.specs.declared.Op.TheVariants.{Iff}
-use Rattle.trees.specs.declared.Sort.TheVariants.{Term, Formula}
-use Rattle.trees.specs.Tree.{Tree, Two, Three, HFun, HPred, HEq, HJoin}
-use Rattle.trees.specs.Sorts.{sort_of, type_of}
+use Rattle.tasks.specs.trees.declared.Op.TheVariants.{Iff}
+use Rattle.tasks.specs.trees.declared.Sort.TheVariants.{Term, Formula}
+use Rattle.tasks.specs.trees.Tree.{Tree, Two, Three, HFun, HPred, HEq, HJoin}
+use Rattle.tasks.specs.trees.Sorts.{sort_of, type_of}
 use Rattle.tasks.specs.declared.signature.SymbolKind.{SymbolKind}
 use Rattle.tasks.specs.declared.signature.SymbolKind.TheVariants.{Function, Predicate}
 use Rattle.tasks.specs.Task.{SymbolTree, DefinitionTree, int_symbol, symbol_or}
@@ -12,8 +12,8 @@ use Rattle.tasks.specs.Equations.{for_all, equated}
 use Rattle.tasks.specs.Vocabulary.{Vocabulary}
 use Rattle.tasks.specs.Typing.{entry}
 use Rattle.tasks.specs.Valid.{VariablesBelow, ParametersOf, IsDefinition}
-use Rattle.images.specs.typing_laws.HasTyping.{HasTyping}
-use Rattle.images.proofs.typing_laws.Sorted.{typed_has, formula_no_type}
+use Rattle.evidence.specs.images.typing_laws.HasTyping.{HasTyping}
+use Rattle.evidence.proofs.images.typing_laws.Sorted.{typed_has, formula_no_type}
 use Rattle.checks.specs.decl_checks.Structure.{defining_body}
 
 -- a list, last first, before another

@@ -1,18 +1,18 @@
 -- Inlining in one pass, by full bodies, is inlining pass by pass.
 use Rattle.std.proofs.Common.{◌≡◌, ℕ, ◌+◌, ◌==◌, Bool, true, false, if◌then◌else◌, List, [], get_or, Option, Some, None, subst, refl, sym, ap, ◌∙◌, arith}
 use Rattle.std.proofs.lemmas.Bool.Decides.{nat_tests}
-use Rattle.trees.specs.declared.Sort.TheVariants.{Kind}
-use Rattle.trees.specs.Tree.{Tree, Leaf, One, Two, Three, Head, HTyVar, HBound, HParam, HFun, HPred, head_of}
-use Rattle.trees.specs.Binding.{Change, change, leaf_by, inst_types, TyVar}
-use Rattle.trees.specs.Sorts.{sort_of, type_of, IsExpression}
+use Rattle.tasks.specs.trees.declared.Sort.TheVariants.{Kind}
+use Rattle.tasks.specs.trees.Tree.{Tree, Leaf, One, Two, Three, Head, HTyVar, HBound, HParam, HFun, HPred, head_of}
+use Rattle.tasks.specs.trees.Binding.{Change, change, leaf_by, inst_types, TyVar}
+use Rattle.tasks.specs.trees.Sorts.{sort_of, type_of, IsExpression}
 use Rattle.tasks.specs.declared.signature.SymbolKind.{SymbolKind}
 use Rattle.tasks.specs.declared.signature.SymbolKind.TheVariants.{Function, Predicate}
 use Rattle.tasks.specs.Vocabulary.{Vocabulary}
 use Rattle.tasks.proofs.TypeInstances.{IsSoundVocabulary}
-use Rattle.images.specs.Images.{image, IsOtherHead}
-use Rattle.images.specs.typing_laws.HasTyping.{HasTyping, IsTypeAt, KeepsTyping, IsTypedRule}
-use Rattle.images.proofs.typing_laws.TypeInstances.{at_one}
-use Rattle.images.proofs.TypedImages.{image_keeps_typing}
+use Rattle.evidence.specs.images.Images.{image, IsOtherHead}
+use Rattle.evidence.specs.images.typing_laws.HasTyping.{HasTyping, IsTypeAt, KeepsTyping, IsTypedRule}
+use Rattle.evidence.proofs.images.typing_laws.TypeInstances.{at_one}
+use Rattle.evidence.proofs.images.TypedImages.{image_keeps_typing}
 use Rattle.inlining.specs.Inlining.{use_body}
 use Rattle.inlining.specs.FullBodies.{use_rule}
 use Rattle.inlining.proofs.Bodies.{IsBodyOf, IsBody}

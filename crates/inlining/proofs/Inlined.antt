@@ -1,13 +1,13 @@
 -- A task with definitions inlined is valid where it isn't too large.
 use Rattle.std.proofs.Common.{ℕ, ◌≤◌, Bool, true, false, if◌then◌else◌, List, [], ◌∷◌, suc, All, ◌∙◌, arith}
 use Rattle.std.proofs.lemmas.List.Elements.{All-cons, All-nil, All-append}
-use Rattle.trees.specs.Tree.{Tree}
+use Rattle.tasks.specs.trees.Tree.{Tree}
 use Rattle.tasks.specs.Task.{DefinitionTree, BodyTree, MakesType, Makes, Defines, Induces, Constructs, Says, DeclarationTree, TaskTree, nodes}
 use Rattle.tasks.specs.Vocabulary.{Vocabulary, of_task}
 use Rattle.tasks.specs.Valid.{IsDefinition, IsValidBody, IsValidDecl, IsValid}
 use Rattle.tasks.proofs.TypeInstances.{IsSoundVocabulary, sound_task}
-use Rattle.images.specs.typing_laws.HasTyping.{HasTyping, KeepsTyping}
-use Rattle.images.proofs.TypedImages.{image_keeps_typing}
+use Rattle.evidence.specs.images.typing_laws.HasTyping.{HasTyping, KeepsTyping}
+use Rattle.evidence.proofs.images.TypedImages.{image_keeps_typing}
 use Rattle.inlining.specs.declared.modes.InlineMode.{InlineMode}
 use Rattle.inlining.specs.declared.modes.InlineMode.TheVariants as mode
 use Rattle.checks.specs.decl_checks.Structure.{defining_body}

@@ -1,13 +1,13 @@
 -- A formula with definitions inlined, at types, is the formula at types with the definitions inlined.
 use Rattle.std.proofs.Common.{◌≡◌, ℕ, List, [], ◌∷◌, get_or, suc, All, refl, ap, ◌∙◌, arith}
-use Rattle.trees.specs.Tree.{Tree}
-use Rattle.trees.specs.Binding.{inst_types, TyVar}
+use Rattle.tasks.specs.trees.Tree.{Tree}
+use Rattle.tasks.specs.trees.Binding.{inst_types, TyVar}
 use Rattle.tasks.specs.Task.{DefinitionTree}
 use Rattle.tasks.specs.Vocabulary.{Vocabulary}
 use Rattle.tasks.specs.Valid.{IsDefinition}
 use Rattle.tasks.proofs.TypeInstances.{IsSoundVocabulary}
-use Rattle.images.specs.typing_laws.HasTyping.{HasTyping, IsTypeAt}
-use Rattle.images.proofs.TypedImages.{image_at_types}
+use Rattle.evidence.specs.images.typing_laws.HasTyping.{HasTyping, IsTypeAt}
+use Rattle.evidence.proofs.images.TypedImages.{image_at_types}
 use Rattle.checks.specs.decl_checks.Structure.{defining_body}
 use Rattle.inlining.specs.Inlining.{unfold_rule, with_uses_unfolded, inlined}
 use Rattle.inlining.proofs.Bodies.{defined_body}

@@ -1,3 +1,4 @@
+pub use Rattle.evidence.proofs.images as images
 pub mod Rows
 pub mod Bodies
 pub mod Uses
@@ -10,4 +11,3 @@ pub mod ImageChanges
 pub mod UsesChanged
 pub mod FullBodies
 pub mod SinglePass
-pub use Rattle.images.proofs as images

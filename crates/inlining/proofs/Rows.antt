@@ -1,9 +1,9 @@
 -- Worked rows by computation: one definition with_uses_unfolded, which bodies are trivial, and tasks.
 use Rattle.std.proofs.Common.{◌≡◌, ℕ, List, [], ◌∷◌, None, pos, true, false, refl, codes, Ok}
-use Rattle.trees.specs.Tree.{Tree, Leaf, Two, Three, HTyVar, HEnd, HNum, HFun, HPred, HEq, HTrue, HJoin, HForall, HExists, HIf, HLet}
-use Rattle.trees.specs.Binding.{Bound, Param}
-use Rattle.trees.specs.Sorts.{int_type}
-use Rattle.trees.specs.declared.Op.TheVariants.{Iff, Or}
+use Rattle.tasks.specs.trees.Tree.{Tree, Leaf, Two, Three, HTyVar, HEnd, HNum, HFun, HPred, HEq, HTrue, HJoin, HForall, HExists, HIf, HLet}
+use Rattle.tasks.specs.trees.Binding.{Bound, Param}
+use Rattle.tasks.specs.trees.Sorts.{int_type}
+use Rattle.tasks.specs.trees.declared.Op.TheVariants.{Iff, Or}
 use Rattle.tasks.specs.Task.{DefinitionTree, BodyTree, Defines, Says, DeclarationTree, TaskTree}
 use Rattle.tasks.specs.Equations.{cells}
 use Rattle.inlining.specs.declared.modes.InlineMode.TheVariants as mode

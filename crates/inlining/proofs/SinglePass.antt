@@ -1,24 +1,24 @@
 -- One pass by full bodies is the passes of the definitions, from the last to the first.
 use Rattle.std.proofs.Common.{◌≡◌, ℕ, ◌+◌, ◌<◌, ◌==◌, ◌⊎◌, inl, inr, Bool, true, false, if◌then◌else◌, List, [], ◌∷◌, ◌++◌, map, length, get_or, zero, suc, All, Option, subst, refl, sym, ap, ◌∙◌, arith}
-use Rattle.trees.specs.declared.Sort.{Sort}
-use Rattle.trees.specs.declared.Sort.TheVariants.{Kind, Term}
-use Rattle.trees.specs.declared.Sort.TheVariants as sort
-use Rattle.trees.specs.Tree.{Tree, Leaf, One, Two, Three, Head, HBound, HParam, HNum, HTrue, HFalse, HNot, HPatAny, HPatVar, HPatAlias, HEnd, HCell, HArm, HLet, HCase, HIf, HFun, HPred, head_of}
-use Rattle.trees.specs.Binding.{inst_types, inst_many, TyVar}
-use Rattle.trees.specs.Sorts.{sort_of, yield, top_sort, first_sort, IsList, IsListOf}
-use Rattle.trees.specs.Facts.{Each}
+use Rattle.tasks.specs.trees.declared.Sort.{Sort}
+use Rattle.tasks.specs.trees.declared.Sort.TheVariants.{Kind, Term}
+use Rattle.tasks.specs.trees.declared.Sort.TheVariants as sort
+use Rattle.tasks.specs.trees.Tree.{Tree, Leaf, One, Two, Three, Head, HBound, HParam, HNum, HTrue, HFalse, HNot, HPatAny, HPatVar, HPatAlias, HEnd, HCell, HArm, HLet, HCase, HIf, HFun, HPred, head_of}
+use Rattle.tasks.specs.trees.Binding.{inst_types, inst_many, TyVar}
+use Rattle.tasks.specs.trees.Sorts.{sort_of, yield, top_sort, first_sort, IsList, IsListOf}
+use Rattle.tasks.specs.trees.Facts.{Each}
 use Rattle.tasks.specs.Task.{DefinitionTree}
 use Rattle.tasks.specs.Vocabulary.{Vocabulary}
 use Rattle.tasks.specs.Typing.{members, bound_types}
 use Rattle.tasks.specs.Valid.{IsDefinition}
 use Rattle.tasks.proofs.TypeInstances.{IsSoundVocabulary}
 use Rattle.checks.specs.decl_checks.Structure.{defining_body}
-use Rattle.images.specs.Images.{image, IsOtherHead}
-use Rattle.images.proofs.Images.{first_of}
-use Rattle.images.specs.typing_laws.HasTyping.{HasTyping, IsTypeAt}
-use Rattle.images.proofs.typing_laws.Sorted.{has_sorts}
-use Rattle.images.proofs.typing_laws.TypeInstances.{has_types}
-use Rattle.images.proofs.TypedImages.{image_type, image_keeps_typing, image_at_types, like}
+use Rattle.evidence.specs.images.Images.{image, IsOtherHead}
+use Rattle.evidence.proofs.images.Images.{first_of}
+use Rattle.evidence.specs.images.typing_laws.HasTyping.{HasTyping, IsTypeAt}
+use Rattle.evidence.proofs.images.typing_laws.Sorted.{has_sorts}
+use Rattle.evidence.proofs.images.typing_laws.TypeInstances.{has_types}
+use Rattle.evidence.proofs.images.TypedImages.{image_type, image_keeps_typing, image_at_types, like}
 use Rattle.inlining.specs.Inlining.{use_body, unfold_rule, inlined}
 use Rattle.inlining.specs.FullBodies.{use_rule, next_rule, full_rule_from, full_rule}
 use Rattle.inlining.proofs.Bodies.{onto, IsBody, defined_body}

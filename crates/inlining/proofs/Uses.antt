@@ -1,14 +1,14 @@
 -- A body at the types and arguments of a use has the typing, sort and type of the use, and nothing that the use doesn't have.
 use Rattle.std.proofs.Common.{◌≡◌, ℕ, zero, suc, ◌+◌, ◌<◌, ◌≤◌, ◌⊎◌, inl, inr, IsSomeAnd, Bool, true, false, ◌==◌, if◌then◌else◌, List, [], ◌∷◌, ◌++◌, map, length, get_or, slice_get, Option, Some, None, option_map, subst, refl, sym, ap, ◌∙◌, arith, append_assoc}
 use Rattle.std.proofs.lemmas.Bool.Decides.{nat_tests}
-use Rattle.trees.specs.declared.Sort.{Sort}
-use Rattle.trees.specs.declared.Sort.TheVariants.{Kind, Term, Formula}
-use Rattle.trees.specs.Tree.{Tree, Leaf, One, Two, Three, Head, HCell, HFun, HPred, head_of, above_params, loose}
-use Rattle.trees.specs.Binding.{inst_types, TyVar}
-use Rattle.trees.specs.Sorts.{WellSorted, sort_of, type_of, first_sort, IsList, IsListOf, IsExpression}
-use Rattle.trees.specs.Facts.{Each}
-use Rattle.trees.proofs.Many.{left_at, right_at, length_joined}
-use Rattle.trees.proofs.Sizes.{sorted_fits}
+use Rattle.tasks.specs.trees.declared.Sort.{Sort}
+use Rattle.tasks.specs.trees.declared.Sort.TheVariants.{Kind, Term, Formula}
+use Rattle.tasks.specs.trees.Tree.{Tree, Leaf, One, Two, Three, Head, HCell, HFun, HPred, head_of, above_params, loose}
+use Rattle.tasks.specs.trees.Binding.{inst_types, TyVar}
+use Rattle.tasks.specs.trees.Sorts.{WellSorted, sort_of, type_of, first_sort, IsList, IsListOf, IsExpression}
+use Rattle.tasks.specs.trees.Facts.{Each}
+use Rattle.tasks.proofs.trees.Many.{left_at, right_at, length_joined}
+use Rattle.tasks.proofs.trees.Sizes.{sorted_fits}
 use Rattle.tasks.specs.declared.signature.SymbolKind.{SymbolKind}
 use Rattle.tasks.specs.declared.signature.SymbolKind.TheVariants.{Function, Predicate}
 use Rattle.tasks.specs.declared.signature.SymbolKind.TheVariants as kinds
@@ -18,11 +18,11 @@ use Rattle.tasks.specs.Typing.{members, entry, IsUse, HasResult, MakesTerms, Typ
 use Rattle.tasks.specs.Valid.{VariablesBelow, ParametersOf}
 use Rattle.tasks.proofs.TypeInstances.{IsSoundVocabulary}
 use Rattle.tasks.proofs.KeptInstances.{parameters_longer, parameters_within}
-use Rattle.images.specs.Images.{IsOtherHead, KeepsTree, IsNodeRule}
-use Rattle.images.specs.typing_laws.HasTyping.{HasSorts, HasTyping, IsTypeAt, AreTermsFor, KeepsTyping, IsTypedRule}
-use Rattle.images.proofs.typing_laws.Sorted.{has_sorts, has_typed, typed_has, has_closed, has_further, kind_has}
-use Rattle.images.proofs.typing_laws.TypeInstances.{sort_at, type_at, has_types, variables_below_at, no_parameters_at}
-use Rattle.images.proofs.typing_laws.Changes.{many_has, many_sort, many_type, many_variables, many_above_params, many_parameters}
+use Rattle.evidence.specs.images.Images.{IsOtherHead, KeepsTree, IsNodeRule}
+use Rattle.evidence.specs.images.typing_laws.HasTyping.{HasSorts, HasTyping, IsTypeAt, AreTermsFor, KeepsTyping, IsTypedRule}
+use Rattle.evidence.proofs.images.typing_laws.Sorted.{has_sorts, has_typed, typed_has, has_closed, has_further, kind_has}
+use Rattle.evidence.proofs.images.typing_laws.TypeInstances.{sort_at, type_at, has_types, variables_below_at, no_parameters_at}
+use Rattle.evidence.proofs.images.typing_laws.Changes.{many_has, many_sort, many_type, many_variables, many_above_params, many_parameters}
 use Rattle.inlining.specs.Inlining.{use_body, unfold_rule}
 use Rattle.inlining.proofs.Bodies.{onto, map_onto, IsBodyOf, IsBody}
 

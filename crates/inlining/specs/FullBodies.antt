@@ -1,9 +1,9 @@
 -- Inlining in one pass: each definition's body with the definitions before it inlined, and one rule for the uses of all.
 use Rattle.std.specs.Prelude.{ℕ, ◌==◌, if◌then◌else◌, List, [], ◌∷◌}
-use Rattle.trees.specs.Tree.{Tree, Two, Three, HFun, HPred}
+use Rattle.tasks.specs.trees.Tree.{Tree, Two, Three, HFun, HPred}
 use Rattle.tasks.specs.Task.{DefinitionTree}
 use Rattle.checks.specs.decl_checks.Structure.{defining_body}
-use Rattle.images.specs.Images.{image}
+use Rattle.evidence.specs.images.Images.{image}
 use Rattle.inlining.specs.Inlining.{use_body}
 
 -- a use of this symbol becomes this body, and at any other node another rule acts

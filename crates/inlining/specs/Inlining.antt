@@ -2,12 +2,12 @@
 -- "inline_all", "inline_goal", "inline_trivial").
 use Rattle.std.specs.Prelude.{ℕ, ◌==◌, Bool, true, false, not, ◌&&◌, if◌then◌else◌, List, [], ◌∷◌, ◌++◌, Result, Ok}
 use Rattle.std.specs.List.{list_any}
-use Rattle.trees.specs.Tree.{Tree, Leaf, One, Two, Three, HCell, HBound, HNum, HFun, HPred, HEq}
-use Rattle.trees.specs.Binding.{inst_types, inst_many}
+use Rattle.tasks.specs.trees.Tree.{Tree, Leaf, One, Two, Three, HCell, HBound, HNum, HFun, HPred, HEq}
+use Rattle.tasks.specs.trees.Binding.{inst_types, inst_many}
 use Rattle.tasks.specs.Task.{DefinitionTree, BodyTree, Defines, DeclarationTree, TaskTree}
 use Rattle.tasks.specs.Copying.{with_goal}
 use Rattle.tasks.specs.Typing.{members}
-use Rattle.images.specs.Images.{image}
+use Rattle.evidence.specs.images.Images.{image}
 use Rattle.inlining.specs.declared.modes.InlineMode.{InlineMode}
 use Rattle.inlining.specs.declared.modes.InlineMode.TheVariants as mode
 use Rattle.checks.specs.decl_checks.Structure.{defining_body}

@@ -1,16 +1,16 @@
 -- The laws of the crate, as statements.
 use Rattle.std.specs.Prelude.{◌≡◌, ℕ, ◌≤◌, List, length, All, get_or}
-use Rattle.trees.specs.declared.Op.TheVariants.{Iff}
-use Rattle.trees.specs.Tree.{Tree, Two, Three, HFun, HPred, HEq, HJoin, loose}
-use Rattle.trees.specs.Binding.{inst_types, inst_many, TyVar, AreClosed}
+use Rattle.tasks.specs.trees.declared.Op.TheVariants.{Iff}
+use Rattle.tasks.specs.trees.Tree.{Tree, Two, Three, HFun, HPred, HEq, HJoin, loose}
+use Rattle.tasks.specs.trees.Binding.{inst_types, inst_many, TyVar, AreClosed}
 use Rattle.tasks.specs.Task.{DefinitionTree, TaskTree, nodes}
 use Rattle.tasks.specs.Equations.{cells, type_variables, bound_variables}
 use Rattle.tasks.specs.Vocabulary.{Vocabulary}
 use Rattle.tasks.specs.Valid.{IsDefinition, IsValid}
 use Rattle.tasks.proofs.TypeInstances.{IsSoundVocabulary}
 use Rattle.checks.specs.decl_checks.Structure.{defining_body}
-use Rattle.images.specs.Images.{IsNodeRule, image}
-use Rattle.images.specs.typing_laws.HasTyping.{HasTyping, IsTypeAt, IsTypedRule}
+use Rattle.evidence.specs.images.Images.{IsNodeRule, image}
+use Rattle.evidence.specs.images.typing_laws.HasTyping.{HasTyping, IsTypeAt, IsTypedRule}
 use Rattle.inlining.specs.declared.modes.InlineMode.{InlineMode}
 use Rattle.inlining.specs.Inlining.{unfold_rule, inlined, inlined_task}
 use Rattle.inlining.specs.FullBodies.{full_rule}

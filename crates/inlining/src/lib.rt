@@ -1,5 +1,6 @@
-//! Inlining: which definitions are inlined, and what a task becomes; laws of the rule at one node (it keeps typing, at types too), of one
-//! pass in place of one for each definition, of the new task (it is valid), and of a definition's equation at a use.
+//! What definitions give where they are used. Inlining: which definitions are inlined, and what a task becomes; laws of the rule at one
+//! node (it keeps typing, at types too), of one pass in place of one for each definition, of the new task (it is valid), and of a
+//! definition's equation at a use. And the equations of recursive definitions, by branches.
 //!
 //! Contract: definitions and laws; the modes.
 #![tactic(auto)]
@@ -13,6 +14,7 @@ ghost use Rattle.inlining.specs.Laws.{
   PredicatesAtUses,
 };
 
+pub mod branch_equations;
 mod modes;
 
 pub use modes::InlineMode;

@@ -23,8 +23,8 @@ use Rattle.inlining.proofs.images.OpenInstances.{for_all_opens}
 use Rattle.checks.specs.decl_checks.Structure.{defining_body}
 use Rattle.inlining.proofs.Bodies.{onto, under_typed, under_body}
 use Rattle.inlining.proofs.Equations.{function_there, predicate_there}
-use Rattle.branch_equations.specs.Branches.{ConstructorBranch, is_plain_field, field_type, below_quantifiers, quantifiers, parameters_before, parameters_after, branch_types, branch_sides, branch_equation, are_different}
-use Rattle.branch_equations.specs.Laws.{BranchesAtTerms}
+use Rattle.inlining.specs.branch_equations.Branches.{ConstructorBranch, is_plain_field, field_type, below_quantifiers, quantifiers, parameters_before, parameters_after, branch_types, branch_sides, branch_equation, are_different}
+use Rattle.inlining.specs.branch_equations.Laws.{BranchesAtTerms}
 use Rattle.tr_recursion.specs.branch_instances.Instances.{IsSymbolUse, SaysChosen}
 use Rattle.tr_recursion.specs.branch_instances.Chosen.{arms_of, has_plain_fields, branch_pattern, IsChosenOf}
 use Rattle.tr_recursion.proofs.branch_instances.Arms.{variable_count, cells_vars}

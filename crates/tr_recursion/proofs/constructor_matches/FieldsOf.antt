@@ -24,7 +24,7 @@ use Rattle.inlining.proofs.images.Constructors.{con_projections}
 use Rattle.inlining.proofs.images.PatternTyping.{IsConPattern, con_pattern}
 use Rattle.inlining.proofs.images.DataTerms.{IsTermUnder, cells_list, cells_typed, con_fields_typed, con_fields_types, rebuilt_typed, cells_members}
 use Rattle.tr_recursion.proofs.branch_instances.Projections.{projection_role}
-use Rattle.branch_equations.specs.Branches.{is_plain_field, is_variable_field, bound_fields}
+use Rattle.inlining.specs.branch_equations.Branches.{is_plain_field, is_variable_field, bound_fields}
 use Rattle.tr_recursion.specs.constructor_matches.Fields.{IsFieldOf, IsClosedField, AreEach}
 
 -- ---- a pattern of variables and wildcards

@@ -20,7 +20,7 @@ use Rattle.congruence.specs.tasks.typed_trees.instances.Instances.{AreFor}
 use Rattle.congruence.specs.kernel.rules.Forms.{alike}
 use Rattle.congruence.proofs.Scripts.{claim_equal}
 use Rattle.evidence.specs.Drafts.{DraftTree}
-use Rattle.branch_equations.specs.Branches.{is_plain_field, bound_fields}
+use Rattle.inlining.specs.branch_equations.Branches.{is_plain_field, bound_fields}
 use Rattle.tr_recursion.specs.branch_instances.Chosen.{branch_pattern}
 use Rattle.tr_recursion.specs.declared.constructor_matches.branches.FirstBranch.{FirstBranch}
 use Rattle.tr_recursion.specs.declared.constructor_matches.branches.OpenedBranch.{OpenedBranch}

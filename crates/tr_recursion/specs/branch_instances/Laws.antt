@@ -16,7 +16,7 @@ use Rattle.declarations.specs.Rewritten.{rewritten_task}
 use Rattle.declarations.specs.Said.{all_said}
 use Rattle.checks.specs.decl_checks.Structure.{defining_body}
 use Rattle.declarations.specs.spelled_groups.Spelled.{spelling_rule, spelling_said}
-use Rattle.branch_equations.specs.Branches.{ConstructorBranch, quantifiers, are_different, branch_equation, recursion_facts}
+use Rattle.inlining.specs.branch_equations.Branches.{ConstructorBranch, quantifiers, are_different, branch_equation, recursion_facts}
 use Rattle.tr_recursion.specs.branch_instances.Chosen.{arms_of, has_plain_fields}
 use Rattle.tr_recursion.specs.branch_instances.Instances.{SaysChosen}
 use Rattle.tr_recursion.specs.branch_instances.Origins.{IsOldFact}

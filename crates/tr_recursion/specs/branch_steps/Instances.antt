@@ -7,7 +7,7 @@ use Rattle.trees.specs.Binding.{inst_types, AreClosed}
 use Rattle.trees.specs.Node.{tree_at, Holds}
 use Rattle.tasks.specs.Task.{TaskTree, DefinitionTree, symbol_or}
 use Rattle.tasks.specs.Valid.{IsTypeOver}
-use Rattle.branch_equations.specs.Branches.{ConstructorBranch, matched_parameter, quantifiers, branch_equation}
+use Rattle.inlining.specs.branch_equations.Branches.{ConstructorBranch, matched_parameter, quantifiers, branch_equation}
 use Rattle.tr_recursion.specs.branch_instances.Chosen.{IsChosenOf}
 use Rattle.tr_inline.specs.full_bodies.inlining.images.Instances.{for_all_at}
 use Rattle.tr_inline.specs.full_bodies.checks.decl_checks.Structure.{defining_body}

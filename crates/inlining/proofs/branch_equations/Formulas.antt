@@ -2,11 +2,11 @@
 use Rattle.std.proofs.Common.{◌≡◌, ◌⊎◌, ℕ, ◌<◌, ◌≤◌, suc, Bool, true, false, if◌then◌else◌, List, [], ◌∷◌, map, length, All, Option, Some, None, inl, inr, subst, refl, sym, ap, ◌∙◌, arith}
 use Rattle.std.specs.List.{flat_map}
 use Rattle.std.proofs.lemmas.List.Elements.{All-cons, All-nil, All-append, All-weaker}
-use Rattle.plain_laws.proofs.Lists.{All-left, All-right}
-use Rattle.trees.specs.declared.Op.TheVariants.{Iff}
-use Rattle.trees.specs.declared.Sort.{Sort}
-use Rattle.trees.specs.Sorts.{sort_of}
-use Rattle.trees.specs.Tree.{Tree, Two, Three, Head, HFun, HPred, HEq, HJoin, size}
+use Rattle.tasks.proofs.plain_laws.Lists.{All-left, All-right}
+use Rattle.tasks.specs.trees.declared.Op.TheVariants.{Iff}
+use Rattle.tasks.specs.trees.declared.Sort.{Sort}
+use Rattle.tasks.specs.trees.Sorts.{sort_of}
+use Rattle.tasks.specs.trees.Tree.{Tree, Two, Three, Head, HFun, HPred, HEq, HJoin, size}
 use Rattle.tasks.specs.declared.signature.SymbolKind.{SymbolKind}
 use Rattle.tasks.specs.declared.signature.SymbolKind.TheVariants.{Function, Predicate}
 use Rattle.tasks.specs.Task.{SymbolTree, symbol_or, DefinitionTree, BodyTree, MakesType, Makes, Defines, Induces, Constructs, Says, made_by}
@@ -14,19 +14,19 @@ use Rattle.tasks.specs.Facts.{FactTree, equation_fact}
 use Rattle.tasks.specs.Vocabulary.{Vocabulary}
 use Rattle.tasks.specs.Equations.{equated, for_all}
 use Rattle.tasks.specs.Valid.{VariablesBelow, ParametersOf, IsFormulaOver, IsTypeIn, IsDefinition, IsValidBody}
-use Rattle.images.specs.typing_laws.HasTyping.{HasTyping}
-use Rattle.images.proofs.typing_laws.Sorted.{typed_has, small_typed}
+use Rattle.evidence.specs.images.typing_laws.HasTyping.{HasTyping}
+use Rattle.evidence.proofs.images.typing_laws.Sorted.{typed_has, small_typed}
 use Rattle.checks.specs.recursive_groups.Groups.{is_recursive}
 use Rattle.checks.specs.decl_checks.Structure.{defining_body}
 use Rattle.inlining.proofs.Bodies.{onto, under_typed, under_variables, under_parameters, under_body}
 use Rattle.declarations.specs.Rewritten.{AreUsable}
 use Rattle.declarations.specs.spelled_groups.Spelled.{IsSpellable, IsSayable, PatternsAreUsable, IsSpelling}
 use Rattle.declarations.specs.spelled_groups.Inductives.{IsSmallTree}
-use Rattle.branch_equations.specs.Branches.{ConstructorBranch, matched_parameter, quantifiers, below_quantifiers, HasSides, branch_types, branch_sides, branch_equation, branch_fact, facts_by, member_facts, recursion_facts, branch_parameters}
-use Rattle.branch_equations.proofs.Terms.{IsBinderType}
-use Rattle.branch_equations.proofs.Matches.{IsMatch, matched_is, IsTypedBranch, IsTypedMatch, match_typed}
-use Rattle.branch_equations.proofs.Fields.{binder_type}
-use Rattle.branch_equations.proofs.Sides.{put_in, branch_kinds, parameters_there, body_put, IsGood, for_all_has}
+use Rattle.inlining.specs.branch_equations.Branches.{ConstructorBranch, matched_parameter, quantifiers, below_quantifiers, HasSides, branch_types, branch_sides, branch_equation, branch_fact, facts_by, member_facts, recursion_facts, branch_parameters}
+use Rattle.inlining.proofs.branch_equations.Terms.{IsBinderType}
+use Rattle.inlining.proofs.branch_equations.Matches.{IsMatch, matched_is, IsTypedBranch, IsTypedMatch, match_typed}
+use Rattle.inlining.proofs.branch_equations.Fields.{binder_type}
+use Rattle.inlining.proofs.branch_equations.Sides.{put_in, branch_kinds, parameters_there, body_put, IsGood, for_all_has}
 
 abbrev IsSmall : FactTree → Type 0
 IsSmall f = IsSmallTree f.formula

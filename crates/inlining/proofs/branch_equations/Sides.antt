@@ -3,25 +3,25 @@ use Rattle.std.proofs.Common.{◌≡◌, ℕ, ◌+◌, ◌-◌, ◌<◌, zero, s
 use Rattle.std.proofs.lemmas.List.{length-append, append-nil, take-append-drop}
 use Rattle.std.specs.List.{list_all}
 use Rattle.std.proofs.lemmas.List.Elements.{All-append}
-use Rattle.plain_laws.proofs.Lists.{All-left, All-right}
-use Rattle.trees.specs.declared.Sort.TheVariants.{Formula}
-use Rattle.trees.specs.Tree.{Tree}
-use Rattle.trees.specs.Binding.{inst_many}
-use Rattle.trees.specs.Sorts.{sort_of, type_of}
-use Rattle.trees.proofs.Many.{length_map}
+use Rattle.tasks.proofs.plain_laws.Lists.{All-left, All-right}
+use Rattle.tasks.specs.trees.declared.Sort.TheVariants.{Formula}
+use Rattle.tasks.specs.trees.Tree.{Tree}
+use Rattle.tasks.specs.trees.Binding.{inst_many}
+use Rattle.tasks.specs.trees.Sorts.{sort_of, type_of}
+use Rattle.tasks.proofs.trees.Many.{length_map}
 use Rattle.tasks.specs.Vocabulary.{Vocabulary}
 use Rattle.tasks.specs.Typing.{members, pattern_types}
 use Rattle.tasks.specs.Equations.{for_all}
 use Rattle.tasks.specs.Valid.{VariablesBelow, ParametersOf}
-use Rattle.images.specs.typing_laws.HasTyping.{HasTyping}
-use Rattle.images.proofs.typing_laws.Sorted.{has_sorts, has_further}
-use Rattle.images.proofs.typing_laws.Changes.{many_has, many_type, many_sort, many_variables, many_parameters}
+use Rattle.evidence.specs.images.typing_laws.HasTyping.{HasTyping}
+use Rattle.evidence.proofs.images.typing_laws.Sorted.{has_sorts, has_further}
+use Rattle.evidence.proofs.images.typing_laws.Changes.{many_has, many_type, many_sort, many_variables, many_parameters}
 use Rattle.inlining.proofs.Bodies.{onto}
 use Rattle.declarations.specs.spelled_groups.Spelled.{PatternsAreUsable}
-use Rattle.branch_equations.specs.Branches.{ConstructorBranch, is_plain_field, field_type, parameters_before, parameters_after, variables_above, branch_types, branch_fields, built_term, branch_parameters, pattern_fields}
-use Rattle.branch_equations.proofs.Terms.{IsBinderType, IsTermUnder, AreTermsUnder, terms_append, terms_for, terms_variables, terms_parameters, variables_under, onto_at, onto_append}
-use Rattle.branch_equations.proofs.Matches.{IsTypedBranch}
-use Rattle.branch_equations.proofs.Fields.{variable_types, fields_bind, fields_types, bound_under, built_under}
+use Rattle.inlining.specs.branch_equations.Branches.{ConstructorBranch, is_plain_field, field_type, parameters_before, parameters_after, variables_above, branch_types, branch_fields, built_term, branch_parameters, pattern_fields}
+use Rattle.inlining.proofs.branch_equations.Terms.{IsBinderType, IsTermUnder, AreTermsUnder, terms_append, terms_for, terms_variables, terms_parameters, variables_under, onto_at, onto_append}
+use Rattle.inlining.proofs.branch_equations.Matches.{IsTypedBranch}
+use Rattle.inlining.proofs.branch_equations.Fields.{variable_types, fields_bind, fields_types, bound_under, built_under}
 
 -- ---- a parameter, by the number of those after it
 onto_get : (args more : List Tree) (i k : ℕ) (e : Tree) → k + i + 1 ≡ length args → slice_get (onto args more) i ≡ Some (get_or args k e)

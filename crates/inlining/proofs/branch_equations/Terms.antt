@@ -3,15 +3,15 @@ use Rattle.std.proofs.Common.{◌≡◌, ℕ, ◌+◌, ◌<◌, zero, suc, List,
 use Rattle.std.proofs.Math.ListN.{get_or-append}
 use Rattle.std.proofs.Math.Seq.{get_or-append_seam}
 use Rattle.std.proofs.lemmas.List.{length-append, append-nil}
-use Rattle.trees.specs.declared.Sort.TheVariants.{Kind, Term}
-use Rattle.trees.specs.Tree.{Tree, One, HBound}
-use Rattle.trees.specs.Sorts.{sort_of, type_of}
+use Rattle.tasks.specs.trees.declared.Sort.TheVariants.{Kind, Term}
+use Rattle.tasks.specs.trees.Tree.{Tree, One, HBound}
+use Rattle.tasks.specs.trees.Sorts.{sort_of, type_of}
 use Rattle.tasks.specs.Vocabulary.{Vocabulary}
 use Rattle.tasks.specs.Valid.{VariablesBelow, ParametersOf}
-use Rattle.images.specs.typing_laws.HasTyping.{HasSorts, HasTyping, AreTermsFor}
-use Rattle.images.proofs.typing_laws.Sorted.{has_sorts}
+use Rattle.evidence.specs.images.typing_laws.HasTyping.{HasSorts, HasTyping, AreTermsFor}
+use Rattle.evidence.proofs.images.typing_laws.Sorted.{has_sorts}
 use Rattle.inlining.proofs.Bodies.{onto}
-use Rattle.branch_equations.specs.Branches.{variables_above}
+use Rattle.inlining.specs.branch_equations.Branches.{variables_above}
 
 -- a type that binders may have, with the type variables below a number
 pub record IsBinderType (v : Vocabulary) (vars : ℕ) (ty : Tree) : Type 0 where

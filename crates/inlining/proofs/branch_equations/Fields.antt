@@ -2,12 +2,12 @@
 use Rattle.std.proofs.Common.{◌≡◌, ℕ, ◌+◌, Bool, true, false, if◌then◌else◌, List, [], ◌∷◌, ◌++◌, map, All, Some, inl, inr, subst, refl, sym, ap, ◌∙◌, append_assoc}
 use Rattle.std.specs.List.{list_all}
 use Rattle.std.proofs.lemmas.List.Elements.{All-cons, All-nil}
-use Rattle.plain_laws.proofs.Bools.{and_first, and_second}
-use Rattle.trees.specs.declared.Sort.{Sort}
-use Rattle.trees.specs.declared.Sort.TheVariants as sort
-use Rattle.trees.specs.Tree.{Tree, Leaf, One, Two, Three, Head, HCell, HFun, HPatAny, HPatVar, HPatAlias, HPatCon}
-use Rattle.trees.specs.Sorts.{sort_of, type_of, IsList}
-use Rattle.trees.proofs.Types.{OnlyTypes}
+use Rattle.tasks.proofs.plain_laws.Bools.{and_first, and_second}
+use Rattle.tasks.specs.trees.declared.Sort.{Sort}
+use Rattle.tasks.specs.trees.declared.Sort.TheVariants as sort
+use Rattle.tasks.specs.trees.Tree.{Tree, Leaf, One, Two, Three, Head, HCell, HFun, HPatAny, HPatVar, HPatAlias, HPatCon}
+use Rattle.tasks.specs.trees.Sorts.{sort_of, type_of, IsList}
+use Rattle.tasks.proofs.trees.Types.{OnlyTypes}
 use Rattle.tasks.specs.declared.signature.SymbolKind.TheVariants.{Constructor}
 use Rattle.tasks.specs.Task.{SymbolTree}
 use Rattle.tasks.specs.Vocabulary.{Vocabulary}
@@ -15,14 +15,14 @@ use Rattle.tasks.specs.Typing.{members, pattern_types, bound_types, entry, OneTy
 use Rattle.tasks.specs.Equations.{cells}
 use Rattle.tasks.specs.Valid.{VariablesBelow, ParametersOf}
 use Rattle.tasks.proofs.TypeInstances.{some_kept}
-use Rattle.images.specs.typing_laws.HasTyping.{HasTyping}
-use Rattle.images.proofs.typing_laws.Sorted.{has_sorts, kinds_only, kind_has, types_parameters}
+use Rattle.evidence.specs.images.typing_laws.HasTyping.{HasTyping}
+use Rattle.evidence.proofs.images.typing_laws.Sorted.{has_sorts, kinds_only, kind_has, types_parameters}
 use Rattle.inlining.proofs.Bodies.{onto}
 use Rattle.declarations.specs.spelled_groups.Spelled.{PatternsAreUsable}
 use Rattle.declarations.specs.spelled_groups.Formulas.{members_cells}
-use Rattle.branch_equations.specs.Branches.{ConstructorBranch, is_plain_field, is_variable_field, field_type, bound_fields}
-use Rattle.branch_equations.proofs.Terms.{IsBinderType, IsTermUnder, AreTermsUnder}
-use Rattle.branch_equations.proofs.Matches.{IsTypedBranch}
+use Rattle.inlining.specs.branch_equations.Branches.{ConstructorBranch, is_plain_field, is_variable_field, field_type, bound_fields}
+use Rattle.inlining.proofs.branch_equations.Terms.{IsBinderType, IsTermUnder, AreTermsUnder}
+use Rattle.inlining.proofs.branch_equations.Matches.{IsTypedBranch}
 
 -- the types of the variables among fields
 abbrev pub variable_types : List Tree → List Tree

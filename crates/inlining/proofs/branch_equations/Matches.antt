@@ -4,14 +4,14 @@ use Rattle.std.specs.List.{list_all}
 use Rattle.std.specs.Option.{option_map}
 use Rattle.std.proofs.lemmas.Bool.Decides.{nat_tests}
 use Rattle.std.proofs.lemmas.List.Elements.{All-cons, All-nil}
-use Rattle.trees.specs.Tree.{Tree, Leaf, One, Two, Three, HEnd, HCell, HBound, HCase, HArm, HPatCon, head_of}
-use Rattle.trees.specs.Sorts.{sort_of, type_of}
+use Rattle.tasks.specs.trees.Tree.{Tree, Leaf, One, Two, Three, HEnd, HCell, HBound, HCase, HArm, HPatCon, head_of}
+use Rattle.tasks.specs.trees.Sorts.{sort_of, type_of}
 use Rattle.tasks.specs.Vocabulary.{Vocabulary}
 use Rattle.tasks.specs.Typing.{members, pattern_types, BranchesFit, BranchFits, first_body}
 use Rattle.tasks.specs.Valid.{VariablesBelow, ParametersOf}
-use Rattle.images.proofs.Images.{expression_sort, expression_type}
-use Rattle.images.specs.typing_laws.HasTyping.{HasTyping}
-use Rattle.branch_equations.specs.Branches.{ConstructorBranch, is_plain_field, constructor_branch, add_branch, constructor_branches, are_different, if_different, matched_parameter}
+use Rattle.evidence.proofs.images.Images.{expression_sort, expression_type}
+use Rattle.evidence.specs.images.typing_laws.HasTyping.{HasTyping}
+use Rattle.inlining.specs.branch_equations.Branches.{ConstructorBranch, is_plain_field, constructor_branch, add_branch, constructor_branches, are_different, if_different, matched_parameter}
 
 -- ---- the form
 pub record IsMatch (m : ℕ) (body : Tree) (i : ℕ) (bs : List ConstructorBranch) : Type 0 where

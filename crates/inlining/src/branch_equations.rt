@@ -1,10 +1,9 @@
-//! The equations of recursive definitions, by branches where a body is a `match` on one parameter: what they are, that they are
-//! formulas, and what they are at closed terms; no code.
-//!
-//! Contract: definitions and laws.
-#![tactic(auto)]
+// The equations of recursive definitions, by branches where a body is a `match` on one parameter: what they are, that they are
+// formulas, and what they are at closed terms; no code.
+//
+// Contract: definitions and laws.
 
-ghost use Rattle.branch_equations.specs.Laws.{BranchesAreFormulas, BranchesAtTerms};
+ghost use Rattle.inlining.specs.branch_equations.Laws.{BranchesAreFormulas, BranchesAtTerms};
 
 /// The laws of the equations of branches: what recursive definitions of a valid task say are formulas,
 /// where they are small; and at closed terms an equation says of the symbol, with the constructor on

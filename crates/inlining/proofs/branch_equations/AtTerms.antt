@@ -2,14 +2,14 @@
 use Rattle.std.proofs.Common.{◌≡◌, ℕ, ◌+◌, ◌≤◌, Bool, true, false, if◌then◌else◌, List, [], ◌∷◌, ◌++◌, map, length, get_or, subst, refl, sym, ap, ◌∙◌, arith, append_assoc}
 use Rattle.std.proofs.Math.Seq.{get_or-append_seam}
 use Rattle.std.proofs.lemmas.List.{length-append, append-nil, map-append}
-use Rattle.trees.specs.Tree.{Tree, One, Two, Three, Head, HBound, HFun, HCell, binders_over, loose}
-use Rattle.trees.specs.Binding.{change, instantiating_many, inst_many, AreClosed, AreNoPatterns}
-use Rattle.trees.proofs.Laws.{shift_closed}
-use Rattle.trees.proofs.Many.{many_at, closed_at, inst_many_closed, length_map}
+use Rattle.tasks.specs.trees.Tree.{Tree, One, Two, Three, Head, HBound, HFun, HCell, binders_over, loose}
+use Rattle.tasks.specs.trees.Binding.{change, instantiating_many, inst_many, AreClosed, AreNoPatterns}
+use Rattle.tasks.proofs.trees.Laws.{shift_closed}
+use Rattle.tasks.proofs.trees.Many.{many_at, closed_at, inst_many_closed, length_map}
 use Rattle.tasks.specs.Equations.{cells}
-use Rattle.images.proofs.OpenInstances.{composed}
-use Rattle.branch_equations.specs.Branches.{ConstructorBranch, field_type, is_variable_field, parameters_before, parameters_after, variables_above, branch_fields, built_term, branch_parameters, bound_fields, pattern_fields, branch_sides}
-use Rattle.branch_equations.specs.Laws.{terms_with, BranchesAtTerms}
+use Rattle.evidence.proofs.images.OpenInstances.{composed}
+use Rattle.inlining.specs.branch_equations.Branches.{ConstructorBranch, field_type, is_variable_field, parameters_before, parameters_after, variables_above, branch_fields, built_term, branch_parameters, bound_fields, pattern_fields, branch_sides}
+use Rattle.inlining.specs.branch_equations.Laws.{terms_with, BranchesAtTerms}
 
 -- ---- the variables of binders at terms
 variable_at : (pre : List Tree) (x : Tree) (rest : List Tree) (ty : Tree) → AreClosed (pre ++ x ∷ rest) → inst_many (One (HBound (length rest)) ty) (pre ++ x ∷ rest) ≡ x

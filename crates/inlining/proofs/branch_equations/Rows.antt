@@ -1,16 +1,16 @@
 -- Worked rows by computation: the branch equations of a recursive function, with a parameter on either side of the matched one, a
 -- wildcard, the matched parameter in a branch, and matches that stay whole.
 use Rattle.std.proofs.Common.{◌≡◌, ℕ, List, [], ◌∷◌, map, Some, None, true, pos, refl, codes}
-use Rattle.trees.specs.declared.Op.TheVariants.{Iff}
-use Rattle.trees.specs.Tree.{Tree, Leaf, One, Two, Three, HEnd, HNum, HTrue, HTyApp, HFun, HPred, HEq, HJoin, HForall, HCase, HArm, HPatVar, HPatAny, HPatCon}
-use Rattle.trees.specs.Binding.{Bound}
-use Rattle.trees.specs.Sorts.{int_type}
+use Rattle.tasks.specs.trees.declared.Op.TheVariants.{Iff}
+use Rattle.tasks.specs.trees.Tree.{Tree, Leaf, One, Two, Three, HEnd, HNum, HTrue, HTyApp, HFun, HPred, HEq, HJoin, HForall, HCase, HArm, HPatVar, HPatAny, HPatCon}
+use Rattle.tasks.specs.trees.Binding.{Bound}
+use Rattle.tasks.specs.trees.Sorts.{int_type}
 use Rattle.tasks.specs.declared.signature.SymbolKind.TheVariants.{Function, Predicate}
 use Rattle.tasks.specs.Task.{SymbolTree, int_symbol}
 use Rattle.tasks.specs.Equations.{cells, for_all}
 use Rattle.tasks.specs.Facts.{FactTree}
 use Rattle.checks.specs.recursive_groups.Groups.{is_recursive}
-use Rattle.branch_equations.specs.Branches.{member_facts}
+use Rattle.inlining.specs.branch_equations.Branches.{member_facts}
 
 -- `type n = Z | S n`; n is 1, Z is 2, S is 3, `function f n : int` is 4, `function g int n int : n` is 5, `predicate p n` is 6, `+` is 7,
 -- `function k int n int : n` is 8

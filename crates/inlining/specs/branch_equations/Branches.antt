@@ -3,11 +3,11 @@
 use Rattle.std.specs.Prelude.{◌≡◌, ℕ, suc, ◌+◌, ◌-◌, ◌==◌, nat_lt, Bool, true, false, ◌&&◌, not, if◌then◌else◌, List, [], ◌∷◌, ◌++◌, map, take, drop, length, Option, Some, None}
 use Rattle.std.specs.List.{flat_map, list_any, list_all}
 use Rattle.std.specs.Option.{option_map}
-use Rattle.trees.specs.Tree.{Tree, Leaf, One, Two, Three, HEnd, HCell, HBound, HFun, HEq, HJoin, HForall, HCase, HArm, HPatAny, HPatVar, HPatCon}
-use Rattle.trees.specs.Binding.{inst_many}
-use Rattle.trees.specs.declared.Op.TheVariants.{Iff}
-use Rattle.trees.specs.declared.Sort.{Sort}
-use Rattle.trees.specs.declared.Sort.TheVariants.{Term, Formula}
+use Rattle.tasks.specs.trees.Tree.{Tree, Leaf, One, Two, Three, HEnd, HCell, HBound, HFun, HEq, HJoin, HForall, HCase, HArm, HPatAny, HPatVar, HPatCon}
+use Rattle.tasks.specs.trees.Binding.{inst_many}
+use Rattle.tasks.specs.trees.declared.Op.TheVariants.{Iff}
+use Rattle.tasks.specs.trees.declared.Sort.{Sort}
+use Rattle.tasks.specs.trees.declared.Sort.TheVariants.{Term, Formula}
 use Rattle.tasks.specs.declared.facts.Fact.TheVariants.{Equation}
 use Rattle.tasks.specs.Task.{SymbolTree, symbol_or, DefinitionTree, Defines}
 use Rattle.tasks.specs.Typing.{members}

@@ -1,11 +1,11 @@
 -- The laws of the crate, as statements.
 use Rattle.std.specs.Prelude.{◌≡◌, ℕ, ◌≤◌, List, ◌∷◌, ◌++◌, length}
-use Rattle.trees.specs.Tree.{Tree, Two, Three, Head, HFun, binders_over, loose}
-use Rattle.trees.specs.Binding.{inst_many, AreClosed}
+use Rattle.tasks.specs.trees.Tree.{Tree, Two, Three, Head, HFun, binders_over, loose}
+use Rattle.tasks.specs.trees.Binding.{inst_many, AreClosed}
 use Rattle.tasks.specs.Equations.{cells}
 use Rattle.declarations.specs.spelled_groups.Spelled.{IsSpelling}
 use Rattle.declarations.specs.spelled_groups.Inductives.{IsSmallTree}
-use Rattle.branch_equations.specs.Branches.{ConstructorBranch, parameters_before, parameters_after, branch_parameters, pattern_fields, bound_fields, branch_sides, recursion_facts}
+use Rattle.inlining.specs.branch_equations.Branches.{ConstructorBranch, parameters_before, parameters_after, branch_parameters, pattern_fields, bound_fields, branch_sides, recursion_facts}
 
 -- only definitions are spelled out, and what is said of valid ones are formulas, where they are small
 abbrev pub BranchesAreFormulas : Type 0
