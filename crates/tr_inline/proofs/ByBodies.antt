@@ -17,15 +17,15 @@ use Rattle.evidence.specs.declared.stage.StageFault.{StageFault}
 use Rattle.walking.specs.rewriting.Faults.{IsLimitFault}
 use Rattle.walking.specs.rewriting.Formulas.{CanRewrite, IsFormulaIn}
 use Rattle.walking.specs.evidence.changed_tasks.Limits.{IsLarge}
-use Rattle.full_bodies.specs.inlining.declared.modes.InlineMode.{InlineMode}
-use Rattle.full_bodies.specs.inlining.Inlining.{inlined_definitions}
-use Rattle.full_bodies.specs.inlining.FullBodies.{full_rule}
-use Rattle.full_bodies.specs.inlining.images.Images.{image}
-use Rattle.full_bodies.specs.declared.uses.FullBody.{FullBody}
-use Rattle.full_bodies.specs.FullBodies.{rule_after, AreReady}
-use Rattle.full_bodies.proofs.inlining.Inlined.{inlined_defined}
-use Rattle.full_bodies.proofs.inlining.SinglePass.{single_pass}
-use Rattle.full_bodies.proofs.inlining.images.typing_laws.Sorted.{typed_has}
+use Rattle.inlining.specs.declared.modes.InlineMode.{InlineMode}
+use Rattle.inlining.specs.Inlining.{inlined_definitions}
+use Rattle.inlining.specs.FullBodies.{full_rule}
+use Rattle.inlining.specs.images.Images.{image}
+use Rattle.tr_inline.specs.declared.full_bodies.uses.FullBody.{FullBody}
+use Rattle.tr_inline.specs.full_bodies.FullBodies.{rule_after, AreReady}
+use Rattle.inlining.proofs.Inlined.{inlined_defined}
+use Rattle.inlining.proofs.SinglePass.{single_pass}
+use Rattle.inlining.proofs.images.typing_laws.Sorted.{typed_has}
 use Rattle.tr_inline.specs.Inlined.{inline_formula, AreBodiesOf, AreReadyBodies}
 
 -- a formula under the rule of the full bodies

@@ -18,10 +18,10 @@ use Rattle.congruence.proofs.Later.{tree_later}
 use Rattle.evidence.specs.Drafts.{DraftTree, Extends, Refutes, IsFormulaAt}
 use Rattle.evidence.specs.Facts.{IsFact}
 use Rattle.evidence.proofs.Formulas.{formula_later}
-use Rattle.full_bodies.specs.trees.binders.Visits.{HoldTypes}
+use Rattle.trees.specs.binders.Visits.{HoldTypes}
 use Rattle.walking.proofs.PlacesLater.{all_later, trees_later}
-use Rattle.full_bodies.specs.inlining.images.Instances.{for_all_at}
-use Rattle.full_bodies.specs.inlining.Inlining.{use_body}
+use Rattle.inlining.specs.images.Instances.{for_all_at}
+use Rattle.inlining.specs.Inlining.{use_body}
 use Rattle.tr_inline.specs.Lemmas.{IsLemma, TakesTerms}
 use Rattle.tr_inline.specs.Uses.{IsUseOf, IsNoUse, AreUseParts, IsFoundUse, IsClosedUse}
 use Rattle.tr_inline.specs.Definitions.{body_in, unfolding_rule, IsDefinedIn}

@@ -14,9 +14,9 @@ use Rattle.congruence.specs.declared.alike.AlikeBy.{AlikeBy}
 use Rattle.congruence.specs.kernel.Right.{IsGroundExpression}
 use Rattle.congruence.specs.Alike.{IsClosedAt, ArePair, Shows}
 use Rattle.congruence.proofs.Later.{tree_later, closed_later}
-use Rattle.full_bodies.specs.inlining.images.Images.{KeepsTree}
-use Rattle.full_bodies.proofs.inlining.Bodies.{IsBody, defined_body}
-use Rattle.full_bodies.proofs.inlining.Uses.{unfold_node_rule}
+use Rattle.inlining.specs.images.Images.{KeepsTree}
+use Rattle.inlining.proofs.Bodies.{IsBody, defined_body}
+use Rattle.inlining.proofs.Uses.{unfold_node_rule}
 use Rattle.tr_inline.specs.Uses.{IsUseOf}
 use Rattle.tr_inline.specs.Definitions.{body_in, unfolding_rule, IsDefinedIn}
 use Rattle.tr_inline.proofs.Unfolded.{body_of, use_same}

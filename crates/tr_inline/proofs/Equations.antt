@@ -22,12 +22,12 @@ use Rattle.tasks.proofs.TypeInstances.{sound_task, typed_types, formula_at_types
 use Rattle.congruence.specs.kernel.Right.{IsGroundExpression}
 use Rattle.congruence.specs.kernel.rules.Forms.{alike}
 use Rattle.evidence.specs.Facts.{at_symbol, fact_named, IsFact}
-use Rattle.full_bodies.specs.checks.decl_checks.Structure.{defining_body}
-use Rattle.full_bodies.specs.inlining.Inlining.{use_body}
-use Rattle.full_bodies.specs.inlining.images.Instances.{AreTypesClosed, for_all_at}
-use Rattle.full_bodies.proofs.inlining.images.OpenInstances.{for_all_opens}
-use Rattle.full_bodies.proofs.inlining.Bodies.{under_body}
-use Rattle.full_bodies.proofs.inlining.Equations.{equation_types, function_there, predicate_there}
+use Rattle.checks.specs.decl_checks.Structure.{defining_body}
+use Rattle.inlining.specs.Inlining.{use_body}
+use Rattle.inlining.specs.images.Instances.{AreTypesClosed, for_all_at}
+use Rattle.inlining.proofs.images.OpenInstances.{for_all_opens}
+use Rattle.inlining.proofs.Bodies.{under_body}
+use Rattle.inlining.proofs.Equations.{equation_types, function_there, predicate_there}
 use Rattle.tr_inline.specs.Lemmas.{TakesTerms}
 use Rattle.tr_inline.specs.Uses.{IsUseOf, IsClosedUse}
 use Rattle.tr_inline.proofs.Members.{cells_of, types_over, terms_closed, takes_from}

@@ -1,3 +1,5 @@
+pub use Rattle.inlining.proofs as inlining
+pub use Rattle.evidence.proofs as evidence
 pub mod Members
 pub mod Equations
 pub mod Scripts
@@ -8,5 +10,3 @@ pub mod ByBodies
 pub mod Limits
 pub mod PartlyInlined
 pub mod ClosedUses
-pub use Rattle.full_bodies.proofs as full_bodies
-pub use Rattle.evidence.proofs as evidence

@@ -8,8 +8,8 @@ use Rattle.evidence.specs.Drafts.{DraftTree}
 use Rattle.walking.specs.rewriting.Rewritten.{formulas_equation}
 use Rattle.walking.specs.rewriting.Faults.{IsLimitFault}
 use Rattle.walking.specs.declared.rewriting.formulas.FormulaScope.{FormulaScope}
-use Rattle.full_bodies.specs.inlining.declared.modes.InlineMode.{InlineMode}
-use Rattle.full_bodies.specs.inlining.Inlining.{inline_equation}
+use Rattle.inlining.specs.declared.modes.InlineMode.{InlineMode}
+use Rattle.inlining.specs.Inlining.{inline_equation}
 use Rattle.tr_inline.specs.Inlined.{inline_formula, mode_scope}
 use Rattle.tr_inline.specs.Kept.{same_equation, gives_rewritten}
 

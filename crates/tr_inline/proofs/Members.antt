@@ -16,9 +16,9 @@ use Rattle.tasks.specs.Valid.{IsGround, IsTypeOver}
 use Rattle.tasks.proofs.Closing.{typed_closed}
 use Rattle.congruence.specs.kernel.Right.{IsGroundExpression}
 use Rattle.congruence.proofs.Lists.{list_shape}
-use Rattle.full_bodies.specs.inlining.images.Instances.{AreTypesClosed}
-use Rattle.full_bodies.proofs.inlining.images.Images.{first_of}
-use Rattle.full_bodies.proofs.inlining.Equations.{forall_next}
+use Rattle.inlining.specs.images.Instances.{AreTypesClosed}
+use Rattle.inlining.proofs.images.Images.{first_of}
+use Rattle.inlining.proofs.Equations.{forall_next}
 use Rattle.tr_inline.specs.Lemmas.{TakesTerm, TakesTerms}
 
 -- a list is that of its members

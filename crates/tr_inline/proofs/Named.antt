@@ -16,13 +16,13 @@ use Rattle.evidence.specs.Drafts.{DraftTree}
 use Rattle.evidence.specs.Facts.{fact_named, at_symbol, IsFoundByName}
 use Rattle.evidence.specs.Stages.{IsOwnTask}
 use Rattle.evidence.proofs.FactNames.{all_named}
-use Rattle.full_bodies.specs.Listed.{AreDefsHeld}
-use Rattle.full_bodies.specs.checks.recursive_groups.Groups.{is_recursive}
-use Rattle.full_bodies.specs.checks.decl_checks.Structure.{defining_body}
-use Rattle.full_bodies.specs.inlining.declared.modes.InlineMode.{InlineMode}
-use Rattle.full_bodies.specs.inlining.declared.modes.InlineMode.TheVariants as mode
-use Rattle.full_bodies.specs.inlining.Inlining.{is_trivial, plain_definitions, all_definitions, trivial_definitions, inlined_definitions}
-use Rattle.full_bodies.proofs.inlining.Inlined.{inlined_defined}
+use Rattle.tr_inline.specs.full_bodies.Listed.{AreDefsHeld}
+use Rattle.checks.specs.recursive_groups.Groups.{is_recursive}
+use Rattle.checks.specs.decl_checks.Structure.{defining_body}
+use Rattle.inlining.specs.declared.modes.InlineMode.{InlineMode}
+use Rattle.inlining.specs.declared.modes.InlineMode.TheVariants as mode
+use Rattle.inlining.specs.Inlining.{is_trivial, plain_definitions, all_definitions, trivial_definitions, inlined_definitions}
+use Rattle.inlining.proofs.Inlined.{inlined_defined}
 use Rattle.tr_inline.specs.Definitions.{IsDefinedIn, AreDefinedIn}
 
 all_left : {X : Type 0} (P : X → Type 0) (xs ys : List X) → All P (xs ++ ys) → All P xs

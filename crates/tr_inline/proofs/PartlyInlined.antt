@@ -11,9 +11,9 @@ use Rattle.evidence.specs.Drafts.{DraftTree, Extends, IsFormulaAt}
 use Rattle.evidence.specs.Laws.{Extends_trans, AddsTrees_refl, AddsTrees_extends}
 use Rattle.congruence.specs.declared.alike.AlikeBy.TheVariants as alike
 use Rattle.congruence.proofs.Later.{tree_later}
-use Rattle.full_bodies.specs.checks.decl_checks.Structure.{defining_body}
-use Rattle.full_bodies.specs.inlining.Inlining.{unfold_rule, with_uses_unfolded, inlined}
-use Rattle.full_bodies.specs.inlining.images.Images.{image}
+use Rattle.checks.specs.decl_checks.Structure.{defining_body}
+use Rattle.inlining.specs.Inlining.{unfold_rule, with_uses_unfolded, inlined}
+use Rattle.inlining.specs.images.Images.{image}
 use Rattle.walking.specs.declared.linked.Linked.{Linked}
 use Rattle.walking.specs.Places.{IsInstanceAt, IsLinkOf}
 use Rattle.walking.proofs.Closed.{closed_place}

@@ -19,7 +19,7 @@ use Rattle.congruence.proofs.Later.{tree_later}
 use Rattle.evidence.specs.Drafts.{DraftTree, Extends, Refutes, IsFormulaAt}
 use Rattle.evidence.proofs.Formulas.{formula_later}
 use Rattle.evidence.proofs.Rules.{refutes_later}
-use Rattle.full_bodies.specs.inlining.images.Instances.{for_all_at}
+use Rattle.inlining.specs.images.Instances.{for_all_at}
 use Rattle.evidence.specs.proof_scripts.Scripts.{KeptLine, CutLine, TailLine, Follows}
 use Rattle.evidence.proofs.proof_scripts.Lines.{clash_line, forall_line}
 use Rattle.tr_inline.specs.declared.lemmas.Lemma.{Lemma}

@@ -19,17 +19,17 @@ use Rattle.congruence.specs.declared.alike.AlikeBy.TheVariants as alike
 use Rattle.congruence.specs.Alike.{ArePair, Shows}
 use Rattle.congruence.proofs.Later.{tree_later, held_later, closed_later, pair_later}
 use Rattle.congruence.proofs.tasks.typed_trees.instances.Typed.{many_type}
-use Rattle.full_bodies.specs.checks.decl_checks.Structure.{defining_body}
-use Rattle.full_bodies.specs.inlining.Inlining.{use_body, unfold_rule}
-use Rattle.full_bodies.specs.inlining.images.Images.{KeepsTree}
-use Rattle.full_bodies.specs.inlining.images.Open.{IsOpenUnder}
-use Rattle.full_bodies.proofs.inlining.images.Environments.{closed_for}
-use Rattle.full_bodies.proofs.inlining.images.typing_laws.Sorted.{typed_has}
-use Rattle.full_bodies.proofs.inlining.Bodies.{IsBody, defined_body}
-use Rattle.full_bodies.proofs.inlining.Uses.{unfold_node_rule}
-use Rattle.full_bodies.proofs.inlining.OpenInstances.{many_natural}
-use Rattle.full_bodies.proofs.inlining.ImageChanges.{IsNoVariable}
-use Rattle.full_bodies.proofs.inlining.UsesChanged.{rule_acts_alike}
+use Rattle.checks.specs.decl_checks.Structure.{defining_body}
+use Rattle.inlining.specs.Inlining.{use_body, unfold_rule}
+use Rattle.inlining.specs.images.Images.{KeepsTree}
+use Rattle.inlining.specs.images.Open.{IsOpenUnder}
+use Rattle.inlining.proofs.images.Environments.{closed_for}
+use Rattle.inlining.proofs.images.typing_laws.Sorted.{typed_has}
+use Rattle.inlining.proofs.Bodies.{IsBody, defined_body}
+use Rattle.inlining.proofs.Uses.{unfold_node_rule}
+use Rattle.inlining.proofs.OpenInstances.{many_natural}
+use Rattle.inlining.proofs.ImageChanges.{IsNoVariable}
+use Rattle.inlining.proofs.UsesChanged.{rule_acts_alike}
 use Rattle.walking.specs.Places.{types_for, IsInstanceAt, IsLinkOf}
 use Rattle.walking.proofs.Places.{place_closed, place_sort}
 use Rattle.walking.proofs.PlacesLater.{trees_later, place_later}

@@ -11,9 +11,9 @@ use Rattle.tasks.specs.Vocabulary.{of_task}
 use Rattle.tasks.specs.Valid.{IsDefinition, IsValid}
 use Rattle.evidence.specs.Drafts.{DraftTree, Extends}
 use Rattle.evidence.specs.Facts.{fact_named, at_symbol}
-use Rattle.full_bodies.specs.checks.decl_checks.Structure.{defining_body}
-use Rattle.full_bodies.specs.inlining.Inlining.{unfold_rule}
-use Rattle.full_bodies.specs.inlining.images.Images.{IsOtherHead}
+use Rattle.checks.specs.decl_checks.Structure.{defining_body}
+use Rattle.inlining.specs.Inlining.{unfold_rule}
+use Rattle.inlining.specs.images.Images.{IsOtherHead}
 
 abbrev pub formula_or_end : Option PropositionTree → Tree
 formula_or_end None = Leaf HEnd

@@ -10,13 +10,13 @@ use Rattle.evidence.specs.Drafts.{DraftTree, Refutes, IsFormulaAt}
 use Rattle.walking.specs.declared.rewriting.formulas.FormulaImage.{FormulaImage}
 use Rattle.walking.specs.declared.rewriting.formulas.FormulaScope.{FormulaScope}
 use Rattle.walking.specs.declared.rewriting.formulas.FormulaScope.TheVariants as scope
-use Rattle.full_bodies.specs.inlining.declared.modes.InlineMode.{InlineMode}
-use Rattle.full_bodies.specs.inlining.declared.modes.InlineMode.TheVariants as mode
-use Rattle.full_bodies.specs.inlining.Inlining.{inlined, inlined_definitions}
-use Rattle.full_bodies.specs.inlining.FullBodies.{full_rule}
-use Rattle.full_bodies.specs.declared.uses.FullBody.{FullBody}
-use Rattle.full_bodies.specs.FullBodies.{rule_after, AreFullBodies}
-use Rattle.full_bodies.proofs.Bodies.{bodies_later as full_bodies_later, after_later}
+use Rattle.inlining.specs.declared.modes.InlineMode.{InlineMode}
+use Rattle.inlining.specs.declared.modes.InlineMode.TheVariants as mode
+use Rattle.inlining.specs.Inlining.{inlined, inlined_definitions}
+use Rattle.inlining.specs.FullBodies.{full_rule}
+use Rattle.tr_inline.specs.declared.full_bodies.uses.FullBody.{FullBody}
+use Rattle.tr_inline.specs.full_bodies.FullBodies.{rule_after, AreFullBodies}
+use Rattle.tr_inline.specs.full_bodies.lemmas.Later.{bodies_later as full_bodies_later, after_later}
 
 -- a formula of a task with the definitions of the mode inlined
 abbrev pub inline_formula : InlineMode → TaskTree → Tree → Tree

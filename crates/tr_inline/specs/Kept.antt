@@ -8,11 +8,11 @@ use Rattle.walking.specs.evidence.changed_tasks.Changed.{KeepsFormulas}
 use Rattle.evidence.specs.Stages.{TaskEquation, Gives, Keeps, stage_answer}
 use Rattle.walking.specs.rewriting.Rewritten.{formulas_equation}
 use Rattle.walking.specs.rewriting.Kept.{rewritten_keeps}
-use Rattle.full_bodies.specs.inlining.declared.modes.InlineMode.{InlineMode}
-use Rattle.full_bodies.specs.inlining.declared.modes.InlineMode.TheVariants as mode
+use Rattle.inlining.specs.declared.modes.InlineMode.{InlineMode}
+use Rattle.inlining.specs.declared.modes.InlineMode.TheVariants as mode
 use Rattle.walking.specs.rewriting.Formulas.{CommutesWithTypes}
-use Rattle.full_bodies.specs.inlining.Inlining.{inline_equation}
-use Rattle.full_bodies.specs.Kept.{formula_keeps, formula_commutes}
+use Rattle.inlining.specs.Inlining.{inline_equation}
+use Rattle.tr_inline.specs.full_bodies.Kept.{formula_keeps, formula_commutes}
 use Rattle.tr_inline.specs.Inlined.{inline_formula, mode_scope}
 
 pub same_equation : (m : InlineMode) (t : TaskTree) → inline_equation m t ≡ formulas_equation (mode_scope m) (inline_formula m) t

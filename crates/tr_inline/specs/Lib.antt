@@ -1,3 +1,7 @@
+pub use Rattle.inlining.specs as inlining
+pub use Rattle.checks.specs as checks
+pub use Rattle.evidence.specs as evidence
+pub mod full_bodies
 pub mod Lemmas
 pub mod Uses
 pub mod Definitions
@@ -5,5 +9,3 @@ pub mod Unfolded
 pub mod Inlined
 pub mod Passed
 pub mod Kept
-pub use Rattle.full_bodies.specs as full_bodies
-pub use Rattle.evidence.specs as evidence

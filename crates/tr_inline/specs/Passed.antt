@@ -7,7 +7,7 @@ use Rattle.tasks.specs.Meaning.{definitions_at}
 use Rattle.evidence.specs.Drafts.{DraftTree, Extends}
 use Rattle.walking.specs.declared.linked.Linked.{Linked}
 use Rattle.walking.specs.Places.{IsLinkOf}
-use Rattle.full_bodies.specs.inlining.Inlining.{inlined}
+use Rattle.inlining.specs.Inlining.{inlined}
 
 -- those that are left are the first ones, and the others are inlined
 pub record IsPartlyInlined (d d1 : DraftTree) (formula : TermId) (n : ℕ) (defs left : List Def) (made : Linked) : Type 0 where

@@ -5,15 +5,15 @@ ghost use Rattle.tasks.specs.Meaning.{task_at};
 ghost use Rattle.walking.specs.evidence.changed_tasks.Limits.{IsLarge};
 ghost use Rattle.walking.specs.rewriting.Faults.{IsLimitFault};
 ghost use Rattle.walking.specs.rewriting.Formulas.{CanRewrite, IsFormulaIn};
-ghost use Rattle.full_bodies.specs.FullBodies.{AreReady};
+ghost use Rattle.tr_inline.specs.full_bodies.FullBodies.{AreReady};
 ghost use Rattle.tr_inline.specs.Inlined.{inline_formula, AreBodiesOf, AreReadyBodies, bodies_later};
 ghost use Rattle.tr_inline.specs.Kept.{formulas_keep, formulas_commute};
 
-use crate::passes::inline_by_passes;
-use evidence::{Draft, StageFault};
-use full_bodies::{
+use crate::full_bodies::{
     FullBody, InlineFault, InlineMode, definitions_inlined, full_bodies, inline_formula,
 };
+use crate::passes::inline_by_passes;
+use evidence::{Draft, StageFault};
 use std::alloc::{AllocError, Global};
 use tasks::{Grow, Store, Task, TermId};
 use walking::rewriting::{FormulaImage, RewriteFormulas};

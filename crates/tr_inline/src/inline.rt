@@ -2,11 +2,11 @@
 ghost use Rattle.std.specs.Prelude.{◌≡◌};
 ghost use Rattle.tr_inline.specs.Inlined.{mode_scope};
 ghost use Rattle.tr_inline.specs.Kept.{inline_keeps};
-ghost use Rattle.full_bodies.specs.inlining.Inlining.{inline_equation};
+ghost use Rattle.inlining.specs.Inlining.{inline_equation};
 
 use crate::formulas::InlinedFormulas;
+use crate::full_bodies::{InlineMode, full_bodies};
 use evidence::{Draft, StageFault, Transform};
-use full_bodies::{InlineMode, full_bodies};
 use std::alloc::{AllocError, Global};
 use tasks::{Fact, Store, Task, TermId};
 use walking::rewriting::{FormulaScope, cite_rewritten, glue_rewritten, scoped_tasks};

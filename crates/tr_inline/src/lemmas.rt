@@ -6,7 +6,7 @@ ghost use Rattle.trees.specs.Node.{tree_at, Holds};
 ghost use Rattle.tasks.specs.Task.{neg};
 ghost use Rattle.tasks.specs.Typing.{members};
 ghost use Rattle.evidence.specs.Drafts.{Extends, Refutes, IsFormulaAt};
-ghost use Rattle.full_bodies.specs.inlining.images.Instances.{for_all_at};
+ghost use Rattle.inlining.specs.images.Instances.{for_all_at};
 ghost use Rattle.tr_inline.specs.Lemmas.{IsLemma, TakesTerm, TakesTerms};
 
 use congruence::instance;

@@ -5,7 +5,7 @@ ghost use Rattle.trees.specs.Node.{tree_at};
 ghost use Rattle.tasks.specs.Meaning.{definition_at, definitions_at};
 ghost use Rattle.evidence.specs.Drafts.{Extends, IsFormulaAt};
 ghost use Rattle.walking.specs.Places.{IsLinkOf};
-ghost use Rattle.full_bodies.specs.inlining.Inlining.{with_uses_unfolded, inlined};
+ghost use Rattle.inlining.specs.Inlining.{with_uses_unfolded, inlined};
 ghost use Rattle.tr_inline.specs.Definitions.{IsDefinedIn, AreDefinedIn};
 ghost use Rattle.tr_inline.specs.Inlined.{IsImageOf};
 

@@ -10,10 +10,10 @@ ghost use Rattle.tr_inline.specs.Uses.{AreUseParts, IsUseOf};
 ghost use Rattle.tr_inline.specs.Definitions.{unfolding_rule, rule_others, IsDefinedIn, defined_later};
 ghost use Rattle.tr_inline.specs.Unfolded.{AreUnfolded};
 
+use crate::full_bodies::{defining_body, inst_many, put_arguments, put_types};
 use crate::uses::{UseParts, alike_unfolded, find_use};
 use congruence::AlikeBy;
 use evidence::Draft;
-use full_bodies::{defining_body, inst_many, put_arguments, put_types};
 use std::alloc::AllocError;
 use tasks::{Def, Grow, TermId};
 use walking::{Linked, Rewrite};

@@ -6,16 +6,16 @@ ghost use Rattle.trees.specs.Node.{tree_at, trees_at, Holds};
 ghost use Rattle.tasks.specs.Task.{symbol_or};
 ghost use Rattle.tasks.specs.Typing.{members};
 ghost use Rattle.evidence.specs.Drafts.{Extends};
-ghost use Rattle.full_bodies.specs.trees.binders.Visits.{HoldTypes};
+ghost use Rattle.trees.specs.binders.Visits.{HoldTypes};
 ghost use Rattle.congruence.specs.Alike.{Shows, ArePair};
 ghost use Rattle.tr_inline.specs.Uses.{IsUseOf, IsFoundUse, IsClosedUse};
 ghost use Rattle.tr_inline.specs.Lemmas.{IsLemma};
 ghost use Rattle.tr_inline.specs.Definitions.{unfolding_rule, IsDefinedIn};
 
+use crate::full_bodies::{inst_types, list_members};
 use crate::lemmas::{Lemma, lemma_at_terms};
 use congruence::{AlikeBy, alike_by_step};
 use evidence::{Draft, fact_lemma};
-use full_bodies::{inst_types, list_members};
 use std::alloc::AllocError;
 use tasks::{Def, Fact, Grow, TermId};
 use trees::{Node, Sort};

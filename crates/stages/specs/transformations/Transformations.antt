@@ -11,7 +11,7 @@ use Rattle.tr_discriminate.specs.Kept.{discriminate_keeps}
 use Rattle.tr_if.specs.Eliminated.{if_equation}
 use Rattle.tr_if.specs.Kept.{if_keeps}
 use Rattle.tr_inline.specs.Kept.{inline_keeps}
-use Rattle.tr_inline.specs.full_bodies.inlining.Inlining.{inline_equation}
+use Rattle.tr_inline.specs.inlining.Inlining.{inline_equation}
 use Rattle.tr_introduce.specs.Introduce.{introduce_equation}
 use Rattle.tr_introduce.specs.Kept.{introduce_keeps}
 use Rattle.tr_let.specs.Kept.{lets_equation, lets_keep}

@@ -1,7 +1,7 @@
 -- The transformations that the words of a driver name.
 use Rattle.drivers.specs.declared.driver_items.kinds.Trans.{Trans}
 use Rattle.drivers.specs.declared.driver_items.kinds.Trans.TheVariants.{SplitGoalRight, IntroducePremises, EliminateDefinition, EliminateInductive, InlineAll, InlineGoal, InlineTrivial, EliminateLet, EliminateMatch, EliminateIf, SimplifyFormula, Discriminate, EliminateRecursion, EliminateAlgebraic}
-use Rattle.tr_inline.specs.full_bodies.inlining.declared.modes.InlineMode.TheVariants as mode
+use Rattle.tr_inline.specs.inlining.declared.modes.InlineMode.TheVariants as mode
 use Rattle.stages.specs.declared.transformations.transformation.Transformation.{Transformation}
 use Rattle.stages.specs.declared.transformations.transformation.Transformation.TheVariants.{Split, Introduce, Definitions, InductiveGroups, Inline, Lets, Matches, Conditionals, SimplifiedFormulas, Discriminate, Recursion, AlgebraicTypes}
 

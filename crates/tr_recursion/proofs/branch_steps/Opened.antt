@@ -21,10 +21,10 @@ use Rattle.inlining.proofs.branch_equations.Matches.{IsMatch, matched_is}
 use Rattle.tr_recursion.specs.branch_instances.Chosen.{arms_of, IsChosenOf}
 use Rattle.tr_recursion.specs.branch_instances.Instances.{SaysChosen}
 use Rattle.tr_recursion.proofs.branch_instances.Instances.{says_chosen}
-use Rattle.tr_inline.specs.full_bodies.inlining.Inlining.{use_body}
-use Rattle.tr_inline.specs.full_bodies.inlining.images.Instances.{for_all_at}
-use Rattle.tr_inline.specs.full_bodies.checks.decl_checks.Structure.{defining_body}
-use Rattle.tr_inline.proofs.full_bodies.inlining.images.DataTerms.{cells_members}
+use Rattle.tr_inline.specs.inlining.Inlining.{use_body}
+use Rattle.tr_inline.specs.inlining.images.Instances.{for_all_at}
+use Rattle.tr_inline.specs.checks.decl_checks.Structure.{defining_body}
+use Rattle.tr_inline.proofs.inlining.images.DataTerms.{cells_members}
 use Rattle.tr_inline.specs.Definitions.{formula_or_end, body_in, unfolding_rule}
 use Rattle.tr_inline.proofs.Unfolded.{use_rule}
 use Rattle.tr_recursion.specs.branch_steps.Instances.{OpensToBranch, IsBranchAt}

@@ -18,7 +18,7 @@ use Rattle.congruence.proofs.Later.{tree_later, pair_later, shows_at}
 use Rattle.tr_recursion.specs.branch_instances.Chosen.{IsChosenOf}
 use Rattle.tr_inline.specs.Definitions.{unfolding_rule}
 use Rattle.tr_inline.specs.Uses.{IsUseOf}
-use Rattle.tr_inline.proofs.full_bodies.inlining.images.typing_laws.Sorted.{formula_no_type}
+use Rattle.tr_inline.proofs.inlining.images.typing_laws.Sorted.{formula_no_type}
 use Rattle.tr_recursion.specs.declared.branch_steps.equation_instances.TwoSides.{TwoSides}
 use Rattle.tr_recursion.specs.branch_steps.Instances.{HasTwoSides, AreSidesOf, IsBranchInstance}
 

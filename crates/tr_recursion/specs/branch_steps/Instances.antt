@@ -9,8 +9,8 @@ use Rattle.tasks.specs.Task.{TaskTree, DefinitionTree, symbol_or}
 use Rattle.tasks.specs.Valid.{IsTypeOver}
 use Rattle.inlining.specs.branch_equations.Branches.{ConstructorBranch, matched_parameter, quantifiers, branch_equation}
 use Rattle.tr_recursion.specs.branch_instances.Chosen.{IsChosenOf}
-use Rattle.tr_inline.specs.full_bodies.inlining.images.Instances.{for_all_at}
-use Rattle.tr_inline.specs.full_bodies.checks.decl_checks.Structure.{defining_body}
+use Rattle.tr_inline.specs.inlining.images.Instances.{for_all_at}
+use Rattle.tr_inline.specs.checks.decl_checks.Structure.{defining_body}
 use Rattle.tr_inline.specs.Definitions.{unfolding_rule}
 use Rattle.tr_inline.specs.Uses.{IsUseOf}
 use Rattle.tr_recursion.specs.declared.branch_steps.equation_instances.TwoSides.{TwoSides}

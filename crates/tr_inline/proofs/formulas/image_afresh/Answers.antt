@@ -3,8 +3,8 @@ use Rattle.trees.specs.Node.{tree_at}
 use Rattle.tasks.specs.Meaning.{task_at}
 use Rattle.tasks.proofs.Growth.{task_later}
 use Rattle.trees.proofs.Nodes.{Grows_trans}
-use Rattle.full_bodies.specs.declared.uses.FullBody.{FullBody}
-use Rattle.full_bodies.specs.FullBodies.{AreReady}
+use Rattle.tr_inline.specs.declared.full_bodies.uses.FullBody.{FullBody}
+use Rattle.tr_inline.specs.full_bodies.FullBodies.{AreReady}
 use Rattle.tr_inline.specs.Inlined.{AreBodiesOf}
 use Rattle.tr_inline.proofs.ByBodies.{ready_bodies, formula_in_later, same_formula, fault_later}
 use Rattle.tr_inline.proofs.Limits.{fault_passed}

@@ -4,11 +4,11 @@ use Rattle.trees.specs.Node.{tree_at}
 use Rattle.tasks.specs.Meaning.{task_at}
 use Rattle.tasks.specs.Vocabulary.{of_task}
 use Rattle.walking.specs.evidence.changed_tasks.Limits.{IsLarge}
-use Rattle.full_bodies.proofs.inlining.images.typing_laws.Sorted.{typed_has}
-use Rattle.full_bodies.specs.inlining.images.Images.{image}
-use Rattle.full_bodies.specs.declared.fault.InlineFault.TheVariants as fault
-use Rattle.full_bodies.specs.FullBodies.{rule_after}
-use Rattle.full_bodies.specs.Made.{IsFormulaFault}
+use Rattle.inlining.proofs.images.typing_laws.Sorted.{typed_has}
+use Rattle.inlining.specs.images.Images.{image}
+use Rattle.tr_inline.specs.declared.full_bodies.fault.InlineFault.TheVariants as fault
+use Rattle.tr_inline.specs.full_bodies.FullBodies.{rule_after}
+use Rattle.tr_inline.specs.full_bodies.Made.{IsFormulaFault}
 use Rattle.tr_inline.proofs.ByBodies.{by_bodies}
 use Rattle.tr_inline.proofs.formulas.image_by_bodies.Goals as goal
 

@@ -4,7 +4,7 @@ use Rattle.trees.specs.Node.{tree_at, node_tree, Holds}
 use Rattle.tasks.specs.Typing.{members}
 use Rattle.evidence.specs.Laws.{Extends_trans}
 use Rattle.congruence.proofs.Later.{tree_later, held_later}
-use Rattle.full_bodies.specs.inlining.images.Instances.{for_all_at}
+use Rattle.inlining.specs.images.Instances.{for_all_at}
 use Rattle.tr_inline.specs.Lemmas.{IsLemma, TakesTerms}
 use Rattle.tr_inline.proofs.PartlyInlined.{extends_itself}
 use Rattle.tr_inline.proofs.Scripts.{first_taken, rest_taken, all_taken, none_taken, takes_terms_later}

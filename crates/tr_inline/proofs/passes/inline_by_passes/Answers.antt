@@ -7,7 +7,7 @@ use Rattle.evidence.specs.Drafts.{Refutes}
 use Rattle.evidence.specs.Laws.{Extends_trans}
 use Rattle.evidence.proofs.Formulas.{formula_later}
 use Rattle.congruence.proofs.Later.{tree_later}
-use Rattle.full_bodies.specs.inlining.Inlining.{inlined}
+use Rattle.inlining.specs.Inlining.{inlined}
 use Rattle.walking.proofs.Binders.{formula_pair}
 use Rattle.walking.proofs.Closed.{same_right, image_formula}
 use Rattle.tr_inline.proofs.passes.inline_by_passes.Goals as goal

@@ -5,7 +5,7 @@ use Rattle.tasks.specs.Meaning.{definition_at}
 use Rattle.evidence.specs.Laws.{Extends_trans}
 use Rattle.evidence.proofs.Formulas.{formula_later}
 use Rattle.congruence.proofs.Later.{pair_later}
-use Rattle.full_bodies.specs.inlining.Inlining.{with_uses_unfolded}
+use Rattle.inlining.specs.Inlining.{with_uses_unfolded}
 use Rattle.walking.specs.declared.linked.Linked.{Linked}
 use Rattle.walking.specs.Places.{IsLinkOf}
 use Rattle.walking.proofs.Binders.{formula_pair}

@@ -7,8 +7,8 @@ use Rattle.trees.specs.Binding.{inst_types, inst_many}
 use Rattle.tasks.specs.Typing.{members}
 use Rattle.evidence.specs.Laws.{AddsTrees_trans, AddsTrees_extends}
 use Rattle.congruence.proofs.Later.{tree_later, held_later}
-use Rattle.full_bodies.specs.checks.decl_checks.Structure.{defining_body}
-use Rattle.full_bodies.specs.inlining.Inlining.{use_body}
+use Rattle.checks.specs.decl_checks.Structure.{defining_body}
+use Rattle.inlining.specs.Inlining.{use_body}
 use Rattle.tr_inline.specs.Definitions.{body_in, unfolding_rule}
 use Rattle.tr_inline.proofs.Unfolded.{use_rule, use_lists, body_of}
 use Rattle.tr_inline.proofs.unfolding.unfolded_use.Goals as goal

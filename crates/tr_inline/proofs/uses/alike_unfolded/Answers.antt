@@ -8,7 +8,7 @@ use Rattle.evidence.specs.Laws.{Extends_trans}
 use Rattle.congruence.specs.Alike.{Shows}
 use Rattle.congruence.specs.kernel.rules.Forms.{alike}
 use Rattle.congruence.proofs.Later.{tree_later, held_later, pair_later}
-use Rattle.full_bodies.specs.inlining.images.Instances.{for_all_at}
+use Rattle.inlining.specs.images.Instances.{for_all_at}
 use Rattle.tr_inline.proofs.Claims.{none_found, here, takes_later, claimed}
 use Rattle.tr_inline.proofs.uses.alike_unfolded.Goals as goal
 

@@ -5,7 +5,7 @@ use Rattle.trees.specs.Tree.{Tree}
 use Rattle.trees.specs.Node.{tree_at, trees_at}
 use Rattle.trees.specs.Sorts.{IsList}
 use Rattle.tasks.specs.Typing.{members}
-use Rattle.full_bodies.specs.trees.binders.Visits.{HoldTypes}
+use Rattle.trees.specs.binders.Visits.{HoldTypes}
 use Rattle.tr_inline.proofs.uses.equation_lemma.Goals as goal
 
 pub list_members-requires-clause-list : goal.list_members-requires-clause-list

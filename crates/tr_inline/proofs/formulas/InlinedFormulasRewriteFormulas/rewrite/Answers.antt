@@ -4,8 +4,8 @@ use Rattle.trees.specs.Node.{tree_at}
 use Rattle.tasks.specs.Task.{DefinitionTree, neg}
 use Rattle.tasks.specs.Meaning.{definitions_at, task_at, TaskHeld}
 use Rattle.evidence.specs.Drafts.{Refutes}
-use Rattle.full_bodies.specs.Listed.{AreDefsHeld}
-use Rattle.full_bodies.specs.inlining.Inlining.{inlined, inlined_definitions}
+use Rattle.tr_inline.specs.full_bodies.Listed.{AreDefsHeld}
+use Rattle.inlining.specs.Inlining.{inlined, inlined_definitions}
 use Rattle.tr_inline.specs.Inlined.{inline_formula, IsImageOf}
 use Rattle.tr_inline.proofs.Named.{listed_same, listed_defined}
 use Rattle.tr_inline.proofs.formulas.InlinedFormulasRewriteFormulas.rewrite.Goals as goal

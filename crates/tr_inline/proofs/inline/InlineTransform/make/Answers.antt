@@ -2,7 +2,7 @@ use Rattle.std.proofs.Common.{◌≡◌, List, subst, sym, ap, ◌∙◌}
 use Rattle.trees.proofs.Nodes.{Grows_trans}
 use Rattle.tasks.specs.Meaning.{task_at}
 use Rattle.tasks.proofs.Growth.{task_later}
-use Rattle.full_bodies.specs.declared.uses.FullBody.{FullBody}
+use Rattle.tr_inline.specs.declared.full_bodies.uses.FullBody.{FullBody}
 use Rattle.tr_inline.specs.Inlined.{AreBodiesOf}
 use Rattle.tr_inline.proofs.ByBodies.{ready_bodies}
 use Rattle.tr_inline.proofs.Limits.{as_inlined, fault_inlined, stage_passed}

@@ -1,4 +1,0 @@
-use Rattle.full_bodies.proofs.imaging.+count_members.Given as goal
-
-abbrev pub decreases-count_members : goal.decreases-count_members
-decreases-count_members l = l.list.0

@@ -1,4 +1,0 @@
-use Rattle.full_bodies.proofs.members.+push_members.Given as goal
-
-abbrev pub decreases-push_members : goal.decreases-push_members
-decreases-push_members l = l.list.0

@@ -1,4 +1,0 @@
-use Rattle.full_bodies.proofs.sizes.+is_higher.Given as goal
-
-abbrev pub decreases-is_higher : goal.decreases-is_higher
-decreases-is_higher l = l.e.0

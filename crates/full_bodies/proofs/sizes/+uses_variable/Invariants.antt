@@ -1,4 +1,0 @@
-use Rattle.full_bodies.proofs.sizes.+uses_variable.Given as goal
-
-abbrev pub decreases-uses_variable : goal.decreases-uses_variable
-decreases-uses_variable l = l.e.0

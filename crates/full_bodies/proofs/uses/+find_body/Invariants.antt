@@ -1,5 +1,0 @@
-use Rattle.std.proofs.Common.{length}
-use Rattle.full_bodies.proofs.uses.+find_body.Given as goal
-
-abbrev pub decreases-find_body : goal.decreases-find_body
-decreases-find_body l = length l.bodies.now

@@ -1,0 +1,10 @@
+pub mod Least
+pub mod Arguments
+pub mod Faults
+pub mod FullBodies
+pub mod Inlined
+pub mod Chosen
+pub mod Listed
+pub mod Made
+pub mod Kept
+pub mod lemmas
