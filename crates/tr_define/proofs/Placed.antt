@@ -1,8 +1,8 @@
 -- A group spelled out after other declarations, over a store that grew as what it says was made.
 use Rattle.std.proofs.Common.{◌≡◌, List, ◌++◌, All, Option, ap, ◌∙◌}
 use Rattle.std.proofs.lemmas.List.Elements.{All-weaker}
-use Rattle.trees.specs.Tree.{Tree}
-use Rattle.trees.specs.Node.{Grows}
+use Rattle.tasks.specs.trees.Tree.{Tree}
+use Rattle.tasks.specs.trees.Node.{Grows}
 use Rattle.tasks.specs.declared.signature.SymbolInfo.{SymbolInfo}
 use Rattle.tasks.specs.declared.declaration.Decl.{Decl}
 use Rattle.tasks.specs.Task.{SymbolTree, DeclarationTree}

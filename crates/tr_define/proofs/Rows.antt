@@ -1,9 +1,9 @@
 -- Worked rows by computation: what is put in the place of a definition, of a recursive one, and of an inductive predicate.
 use Rattle.std.proofs.Common.{◌≡◌, ℕ, List, [], ◌∷◌, Some, None, pos, refl, codes}
-use Rattle.trees.specs.declared.Op.TheVariants.{Imp}
-use Rattle.trees.specs.Tree.{Tree, Leaf, Two, Three, HEnd, HNum, HFun, HPred, HEq, HJoin, HForall}
-use Rattle.trees.specs.Binding.{Bound}
-use Rattle.trees.specs.Sorts.{int_type}
+use Rattle.tasks.specs.trees.declared.Op.TheVariants.{Imp}
+use Rattle.tasks.specs.trees.Tree.{Tree, Leaf, Two, Three, HEnd, HNum, HFun, HPred, HEq, HJoin, HForall}
+use Rattle.tasks.specs.trees.Binding.{Bound}
+use Rattle.tasks.specs.trees.Sorts.{int_type}
 use Rattle.tasks.specs.declared.signature.SymbolKind.TheVariants.{Function, Predicate}
 use Rattle.tasks.specs.Task.{SymbolTree, int_symbol, BodyTree, Makes, Defines, Induces, Says, DeclarationTree}
 use Rattle.tasks.specs.Equations.{cells}

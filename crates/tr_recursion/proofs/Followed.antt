@@ -24,8 +24,8 @@ use Rattle.declarations.proofs.Stage.{one_task}
 use Rattle.tr_define.specs.declarations.spelled_groups.Spelled.{spelling_rule, spelling_said}
 use Rattle.tr_define.specs.declarations.spelled_groups.Kept.{spelling_keeps, spelling_props}
 use Rattle.tr_define.specs.declarations.spelled_groups.Inductives.{IsSmallTree}
-use Rattle.inlining.specs.branch_equations.Branches.{branch_fact, recursion_facts}
-use Rattle.inlining.proofs.branch_equations.Formulas.{recursions_spelling}
+use Rattle.tr_inline.specs.inlining.branch_equations.Branches.{branch_fact, recursion_facts}
+use Rattle.tr_inline.proofs.inlining.branch_equations.Formulas.{recursions_spelling}
 use Rattle.tr_recursion.specs.branch_instances.Origins.{IsBranchOf, IsOldFact}
 use Rattle.tr_recursion.proofs.branch_instances.Origins.{old_fact_of, some_old}
 use Rattle.congruence.specs.kernel.rules.Rows.{equation, clauses}

@@ -12,7 +12,7 @@ ghost use Rattle.evidence.specs.Drafts.{Extends, Refutes, IsFormulaAt};
 ghost use Rattle.evidence.specs.Stages.{IsOwnTask};
 ghost use Rattle.declarations.specs.Said.{said_from};
 ghost use Rattle.tr_define.specs.declarations.spelled_groups.Spelled.{spelling_said};
-ghost use Rattle.inlining.specs.branch_equations.Branches.{recursion_facts};
+ghost use Rattle.tr_inline.specs.inlining.branch_equations.Branches.{recursion_facts};
 ghost use Rattle.tr_recursion.specs.Followed.{FollowsFrom, FollowsFromEquation};
 
 use crate::branch_steps::branch_step;

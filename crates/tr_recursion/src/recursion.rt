@@ -1,6 +1,6 @@
 // The transformation that spells out recursive definitions.
 ghost use Rattle.tr_define.specs.declarations.spelled_groups.Spelled.{spelling_rule, spelling_said};
-ghost use Rattle.inlining.specs.branch_equations.Branches.{recursion_facts};
+ghost use Rattle.tr_inline.specs.inlining.branch_equations.Branches.{recursion_facts};
 ghost use Rattle.tr_recursion.specs.Kept.{recursions_equation, recursions_keep};
 
 use crate::origins::{origin_of, origin_step};

@@ -6,7 +6,7 @@ use Rattle.tasks.proofs.plain_laws.Bools.{and_first, and_second}
 use Rattle.tasks.specs.trees.Tree.{Tree, One, Two, Three, HCell, HArm, HPatAny, HPatVar, HPatCon, pat_vars}
 use Rattle.tasks.specs.trees.Binding.{Change, change}
 use Rattle.tasks.specs.Equations.{cells}
-use Rattle.inlining.specs.branch_equations.Branches.{ConstructorBranch, is_plain_field, is_variable_field, bound_fields, are_different}
+use Rattle.tr_inline.specs.inlining.branch_equations.Branches.{ConstructorBranch, is_plain_field, is_variable_field, bound_fields, are_different}
 use Rattle.tr_recursion.specs.branch_instances.Chosen.{branch_pattern, arms_of, has_plain_fields, chosen_branch}
 
 -- ---- as a tree

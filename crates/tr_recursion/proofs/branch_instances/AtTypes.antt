@@ -7,8 +7,8 @@ use Rattle.tasks.specs.trees.Tree.{Tree, Leaf, One, Two, Three, Head, HFun, HPat
 use Rattle.tasks.specs.trees.Binding.{change, one_by, typing, inst_types, inst_many, AreTypes, AreNoPatterns}
 use Rattle.tasks.proofs.trees.Many.{length_map, inst_types_inst_many}
 use Rattle.tasks.specs.Equations.{cells, for_all}
-use Rattle.inlining.proofs.Equations.{equation_types}
-use Rattle.inlining.specs.branch_equations.Branches.{ConstructorBranch, is_plain_field, is_variable_field, field_type, bound_fields, below_quantifiers, parameters_before, parameters_after, variables_above, branch_types, branch_fields, built_term, branch_parameters, pattern_fields, branch_sides, branch_equation}
+use Rattle.tr_inline.proofs.inlining.Equations.{equation_types}
+use Rattle.tr_inline.specs.inlining.branch_equations.Branches.{ConstructorBranch, is_plain_field, is_variable_field, field_type, bound_fields, below_quantifiers, parameters_before, parameters_after, variables_above, branch_types, branch_fields, built_term, branch_parameters, pattern_fields, branch_sides, branch_equation}
 use Rattle.tr_recursion.proofs.branch_instances.Arms.{changed_cells, fields_bound}
 
 -- ---- terms that are no patterns

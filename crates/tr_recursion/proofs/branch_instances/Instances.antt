@@ -16,15 +16,15 @@ use Rattle.tasks.specs.Vocabulary.{Vocabulary}
 use Rattle.tasks.specs.Equations.{cells, type_variables, bound_variables, equated, for_all}
 use Rattle.tasks.specs.Valid.{IsTypeIn, IsDefinition}
 use Rattle.tasks.proofs.Closing.{typed_sorted}
-use Rattle.inlining.specs.images.typing_laws.HasTyping.{HasTyping}
-use Rattle.inlining.proofs.images.typing_laws.Sorted.{typed_has, has_closed}
-use Rattle.inlining.specs.images.Instances.{for_all_at, AreTypesClosed}
-use Rattle.inlining.proofs.images.OpenInstances.{for_all_opens}
+use Rattle.tr_inline.specs.inlining.images.typing_laws.HasTyping.{HasTyping}
+use Rattle.tr_inline.proofs.inlining.images.typing_laws.Sorted.{typed_has, has_closed}
+use Rattle.tr_inline.specs.inlining.images.Instances.{for_all_at, AreTypesClosed}
+use Rattle.tr_inline.proofs.inlining.images.OpenInstances.{for_all_opens}
 use Rattle.checks.specs.decl_checks.Structure.{defining_body}
-use Rattle.inlining.proofs.Bodies.{onto, under_typed, under_body}
-use Rattle.inlining.proofs.Equations.{function_there, predicate_there}
-use Rattle.inlining.specs.branch_equations.Branches.{ConstructorBranch, is_plain_field, field_type, below_quantifiers, quantifiers, parameters_before, parameters_after, branch_types, branch_sides, branch_equation, are_different}
-use Rattle.inlining.specs.branch_equations.Laws.{BranchesAtTerms}
+use Rattle.tr_inline.proofs.inlining.Bodies.{onto, under_typed, under_body}
+use Rattle.tr_inline.proofs.inlining.Equations.{function_there, predicate_there}
+use Rattle.tr_inline.specs.inlining.branch_equations.Branches.{ConstructorBranch, is_plain_field, field_type, below_quantifiers, quantifiers, parameters_before, parameters_after, branch_types, branch_sides, branch_equation, are_different}
+use Rattle.tr_inline.specs.inlining.branch_equations.Laws.{BranchesAtTerms}
 use Rattle.tr_recursion.specs.branch_instances.Instances.{IsSymbolUse, SaysChosen}
 use Rattle.tr_recursion.specs.branch_instances.Chosen.{arms_of, has_plain_fields, branch_pattern, IsChosenOf}
 use Rattle.tr_recursion.proofs.branch_instances.Arms.{variable_count, cells_vars}

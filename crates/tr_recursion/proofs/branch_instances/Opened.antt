@@ -8,8 +8,8 @@ use Rattle.tasks.specs.trees.Binding.{change, typing, inst_types, instantiating_
 use Rattle.tasks.proofs.trees.Laws.{shift_closed, loose_inst_types}
 use Rattle.tasks.proofs.trees.Many.{many_at, closed_at, length_map, inst_many_closed, inst_many_under}
 use Rattle.tasks.specs.Equations.{cells}
-use Rattle.inlining.specs.branch_equations.Branches.{ConstructorBranch, is_plain_field, field_type, bound_fields, parameters_before, parameters_after, branch_types, variables_above, branch_fields, built_term, branch_parameters, pattern_fields, branch_sides, are_different}
-use Rattle.inlining.specs.branch_equations.Laws.{BranchesAtTerms}
+use Rattle.tr_inline.specs.inlining.branch_equations.Branches.{ConstructorBranch, is_plain_field, field_type, bound_fields, parameters_before, parameters_after, branch_types, variables_above, branch_fields, built_term, branch_parameters, pattern_fields, branch_sides, are_different}
+use Rattle.tr_inline.specs.inlining.branch_equations.Laws.{BranchesAtTerms}
 use Rattle.tr_recursion.specs.branch_instances.Chosen.{arms_of, has_plain_fields, chosen_branch, IsChosenOf}
 use Rattle.tr_recursion.proofs.branch_instances.Arms.{variable_count, bound_count, changed, changed_arms, fields_plain, fields_bound, count_kept, all_plain, changed_choice, chosen_of}
 use Rattle.tr_recursion.proofs.branch_instances.AtTypes.{anywhere, branch_at}

@@ -18,7 +18,7 @@ use Rattle.checks.specs.recursive_groups.Groups.{is_recursive}
 use Rattle.checks.specs.decl_checks.Structure.{defining_body}
 use Rattle.declarations.specs.spelled_groups.Spelled.{said_of, spelling_rule, spelling_said}
 use Rattle.tr_recursion.specs.branch_instances.Origins.{IsBranchOf, IsFrom, IsOldFact}
-use Rattle.inlining.specs.branch_equations.Branches.{ConstructorBranch, matched_parameter, quantifiers, branch_fact, facts_by, member_facts, recursion_facts}
+use Rattle.tr_inline.specs.inlining.branch_equations.Branches.{ConstructorBranch, matched_parameter, quantifiers, branch_fact, facts_by, member_facts, recursion_facts}
 
 record IsFromOne (v : Vocabulary) (x : FactTree) (ys : List FactTree) : Type 0 where
   fact : FactTree

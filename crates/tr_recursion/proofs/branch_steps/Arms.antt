@@ -4,7 +4,7 @@ use Rattle.std.specs.List.{list_all}
 use Rattle.trees.specs.Tree.{Tree, Leaf, Two, Three, HEnd, HCell, HArm, HPatCon}
 use Rattle.trees.specs.Sorts.{WellSorted}
 use Rattle.tasks.specs.Typing.{members}
-use Rattle.inlining.specs.branch_equations.Branches.{ConstructorBranch, is_plain_field, constructor_branch, add_branch, constructor_branches}
+use Rattle.tr_inline.specs.inlining.branch_equations.Branches.{ConstructorBranch, is_plain_field, constructor_branch, add_branch, constructor_branches}
 use Rattle.tr_recursion.specs.branch_instances.Chosen.{branch_pattern, arms_of, has_plain_fields}
 use Rattle.tr_inline.proofs.Members.{cells_of}
 

@@ -14,10 +14,10 @@ use Rattle.tasks.specs.Vocabulary.{of_task}
 use Rattle.tasks.specs.Valid.{IsTypeOver, IsDefinition}
 use Rattle.tasks.proofs.Closing.{typed_sorted}
 use Rattle.evidence.specs.Facts.{at_symbol, fact_named}
-use Rattle.inlining.specs.branch_equations.Branches.{quantifiers}
-use Rattle.inlining.proofs.branch_equations.AtTerms.{branches_at_terms}
-use Rattle.inlining.proofs.branch_equations.Formulas.{counted_is}
-use Rattle.inlining.proofs.branch_equations.Matches.{IsMatch, matched_is}
+use Rattle.tr_inline.specs.inlining.branch_equations.Branches.{quantifiers}
+use Rattle.tr_inline.proofs.inlining.branch_equations.AtTerms.{branches_at_terms}
+use Rattle.tr_inline.proofs.inlining.branch_equations.Formulas.{counted_is}
+use Rattle.tr_inline.proofs.inlining.branch_equations.Matches.{IsMatch, matched_is}
 use Rattle.tr_recursion.specs.branch_instances.Chosen.{arms_of, IsChosenOf}
 use Rattle.tr_recursion.specs.branch_instances.Instances.{SaysChosen}
 use Rattle.tr_recursion.proofs.branch_instances.Instances.{says_chosen}

@@ -8,7 +8,7 @@ use Rattle.trees.specs.Node.{node_tree}
 use Rattle.trees.specs.Binding.{Change, leaf_by, one_by, change, shift, instantiating, inst, Bound, Param}
 use Rattle.trees.specs.laws.Sorts.{term_no_vars}
 use Rattle.tasks.specs.Task.{TaskTree}
-use Rattle.inlining.specs.branch_equations.Branches.{quantifiers}
+use Rattle.tr_inline.specs.inlining.branch_equations.Branches.{quantifiers}
 use Rattle.tr_recursion.specs.branch_steps.Instances.{IsBranchInstance, OpensToBranch}
 
 -- a change that puts no quantifier in for a variable, a parameter or a type variable

@@ -11,7 +11,7 @@ use Rattle.tasks.specs.Valid.{IsGroundFormula, IsValid}
 use Rattle.tasks.specs.MatchTests.{bind}
 use Rattle.tasks.specs.MatchTests.{test as match_test}
 use Rattle.congruence.specs.kernel.Right.{IsGroundExpression}
-use Rattle.inlining.specs.images.PatternTerms.{IsTypedPattern}
+use Rattle.tr_inline.specs.inlining.images.PatternTerms.{IsTypedPattern}
 use Rattle.evidence.specs.Drafts.{DraftTree, Extends}
 use Rattle.evidence.proofs.Formulas.{formula_later}
 use Rattle.congruence.specs.declared.conditionals.Conditional.{Conditional}

@@ -8,7 +8,7 @@ use Rattle.tasks.specs.Task.{TaskTree}
 use Rattle.tasks.specs.Roles.{role, is_constructor}
 use Rattle.tasks.specs.Vocabulary.{of_task}
 use Rattle.tasks.specs.Typing.{TypedUnder}
-use Rattle.inlining.specs.branch_equations.Branches.{ConstructorBranch}
+use Rattle.tr_inline.specs.inlining.branch_equations.Branches.{ConstructorBranch}
 use Rattle.tr_recursion.specs.branch_instances.Chosen.{branch_pattern, arms_of, has_plain_fields, chosen_branch, IsChosen}
 
 -- the first branch, and the others

@@ -20,11 +20,11 @@ use Rattle.tasks.proofs.Closing.{typed_sorted}
 use Rattle.tasks.specs.MatchTests.{result_at, fields, rebuilt, constructor_projections, tests, test, pattern_terms, bind, other_terms, top}
 use Rattle.tasks.specs.Valid.{IsGround, IsValid, own_type}
 use Rattle.congruence.specs.kernel.Right.{IsGroundExpression}
-use Rattle.inlining.proofs.images.Constructors.{con_projections}
-use Rattle.inlining.proofs.images.PatternTyping.{IsConPattern, con_pattern}
-use Rattle.inlining.proofs.images.DataTerms.{IsTermUnder, cells_list, cells_typed, con_fields_typed, con_fields_types, rebuilt_typed, cells_members}
+use Rattle.tr_inline.proofs.inlining.images.Constructors.{con_projections}
+use Rattle.tr_inline.proofs.inlining.images.PatternTyping.{IsConPattern, con_pattern}
+use Rattle.tr_inline.proofs.inlining.images.DataTerms.{IsTermUnder, cells_list, cells_typed, con_fields_typed, con_fields_types, rebuilt_typed, cells_members}
 use Rattle.tr_recursion.proofs.branch_instances.Projections.{projection_role}
-use Rattle.inlining.specs.branch_equations.Branches.{is_plain_field, is_variable_field, bound_fields}
+use Rattle.tr_inline.specs.inlining.branch_equations.Branches.{is_plain_field, is_variable_field, bound_fields}
 use Rattle.tr_recursion.specs.constructor_matches.Fields.{IsFieldOf, IsClosedField, AreEach}
 
 -- ---- a pattern of variables and wildcards

@@ -13,9 +13,9 @@ use Rattle.tasks.specs.Equations.{cells}
 use Rattle.tasks.specs.Valid.{IsValid}
 use Rattle.tasks.specs.MatchTests.{result_at, fields, constructor_projections}
 use Rattle.tasks.specs.MatchTests.{test as match_test}
-use Rattle.inlining.specs.branch_equations.Branches.{ConstructorBranch, is_plain_field}
+use Rattle.tr_inline.specs.inlining.branch_equations.Branches.{ConstructorBranch, is_plain_field}
 use Rattle.tr_recursion.specs.branch_instances.Chosen.{branch_pattern, arms_of, has_plain_fields, IsChosen}
-use Rattle.inlining.proofs.images.DataTerms.{cells_members}
+use Rattle.tr_inline.proofs.inlining.images.DataTerms.{cells_members}
 use Rattle.evidence.specs.Drafts.{DraftTree, Extends}
 use Rattle.congruence.specs.kernel.Right.{IsGroundExpression}
 use Rattle.congruence.specs.Alike.{ArePair}

@@ -17,11 +17,11 @@ use Rattle.tasks.specs.MatchTests.{test, bind}
 use Rattle.congruence.specs.kernel.Right.{IsGroundExpression}
 use Rattle.congruence.specs.tasks.typed_trees.instances.Instances.{AreFor}
 use Rattle.congruence.proofs.tasks.typed_trees.instances.Typed.{many_sort, many_type}
-use Rattle.inlining.specs.images.Open.{IsEnvironment, IsOpenUnder}
-use Rattle.inlining.specs.images.PatternTerms.{IsTypedPattern, HasPartsOf, HasOfBoth}
-use Rattle.inlining.proofs.images.Environments.{at_open}
-use Rattle.inlining.proofs.images.Images.{branches_alike, expression_sort, expression_type}
-use Rattle.inlining.proofs.images.PatternLaws.{matches_typed, matches_closed, matches_parts}
+use Rattle.tr_inline.specs.inlining.images.Open.{IsEnvironment, IsOpenUnder}
+use Rattle.tr_inline.specs.inlining.images.PatternTerms.{IsTypedPattern, HasPartsOf, HasOfBoth}
+use Rattle.tr_inline.proofs.inlining.images.Environments.{at_open}
+use Rattle.tr_inline.proofs.inlining.images.Images.{branches_alike, expression_sort, expression_type}
+use Rattle.tr_inline.proofs.inlining.images.PatternLaws.{matches_typed, matches_closed, matches_parts}
 
 all_of : (P Q : Tree → Type 0) → ((e : Tree) → P e → Q e) → (es : List Tree) → Each P es → All Q es
 all_of P Q f [] h = All-nil Q

@@ -12,13 +12,13 @@ use Rattle.tasks.specs.Valid.{IsGround, VariablesBelow}
 use Rattle.tasks.proofs.Closing.{typed_closed}
 use Rattle.tasks.proofs.TypeInstances.{typed_further}
 use Rattle.congruence.specs.tasks.typed_trees.instances.Instances.{IsTermOf, AreFor}
-use Rattle.inlining.specs.images.OpenTerms.{AreOpenFor}
-use Rattle.inlining.specs.images.Templates.{IsClosedType}
-use Rattle.inlining.proofs.images.Environments.{closed_for}
-use Rattle.inlining.proofs.images.Holes.{template_filled}
-use Rattle.inlining.proofs.images.Laws.{many}
-use Rattle.inlining.proofs.images.Templates.{hole_typed}
-use Rattle.inlining.proofs.images.typing_laws.Changes.{many_variables}
+use Rattle.tr_inline.specs.inlining.images.OpenTerms.{AreOpenFor}
+use Rattle.tr_inline.specs.inlining.images.Templates.{IsClosedType}
+use Rattle.tr_inline.proofs.inlining.images.Environments.{closed_for}
+use Rattle.tr_inline.proofs.inlining.images.Holes.{template_filled}
+use Rattle.tr_inline.proofs.inlining.images.Laws.{many}
+use Rattle.tr_inline.proofs.inlining.images.Templates.{hole_typed}
+use Rattle.tr_inline.proofs.inlining.images.typing_laws.Changes.{many_variables}
 
 -- ---- a place of a list
 here_or_not : (xs ys : List Tree) (b : Tree) (k : ℕ) (e : Tree) → ((k ≡ length xs) × (get_or (xs ++ b ∷ ys) k e ≡ b)) ⊎ ((a : Tree) → get_or (xs ++ b ∷ ys) k e ≡ get_or (xs ++ a ∷ ys) k e)

@@ -14,13 +14,13 @@ use Rattle.tasks.specs.Valid.{IsGround, IsGroundFormula, IsValid}
 use Rattle.tasks.specs.MatchTests.{bind}
 use Rattle.tasks.specs.MatchTests.{test as match_test}
 use Rattle.trees.specs.binders.Visits.{HoldTerms}
-use Rattle.inlining.proofs.images.DataTerms.{cells_members}
+use Rattle.tr_inline.proofs.inlining.images.DataTerms.{cells_members}
 use Rattle.congruence.specs.kernel.Right.{IsGroundExpression}
 use Rattle.congruence.specs.tasks.typed_trees.instances.Instances.{AreFor}
 use Rattle.congruence.specs.kernel.rules.Forms.{alike}
 use Rattle.congruence.proofs.Scripts.{claim_equal}
 use Rattle.evidence.specs.Drafts.{DraftTree}
-use Rattle.inlining.specs.branch_equations.Branches.{is_plain_field, bound_fields}
+use Rattle.tr_inline.specs.inlining.branch_equations.Branches.{is_plain_field, bound_fields}
 use Rattle.tr_recursion.specs.branch_instances.Chosen.{branch_pattern}
 use Rattle.tr_recursion.specs.declared.constructor_matches.branches.FirstBranch.{FirstBranch}
 use Rattle.tr_recursion.specs.declared.constructor_matches.branches.OpenedBranch.{OpenedBranch}

@@ -17,8 +17,8 @@ use Rattle.tasks.proofs.Growth.{trees_later}
 use Rattle.trees.specs.binders.Visits.{HoldTerms}
 use Rattle.congruence.specs.tasks.typed_trees.instances.Instances.{AreFor}
 use Rattle.congruence.proofs.tasks.typed_trees.instances.Typed.{many_sort}
-use Rattle.inlining.specs.images.Templates.{listed}
-use Rattle.inlining.proofs.images.Templates.{term_has_type}
+use Rattle.tr_inline.specs.inlining.images.Templates.{listed}
+use Rattle.tr_inline.proofs.inlining.images.Templates.{term_has_type}
 use Rattle.evidence.specs.Drafts.{DraftTree, Extends}
 use Rattle.congruence.specs.Alike.{IsClosedAt, ArePair, HoleAt}
 use Rattle.congruence.proofs.Later.{held_later, tree_later, closed_later, pair_later}

@@ -17,7 +17,7 @@ use Rattle.tasks.specs.Meaning.{symbol_at, symbols_at, definition_at, definition
 use Rattle.tasks.proofs.Growth.{symbols_later, definitions_later}
 use Rattle.declarations.specs.declared.spelled_groups.said.Said.{Said}
 use Rattle.declarations.specs.spelled_groups.Stored.{facts_at}
-use Rattle.inlining.specs.branch_equations.Branches.{ConstructorBranch, constructor_branch, constructor_branches, add_branch, below_quantifiers, HasSides, matched_parameter, quantifiers, branch_equation, facts_by, member_facts}
+use Rattle.tr_inline.specs.inlining.branch_equations.Branches.{ConstructorBranch, constructor_branch, constructor_branches, add_branch, below_quantifiers, HasSides, matched_parameter, quantifiers, branch_equation, facts_by, member_facts}
 use Rattle.checks.specs.decl_checks.Structure.{defining_body}
 use Rattle.declarations.proofs.spelled_groups.Saying.{got_some}
 use Rattle.tr_recursion.specs.declared.recursion_forms.branches.Branch.{Branch}

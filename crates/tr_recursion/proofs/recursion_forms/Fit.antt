@@ -18,7 +18,7 @@ use Rattle.tasks.specs.Valid.{IsTypeIn, IsDefinition, IsValidBody}
 use Rattle.tasks.specs.Meaning.{symbol_at, symbols_at, definition_at, definitions_at, body_at, SymbolHeld, BodyHeld}
 use Rattle.declarations.specs.Stored.{IsValidIn}
 use Rattle.declarations.proofs.spelled_groups.Saying.{got_some}
-use Rattle.inlining.proofs.branch_equations.Formulas.{branches_sided}
+use Rattle.tr_inline.proofs.inlining.branch_equations.Formulas.{branches_sided}
 use Rattle.tr_recursion.specs.recursion_forms.Made.{DefinitionIsFit}
 
 module _ (s : List Tree) (v : Vocabulary) (infos : List SymbolInfo) (same : v.symbols ≡ symbols_at s infos) (held : All (SymbolHeld s) infos) where

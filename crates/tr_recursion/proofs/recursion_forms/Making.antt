@@ -8,7 +8,7 @@ use Rattle.trees.specs.Binding.{inst_many}
 use Rattle.trees.specs.Node.{tree_at, trees_at, Holds, Grows}
 use Rattle.trees.specs.binders.Visits.{AreHeldOfSort, trees_stay}
 use Rattle.tasks.specs.Equations.{cells}
-use Rattle.inlining.specs.branch_equations.Branches.{ConstructorBranch, field_type, parameters_before, parameters_after, variables_above, branch_types, branch_fields, branch_parameters, pattern_fields, branch_sides}
+use Rattle.tr_inline.specs.inlining.branch_equations.Branches.{ConstructorBranch, field_type, parameters_before, parameters_after, variables_above, branch_types, branch_fields, branch_parameters, pattern_fields, branch_sides}
 use Rattle.tr_recursion.specs.declared.recursion_forms.branches.Branch.{Branch}
 use Rattle.tr_recursion.specs.recursion_forms.Read.{constructor_branch_at, IsBranchHeld}
 use Rattle.tr_recursion.specs.recursion_forms.Made.{parameters_with, sides_with}

@@ -10,7 +10,7 @@ use Rattle.trees.specs.Node.{tree_at, trees_at, Holds, Grows}
 use Rattle.trees.specs.Sorts.{sort_of, IsList}
 use Rattle.trees.specs.binders.Visits.{AreHeldOfSort, trees_stay}
 use Rattle.tasks.specs.Typing.{members}
-use Rattle.inlining.specs.branch_equations.Branches.{is_plain_field, variables_above}
+use Rattle.tr_inline.specs.inlining.branch_equations.Branches.{is_plain_field, variables_above}
 use Rattle.tr_recursion.specs.declared.recursion_forms.branches.Branch.{Branch}
 use Rattle.tr_recursion.specs.recursion_forms.Read.{constructor_branch_at, IsBranchHeld}
 

@@ -4,7 +4,7 @@ use Rattle.std.specs.List.{list_any}
 use Rattle.std.specs.Option.{option_map, is_some}
 use Rattle.trees.specs.Tree.{Tree, One, Two, HBound, HCell, HCase}
 use Rattle.trees.specs.laws.Indices.{eqb_true, eqb_other}
-use Rattle.inlining.specs.branch_equations.Branches.{ConstructorBranch, constructor_branch, add_branch, constructor_branches, are_different, if_different, matched_parameter}
+use Rattle.tr_inline.specs.inlining.branch_equations.Branches.{ConstructorBranch, constructor_branch, add_branch, constructor_branches, are_different, if_different, matched_parameter}
 use Rattle.tr_recursion.specs.recursion_forms.Read.{branches_or_none}
 
 abbrev pub Names : ℕ → List ConstructorBranch → Bool

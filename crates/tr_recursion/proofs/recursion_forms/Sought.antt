@@ -17,7 +17,7 @@ use Rattle.declarations.proofs.Places.{slice_left}
 use Rattle.checks.specs.recursive_groups.Groups.{is_recursive}
 use Rattle.declarations.specs.spelled_groups.Spelled.{said_of}
 use Rattle.declarations.proofs.spelled_groups.SoughtClauses.{after_right, after_one}
-use Rattle.inlining.specs.branch_equations.Branches.{ConstructorBranch, constructor_branch, constructor_branches, branch_fact, member_facts, recursion_facts}
+use Rattle.tr_inline.specs.inlining.branch_equations.Branches.{ConstructorBranch, constructor_branch, constructor_branches, branch_fact, member_facts, recursion_facts}
 use Rattle.tr_recursion.proofs.recursion_forms.Definitions.{first_of}
 
 -- ---- the branches of a definition

@@ -4,7 +4,7 @@ use Rattle.std.specs.List.{list_all}
 use Rattle.tasks.specs.trees.Tree.{Tree, Leaf, Two, Three, HEnd, HCell, HArm, HCase, HFun, HPatCon}
 use Rattle.tasks.specs.trees.Binding.{inst_many}
 use Rattle.tasks.specs.Equations.{cells}
-use Rattle.inlining.specs.branch_equations.Branches.{ConstructorBranch, is_plain_field, bound_fields}
+use Rattle.tr_inline.specs.inlining.branch_equations.Branches.{ConstructorBranch, is_plain_field, bound_fields}
 
 -- branches on constructors, as a tree
 abbrev pub branch_pattern : ConstructorBranch → Tree

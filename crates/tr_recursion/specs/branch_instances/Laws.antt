@@ -10,13 +10,13 @@ use Rattle.tasks.specs.Roles.{ConstructorRole, ProjectionRole, role}
 use Rattle.tasks.specs.Looking.{fact_name}
 use Rattle.tasks.specs.Vocabulary.{Vocabulary}
 use Rattle.tasks.specs.Valid.{IsDefinition, IsValid}
-use Rattle.inlining.specs.images.Instances.{for_all_at}
+use Rattle.tr_inline.specs.inlining.images.Instances.{for_all_at}
 use Rattle.evidence.specs.Facts.{fact_named}
 use Rattle.declarations.specs.Rewritten.{rewritten_task}
 use Rattle.declarations.specs.Said.{all_said}
 use Rattle.checks.specs.decl_checks.Structure.{defining_body}
 use Rattle.declarations.specs.spelled_groups.Spelled.{spelling_rule, spelling_said}
-use Rattle.inlining.specs.branch_equations.Branches.{ConstructorBranch, quantifiers, are_different, branch_equation, recursion_facts}
+use Rattle.tr_inline.specs.inlining.branch_equations.Branches.{ConstructorBranch, quantifiers, are_different, branch_equation, recursion_facts}
 use Rattle.tr_recursion.specs.branch_instances.Chosen.{arms_of, has_plain_fields}
 use Rattle.tr_recursion.specs.branch_instances.Instances.{SaysChosen}
 use Rattle.tr_recursion.specs.branch_instances.Origins.{IsOldFact}

@@ -8,7 +8,7 @@ use Rattle.tasks.specs.Valid.{IsDefinition}
 use Rattle.evidence.specs.Facts.{fact_named}
 use Rattle.declarations.specs.Said.{content}
 use Rattle.checks.specs.decl_checks.Structure.{defining_body}
-use Rattle.inlining.specs.branch_equations.Branches.{ConstructorBranch, matched_parameter, quantifiers, branch_fact}
+use Rattle.tr_inline.specs.inlining.branch_equations.Branches.{ConstructorBranch, matched_parameter, quantifiers, branch_fact}
 
 -- what a branch of a definition says, and the definition's equation
 pub record IsBranchOf (v : Vocabulary) (x y : FactTree) : Type 0 where

@@ -7,7 +7,7 @@ use Rattle.trees.specs.Binding.{inst_types, AreClosed}
 use Rattle.trees.specs.Node.{tree_at, Holds}
 use Rattle.tasks.specs.Task.{TaskTree, DefinitionTree, symbol_or}
 use Rattle.tasks.specs.Valid.{IsTypeOver}
-use Rattle.inlining.specs.branch_equations.Branches.{ConstructorBranch, matched_parameter, quantifiers, branch_equation}
+use Rattle.tr_inline.specs.inlining.branch_equations.Branches.{ConstructorBranch, matched_parameter, quantifiers, branch_equation}
 use Rattle.tr_recursion.specs.branch_instances.Chosen.{IsChosenOf}
 use Rattle.tr_inline.specs.inlining.images.Instances.{for_all_at}
 use Rattle.tr_inline.specs.checks.decl_checks.Structure.{defining_body}

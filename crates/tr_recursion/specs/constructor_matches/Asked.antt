@@ -15,7 +15,7 @@ use Rattle.tasks.specs.MatchTests.{test as match_test}
 use Rattle.congruence.specs.kernel.rules.Forms.{equal}
 use Rattle.evidence.specs.Drafts.{DraftTree, IsFormulaAt}
 use Rattle.congruence.specs.Alike.{IsClosedAt, ArePair}
-use Rattle.inlining.specs.branch_equations.Branches.{ConstructorBranch, bound_fields}
+use Rattle.tr_inline.specs.inlining.branch_equations.Branches.{ConstructorBranch, bound_fields}
 use Rattle.tr_recursion.specs.declared.constructor_matches.fields.Application.{Application}
 use Rattle.tr_recursion.specs.declared.constructor_matches.branches.FirstBranch.{FirstBranch}
 use Rattle.tr_recursion.specs.declared.constructor_matches.branches.OpenedBranch.{OpenedBranch}

@@ -9,7 +9,7 @@ use Rattle.tasks.specs.declared.signature.SymbolInfo.{SymbolInfo}
 use Rattle.tasks.specs.declared.declaration.Def.{Def}
 use Rattle.tasks.specs.Equations.{cells}
 use Rattle.checks.specs.decl_checks.Structure.{defining_body}
-use Rattle.inlining.specs.branch_equations.Branches.{ConstructorBranch, parameters_before, parameters_after, variables_above, matched_parameter, quantifiers, below_quantifiers, HasSides}
+use Rattle.tr_inline.specs.inlining.branch_equations.Branches.{ConstructorBranch, parameters_before, parameters_after, variables_above, matched_parameter, quantifiers, below_quantifiers, HasSides}
 
 -- what the parameters are, where these terms are the fields
 abbrev pub parameters_with : List Tree → ℕ → ConstructorBranch → List Tree → List Tree

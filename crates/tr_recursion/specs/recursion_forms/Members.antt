@@ -7,7 +7,7 @@ use Rattle.trees.specs.Sorts.{sort_of}
 use Rattle.trees.specs.binders.Visits.{HoldTypes}
 use Rattle.tasks.specs.declared.facts.Fact.TheVariants.{Equation}
 use Rattle.tasks.specs.Facts.{FactTree}
-use Rattle.inlining.specs.branch_equations.Branches.{ConstructorBranch, constructor_branches, below_quantifiers, HasSides, branch_equation}
+use Rattle.tr_inline.specs.inlining.branch_equations.Branches.{ConstructorBranch, constructor_branches, below_quantifiers, HasSides, branch_equation}
 use Rattle.tr_recursion.specs.declared.recursion_forms.saying.Member.{Member}
 
 pub record MemberIsHeld (s : List Tree) (m : Member) : Type 0 where

@@ -6,7 +6,7 @@ use Rattle.trees.specs.Tree.{Tree}
 use Rattle.trees.specs.Node.{tree_at, Holds}
 use Rattle.trees.specs.Sorts.{sort_of, IsList}
 use Rattle.tasks.specs.Typing.{members}
-use Rattle.inlining.specs.branch_equations.Branches.{ConstructorBranch, is_plain_field, constructor_branches}
+use Rattle.tr_inline.specs.inlining.branch_equations.Branches.{ConstructorBranch, is_plain_field, constructor_branches}
 use Rattle.tr_recursion.specs.declared.recursion_forms.branches.Branch.{Branch}
 use Rattle.tr_recursion.specs.declared.recursion_forms.branches.Matched.{Matched}
 

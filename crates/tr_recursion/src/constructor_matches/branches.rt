@@ -5,7 +5,7 @@ ghost use Rattle.trees.specs.Node.{tree_at, trees_at, Holds};
 ghost use Rattle.trees.specs.Sorts.{sort_of};
 ghost use Rattle.evidence.specs.Drafts.{Extends, AddsTrees};
 ghost use Rattle.tasks.specs.MatchTests.{test, bind};
-ghost use Rattle.inlining.specs.images.PatternTerms.{IsTypedPattern};
+ghost use Rattle.tr_inline.specs.inlining.images.PatternTerms.{IsTypedPattern};
 ghost use Rattle.trees.specs.binders.Visits.{HoldTerms};
 ghost use Rattle.tr_recursion.specs.constructor_matches.Asked.{IsFirstBranch, IsFirstOpened};
 

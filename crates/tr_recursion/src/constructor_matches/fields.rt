@@ -5,7 +5,7 @@ ghost use Rattle.trees.specs.Node.{tree_at, trees_at, Holds};
 ghost use Rattle.trees.specs.Sorts.{IsList};
 ghost use Rattle.trees.specs.binders.Visits.{HoldTerms};
 ghost use Rattle.tasks.specs.Typing.{members};
-ghost use Rattle.inlining.specs.branch_equations.Branches.{bound_fields};
+ghost use Rattle.tr_inline.specs.inlining.branch_equations.Branches.{bound_fields};
 ghost use Rattle.tr_recursion.specs.constructor_matches.Asked.{IsApplicationAt, part_members};
 
 use evidence::Draft;

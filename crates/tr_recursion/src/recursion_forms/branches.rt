@@ -6,7 +6,7 @@ ghost use Rattle.std.specs.Option.{option_map, is_some};
 ghost use Rattle.trees.specs.Node.{tree_at, Holds};
 ghost use Rattle.tasks.specs.Typing.{members};
 ghost use Rattle.checks.specs.decl_checks.Structure.{defining_body};
-ghost use Rattle.inlining.specs.branch_equations.Branches.{ConstructorBranch, is_plain_field, constructor_branch, constructor_branches, if_different, matched_parameter, quantifiers, below_quantifiers};
+ghost use Rattle.tr_inline.specs.inlining.branch_equations.Branches.{ConstructorBranch, is_plain_field, constructor_branch, constructor_branches, if_different, matched_parameter, quantifiers, below_quantifiers};
 ghost use Rattle.tr_recursion.specs.recursion_forms.Read.{constructor_branch_at, IsBranchHeld, matched_at, HasBranches};
 
 use checks::recursive_groups::defining_body;

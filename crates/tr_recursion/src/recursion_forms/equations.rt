@@ -10,7 +10,7 @@ ghost use Rattle.trees.specs.binders.Visits.{HoldsTerm, HoldTerms, HoldTypes};
 ghost use Rattle.tasks.specs.Typing.{members};
 ghost use Rattle.tasks.specs.Equations.{cells, for_all};
 ghost use Rattle.declarations.specs.spelled_groups.Making.{IsFormulaId};
-ghost use Rattle.inlining.specs.branch_equations.Branches.{is_plain_field, field_type, bound_fields, branch_types, branch_fields, branch_sides, branch_equation, below_quantifiers, HasSides};
+ghost use Rattle.tr_inline.specs.inlining.branch_equations.Branches.{is_plain_field, field_type, bound_fields, branch_types, branch_fields, branch_sides, branch_equation, below_quantifiers, HasSides};
 ghost use Rattle.tr_recursion.specs.recursion_forms.Read.{constructor_branch_at, IsBranchHeld};
 ghost use Rattle.tr_recursion.specs.recursion_forms.Made.{parameters_with, sides_with};
 

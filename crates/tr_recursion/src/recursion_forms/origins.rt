@@ -10,7 +10,7 @@ ghost use Rattle.tasks.specs.Looking.{fact_name};
 ghost use Rattle.tasks.specs.Meaning.{definition_at, definitions_at, declaration_at, DeclHeld};
 ghost use Rattle.declarations.specs.Said.{IsFactSearch};
 ghost use Rattle.declarations.specs.spelled_groups.Spelled.{spelling_said};
-ghost use Rattle.inlining.specs.branch_equations.Branches.{ConstructorBranch, constructor_branches, branch_fact, member_facts, recursion_facts};
+ghost use Rattle.tr_inline.specs.inlining.branch_equations.Branches.{ConstructorBranch, constructor_branches, branch_fact, member_facts, recursion_facts};
 
 use crate::recursion_forms::branches::matched_parameter;
 use checks::recursive_groups::is_recursive;

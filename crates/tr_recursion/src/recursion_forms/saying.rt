@@ -10,7 +10,7 @@ ghost use Rattle.tasks.specs.Facts.{FactTree};
 ghost use Rattle.tasks.specs.Meaning.{symbols_at, definition_at, definitions_at, body_at, SymbolHeld};
 ghost use Rattle.declarations.specs.Stored.{IsValidIn};
 ghost use Rattle.declarations.specs.spelled_groups.Stored.{facts_at, SaidHeld};
-ghost use Rattle.inlining.specs.branch_equations.Branches.{ConstructorBranch, constructor_branches, below_quantifiers, HasSides, member_facts, recursion_facts};
+ghost use Rattle.tr_inline.specs.inlining.branch_equations.Branches.{ConstructorBranch, constructor_branches, below_quantifiers, HasSides, member_facts, recursion_facts};
 ghost use Rattle.tr_recursion.specs.recursion_forms.Read.{constructor_branch_at, IsBranchHeld};
 ghost use Rattle.tr_recursion.specs.recursion_forms.Made.{DefinitionIsFit};
 ghost use Rattle.tr_recursion.specs.recursion_forms.Members.{member_branch_fact, MemberIsHeld, BranchesAreSided};

@@ -8,7 +8,7 @@ ghost use Rattle.trees.specs.Sorts.{sort_of, IsList};
 ghost use Rattle.trees.specs.declared.Sort.TheVariants.{Kind, Term};
 ghost use Rattle.trees.specs.binders.Visits.{HoldsTerm, HoldTerms, HoldTypes};
 ghost use Rattle.tasks.specs.Equations.{cells};
-ghost use Rattle.inlining.specs.branch_equations.Branches.{variables_above};
+ghost use Rattle.tr_inline.specs.inlining.branch_equations.Branches.{variables_above};
 ghost use Rattle.tr_recursion.specs.recursion_forms.Made.{HaveRoom};
 
 use std::alloc::{AllocError, Global};

@@ -1,6 +1,6 @@
 use Rattle.declarations.specs.spelled_groups.Kept.{spelling_props}
-use Rattle.inlining.specs.branch_equations.Branches.{recursion_facts}
-use Rattle.inlining.proofs.branch_equations.AtTerms.{branches_at_terms}
+use Rattle.tr_inline.specs.inlining.branch_equations.Branches.{recursion_facts}
+use Rattle.tr_inline.proofs.inlining.branch_equations.AtTerms.{branches_at_terms}
 use Rattle.tr_recursion.proofs.branch_instances.Instances.{says_chosen}
 use Rattle.tr_recursion.proofs.branch_instances.Origins.{old_fact_of}
 use Rattle.tr_recursion.proofs.branch_instances.Projections.{projection_role}

@@ -2,7 +2,7 @@ use Rattle.std.proofs.Common.{◌∙◌, ◌+◌, ℕ, ap}
 use Rattle.tasks.specs.Meaning.{declaration_at, declarations_at}
 use Rattle.declarations.proofs.Places.{origin_here, origin_after}
 use Rattle.tr_define.specs.declarations.spelled_groups.Spelled.{spelling_said}
-use Rattle.inlining.specs.branch_equations.Branches.{recursion_facts}
+use Rattle.tr_inline.specs.inlining.branch_equations.Branches.{recursion_facts}
 use Rattle.tr_recursion.proofs.origins.+origin_of.Goals as goal
 
 pub returns-in-Here : goal.returns-in-Here

@@ -3,7 +3,7 @@ use Rattle.trees.specs.Tree.{Tree, Two, HForall}
 use Rattle.trees.specs.Node.{tree_at, node_tree}
 use Rattle.tasks.specs.Task.{TaskTree}
 use Rattle.evidence.specs.Laws.{Extends_trans, AddsTrees_extends}
-use Rattle.inlining.specs.branch_equations.Branches.{quantifiers}
+use Rattle.tr_inline.specs.inlining.branch_equations.Branches.{quantifiers}
 use Rattle.tr_inline.specs.Definitions.{IsDefinedIn, defined_later}
 use Rattle.tr_recursion.specs.branch_steps.Instances.{OpensToBranch}
 use Rattle.tr_recursion.proofs.branch_steps.Quantifiers.{fewer_at, none_counted, opened_at, opened_whole}

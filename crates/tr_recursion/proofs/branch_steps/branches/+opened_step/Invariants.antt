@@ -1,5 +1,5 @@
 use Rattle.trees.specs.Node.{tree_at}
-use Rattle.inlining.specs.branch_equations.Branches.{quantifiers}
+use Rattle.tr_inline.specs.inlining.branch_equations.Branches.{quantifiers}
 use Rattle.tr_recursion.proofs.branch_steps.branches.+opened_step.Given as goal
 
 abbrev pub decreases-opened_step : goal.decreases-opened_step

@@ -2,7 +2,7 @@ use Rattle.std.proofs.Common.{◌≡◌, [], sym, ap, subst, ◌∙◌}
 use Rattle.trees.specs.Node.{tree_at}
 use Rattle.tasks.specs.Task.{TaskTree}
 use Rattle.tasks.specs.Meaning.{task_at}
-use Rattle.inlining.specs.images.PatternTerms.{IsTypedPattern}
+use Rattle.tr_inline.specs.inlining.images.PatternTerms.{IsTypedPattern}
 use Rattle.tr_recursion.proofs.constructor_matches.branches.ask_pattern.Goals as goal
 
 pub ask-requires-clause-pattern : goal.ask-requires-clause-pattern

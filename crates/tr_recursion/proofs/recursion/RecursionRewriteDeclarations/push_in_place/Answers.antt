@@ -1,7 +1,7 @@
 use Rattle.std.proofs.Common.{◌∙◌}
 use Rattle.std.proofs.lemmas.Result.{on_ok_weaker}
 use Rattle.tasks.proofs.Growth.{decl_held_later}
-use Rattle.inlining.specs.branch_equations.Branches.{recursion_facts}
+use Rattle.tr_inline.specs.inlining.branch_equations.Branches.{recursion_facts}
 use Rattle.tr_define.proofs.Placed.{all_held, placed}
 use Rattle.tr_recursion.proofs.recursion.RecursionRewriteDeclarations.push_in_place.Goals as goal
 

@@ -8,7 +8,7 @@ use Rattle.tasks.specs.Meaning.{declarations_at, task_at}
 use Rattle.evidence.specs.Facts.{IsFact}
 use Rattle.declarations.specs.Said.{said_from}
 use Rattle.tr_define.specs.declarations.spelled_groups.Spelled.{spelling_said}
-use Rattle.inlining.specs.branch_equations.Branches.{recursion_facts}
+use Rattle.tr_inline.specs.inlining.branch_equations.Branches.{recursion_facts}
 use Rattle.tr_recursion.proofs.Followed.{followed, none_followed, fact_stays}
 use Rattle.tr_recursion.proofs.recursion.RecursionTransform.fact.Goals as goal
 

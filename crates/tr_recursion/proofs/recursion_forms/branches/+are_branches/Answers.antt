@@ -1,6 +1,6 @@
 use Rattle.std.proofs.Common.{List, Option, true, false, sym, ap, ◌∙◌}
 use Rattle.trees.specs.Node.{tree_at}
-use Rattle.inlining.specs.branch_equations.Branches.{ConstructorBranch, constructor_branches}
+use Rattle.tr_inline.specs.inlining.branch_equations.Branches.{ConstructorBranch, constructor_branches}
 use Rattle.tr_recursion.specs.recursion_forms.Read.{constructor_branch_at, branches_or_none}
 use Rattle.tr_recursion.proofs.recursion_forms.Reading.{Names, different_step}
 use Rattle.tr_recursion.proofs.recursion_forms.branches.+are_branches.Goals as goal

@@ -1,7 +1,7 @@
 use Rattle.std.proofs.Common.{sym, ◌∙◌}
 use Rattle.trees.specs.Node.{tree_at}
 use Rattle.checks.specs.decl_checks.Structure.{defining_body}
-use Rattle.inlining.specs.branch_equations.Branches.{quantifiers}
+use Rattle.tr_inline.specs.inlining.branch_equations.Branches.{quantifiers}
 use Rattle.tr_recursion.proofs.recursion_forms.Reading.{matched_here, no_branches, not_matched}
 use Rattle.tr_recursion.proofs.recursion_forms.branches.matched_parameter.Goals as goal
 use Rattle.tr_recursion.proofs.recursion_forms.branches.matched_parameter.Goals.{else-has_parameter-via-then-has_parameter+else-are_branches, else-has_parameter-via-else-has_parameter}

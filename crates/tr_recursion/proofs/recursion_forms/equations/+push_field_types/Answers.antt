@@ -6,7 +6,7 @@ use Rattle.trees.specs.Tree.{Tree, Two, HCell}
 use Rattle.trees.specs.Node.{tree_at}
 use Rattle.trees.specs.binders.Visits.{HoldTypes}
 use Rattle.tasks.specs.Typing.{members}
-use Rattle.inlining.specs.branch_equations.Branches.{is_plain_field}
+use Rattle.tr_inline.specs.inlining.branch_equations.Branches.{is_plain_field}
 use Rattle.tr_recursion.proofs.recursion_forms.Numbers.{held_append}
 use Rattle.tr_recursion.proofs.recursion_forms.equations.+push_field_types.Goals as goal
 

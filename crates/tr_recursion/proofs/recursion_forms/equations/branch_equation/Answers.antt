@@ -5,7 +5,7 @@ use Rattle.trees.specs.Node.{tree_at, trees_at}
 use Rattle.trees.specs.Sorts.{sort_of}
 use Rattle.trees.specs.binders.Visits.{held_stays, trees_stay}
 use Rattle.tasks.specs.Equations.{for_all}
-use Rattle.inlining.specs.branch_equations.Branches.{branch_types, branch_sides, HasSides}
+use Rattle.tr_inline.specs.inlining.branch_equations.Branches.{branch_types, branch_sides, HasSides}
 use Rattle.tr_recursion.specs.recursion_forms.Read.{constructor_branch_at}
 use Rattle.tr_recursion.proofs.recursion_forms.equations.branch_equation.Goals as goal
 

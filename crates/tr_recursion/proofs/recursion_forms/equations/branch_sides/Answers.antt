@@ -7,7 +7,7 @@ use Rattle.trees.specs.Node.{tree_at, trees_at, Grows}
 use Rattle.trees.specs.Sorts.{sort_of}
 use Rattle.trees.specs.binders.Visits.{HoldTerms, held_stays, trees_stay}
 use Rattle.tasks.specs.Typing.{members}
-use Rattle.inlining.specs.branch_equations.Branches.{ConstructorBranch, bound_fields, pattern_fields, HasSides}
+use Rattle.tr_inline.specs.inlining.branch_equations.Branches.{ConstructorBranch, bound_fields, pattern_fields, HasSides}
 use Rattle.tr_recursion.specs.recursion_forms.Read.{constructor_branch_at}
 use Rattle.tr_recursion.specs.recursion_forms.Made.{parameters_with, sides_with}
 use Rattle.tr_recursion.proofs.recursion_forms.Numbers.{branch_same, branch_held_later}

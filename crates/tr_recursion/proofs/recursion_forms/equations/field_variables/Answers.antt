@@ -2,7 +2,7 @@ use Rattle.std.proofs.Common.{◌≡◌, ℕ, List, map, length, ap, ◌∙◌}
 use Rattle.trees.specs.Tree.{Tree}
 use Rattle.trees.specs.Node.{tree_at, trees_at}
 use Rattle.tasks.specs.Typing.{members}
-use Rattle.inlining.specs.branch_equations.Branches.{field_type, parameters_after, variables_above}
+use Rattle.tr_inline.specs.inlining.branch_equations.Branches.{field_type, parameters_after, variables_above}
 use Rattle.tr_recursion.proofs.recursion_forms.Making.{after_count}
 use Rattle.tr_recursion.proofs.recursion_forms.equations.field_variables.Goals as goal
 

@@ -6,7 +6,7 @@ use Rattle.trees.specs.declared.Sort.TheVariants.{Kind, Term}
 use Rattle.trees.specs.Tree.{Tree}
 use Rattle.trees.specs.Node.{tree_at, trees_at}
 use Rattle.trees.specs.binders.Visits.{HoldTypes, HoldTerms, held_stays}
-use Rattle.inlining.specs.branch_equations.Branches.{variables_above}
+use Rattle.tr_inline.specs.inlining.branch_equations.Branches.{variables_above}
 use Rattle.tr_recursion.specs.recursion_forms.Read.{constructor_branch_at}
 use Rattle.tr_recursion.proofs.recursion_forms.Numbers.{held_append, held_take, held_drop, branch_held_later}
 use Rattle.tr_recursion.proofs.recursion_forms.Making.{parameters_made, built_later}

@@ -5,7 +5,7 @@ use Rattle.tasks.specs.Looking.{fact_name}
 use Rattle.tasks.specs.Meaning.{definition_at}
 use Rattle.declarations.specs.Said.{IsFactSearch}
 use Rattle.declarations.proofs.spelled_groups.SoughtClauses.{after_one}
-use Rattle.inlining.specs.branch_equations.Branches.{ConstructorBranch, constructor_branches, facts_by}
+use Rattle.tr_inline.specs.inlining.branch_equations.Branches.{ConstructorBranch, constructor_branches, facts_by}
 use Rattle.tr_recursion.specs.recursion_forms.Read.{branches_or_none}
 use Rattle.tr_recursion.proofs.recursion_forms.origins.origin_in_member.Goals as goal
 

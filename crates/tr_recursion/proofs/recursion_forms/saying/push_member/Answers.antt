@@ -6,7 +6,7 @@ use Rattle.tasks.specs.declared.facts.Fact.TheVariants.{Equation}
 use Rattle.tasks.specs.Facts.{FactTree}
 use Rattle.declarations.specs.spelled_groups.Stored.{facts_at}
 use Rattle.declarations.proofs.spelled_groups.Saying.{one_said}
-use Rattle.inlining.specs.branch_equations.Branches.{constructor_branches}
+use Rattle.tr_inline.specs.inlining.branch_equations.Branches.{constructor_branches}
 use Rattle.tr_recursion.specs.declared.recursion_forms.saying.Member.{Member}
 use Rattle.tr_recursion.specs.recursion_forms.Read.{branches_or_none}
 use Rattle.tr_recursion.proofs.recursion_forms.Definitions.{member_held, matched_sided, branches_said, whole_said}
