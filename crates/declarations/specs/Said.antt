@@ -1,4 +1,5 @@
--- What propositions of rewritten declarations say, each with the name of the fact of the old task from which it follows.
+-- What propositions of rewritten declarations say, each with the name of the fact of the old task
+-- from which it follows.
 use Rattle.std.specs.Prelude.{◌≡◌, ℕ, ◌+◌, List, [], ◌∷◌, ◌++◌, map, length, slice_get, Contains, Some}
 use Rattle.tasks.specs.declared.facts.Fact.{Fact}
 use Rattle.tasks.specs.Task.{SymbolTree, BodyTree, Says, DeclarationTree, TaskTree, PropositionTree, props_of}
@@ -24,11 +25,13 @@ content f = record { vars = f.vars; formula = f.formula }
 
 -- the propositions of what is put in the place of a declaration say this
 abbrev pub AreSaid : DeclarationRule → Sayings → Type 0
-AreSaid g w = (symbols : List SymbolTree) (n : ℕ) (d : DeclarationTree) → props_of (g symbols d) ≡ map content (w symbols n d)
+AreSaid g w = (symbols : List SymbolTree) (n : ℕ) (d : DeclarationTree)
+    → props_of (g symbols d) ≡ map content (w symbols n d)
 
 -- they are facts of the declaration themselves
 abbrev pub AreOwnFacts : Sayings → Type 0
-AreOwnFacts w = (symbols : List SymbolTree) (n : ℕ) (d : DeclarationTree) (f : FactTree) → Contains (w symbols n d) f → Contains (body_facts symbols n d.vars d.body) f
+AreOwnFacts w = (symbols : List SymbolTree) (n : ℕ) (d : DeclarationTree) (f : FactTree)
+    → Contains (w symbols n d) f → Contains (body_facts symbols n d.vars d.body) f
 
 -- what a declaration that stays says
 abbrev pub own_said : ℕ → DeclarationTree → BodyTree → List FactTree

@@ -1,4 +1,5 @@
--- Vocabularies that differ in what patterns may name, and trees that no pattern's constructor is in.
+-- Vocabularies that differ in what patterns may name, and trees that no pattern's constructor is
+-- in.
 use Rattle.std.specs.Prelude.{◌≡◌, ℕ, IsTrue}
 use Rattle.trees.specs.Tree.{Tree, Leaf, One, Two, Three, Head, HPatCon}
 use Rattle.tasks.specs.Vocabulary.{Vocabulary}

@@ -1,5 +1,5 @@
 -- Over a signature of which each entry that has a theory may be named, the types on right sides are types.
-use Rattle.std.proofs.Common.{◌≡◌, ◌⊎◌, inl, inr, ℕ, ◌-◌, ◌<◌, ◌≤◌, ◌&&◌, not, Bool, true, false, List, [], ◌∷◌, ◌++◌, length, slice_get, All, Option, Some, None, IsTrue, refl, sym, ap, subst, ◌∙◌, arith, append_assoc, append-nil}
+use Rattle.std.proofs.Common.{◌≡◌, ◌⊎◌, inl, inr, ℕ, ◌-◌, ◌<◌, ◌≤◌, not, false, List, [], ◌∷◌, ◌++◌, length, slice_get, All, Option, Some, None, IsTrue, refl, sym, ap, subst, ◌∙◌, arith, append_assoc, append-nil}
 use Rattle.std.specs.Str.{bytes_eq}
 use Rattle.std.proofs.lemmas.List.Elements.{All-nil, All-cons}
 use Rattle.elab_groups.specs.tasks.Task.{SymbolTree, int_symbol}
@@ -9,8 +9,7 @@ use Rattle.elab_groups.specs.surface.Lexeme.{Word}
 use Rattle.elab_groups.specs.surface.declared.names.Name.{Name}
 use Rattle.elab_groups.specs.surface.Declarations.{Element, type_element, symbol_element, prop_element, all_axioms}
 use Rattle.elab_groups.specs.name_resolution.Abstract.{TypeExpression, texts_of_names, type_expression}
-use Rattle.elab_groups.specs.name_resolution.declared.NamingFault.{NamingFault}
-use Rattle.elab_groups.specs.name_resolution.Faults.{first_of, form_fault}
+use Rattle.elab_groups.specs.name_resolution.Faults.{form_fault}
 use Rattle.elab_groups.specs.name_resolution.variables.Seen.{form_seen}
 use Rattle.elab_groups.specs.open_types.Pieces.{type_at}
 use Rattle.elab_groups.specs.parts.Elaborated.{unseen}
@@ -31,6 +30,7 @@ use Rattle.clones.specs.clone_elements.Plans.{sides_made}
 use Rattle.elaboration_laws.specs.Sides.{IsTypedRight, IsTypedSide, with_rights}
 use Rattle.std.proofs.lemmas.Option.{slice_get-get_or as some_at}
 use Rattle.elaboration_laws.proofs.Declarations.{below as slice_below}
+use Rattle.elab_groups.proofs.open_types.Walking.{none_both as first_none}
 
 -- ---- more entries
 pub entries_more : (xs ys : List SymbolTree) → IsSubvocabulary (of_signature xs) (of_signature (xs ++ ys))
@@ -93,10 +93,6 @@ form_typed c vars f typed q =
       type = form_in v c h seen news vars f resolved (form_tuples v w f unseen (tuples v c h seen news vars));
       setting = record { theory = typed.theory; source = typed.source; signature = inside_typed v c h seen news; scopes = inside_scopes v c h seen };
     }
-
-first_none : (a b : Option NamingFault) → first_of a b ≡ None → (a ≡ None) × (b ≡ None)
-first_none None b q = (refl, q)
-first_none (Some f) b q = absurd (cc)
 
 pub texts_count : (vs : List Name) → length (texts_of_names vs) ≡ length vs
 texts_count [] = refl

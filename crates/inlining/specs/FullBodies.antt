@@ -1,4 +1,5 @@
--- Inlining in one pass: each definition's body with the definitions before it inlined, and one rule for the uses of all.
+-- Inlining in one pass: each definition's body with the definitions before it inlined, and one rule
+-- for the uses of all.
 use Rattle.std.specs.Prelude.{ℕ, ◌==◌, if◌then◌else◌, List, [], ◌∷◌}
 use Rattle.tasks.specs.trees.Tree.{Tree, Two, Three, HFun, HPred}
 use Rattle.tasks.specs.Task.{DefinitionTree}
@@ -8,8 +9,10 @@ use Rattle.inlining.specs.Inlining.{use_body}
 
 -- a use of this symbol becomes this body, and at any other node another rule acts
 abbrev pub use_rule : ℕ → Tree → (Tree → Tree) → Tree → Tree
-use_rule k body f (Three (HFun s) types args ty) = if s == k then use_body body types args else f (Three (HFun s) types args ty)
-use_rule k body f (Two (HPred s) types args) = if s == k then use_body body types args else f (Two (HPred s) types args)
+use_rule k body f (Three (HFun s) types args ty) =
+    if s == k then use_body body types args else f (Three (HFun s) types args ty)
+use_rule k body f (Two (HPred s) types args) =
+    if s == k then use_body body types args else f (Two (HPred s) types args)
 use_rule k body f e = f e
 
 -- with one definition more after those of a rule

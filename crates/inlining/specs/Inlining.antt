@@ -1,5 +1,5 @@
--- Inlining: each use of a defined symbol becomes the body of its definition, at the types and arguments of the use (Why3 manual,
--- "inline_all", "inline_goal", "inline_trivial").
+-- Inlining: each use of a defined symbol becomes the body of its definition, at the types and
+-- arguments of the use (Why3 manual, "inline_all", "inline_goal", "inline_trivial").
 use Rattle.std.specs.Prelude.{ℕ, ◌==◌, Bool, true, false, not, ◌&&◌, if◌then◌else◌, List, [], ◌∷◌, ◌++◌, Result, Ok}
 use Rattle.std.specs.List.{list_any}
 use Rattle.tasks.specs.trees.Tree.{Tree, Leaf, One, Two, Three, HCell, HBound, HNum, HFun, HPred, HEq}
@@ -21,8 +21,10 @@ use_body body types args = inst_many (inst_types body (members types)) (members 
 
 -- a use of this symbol becomes this body, and any other node stays
 abbrev pub unfold_rule : ℕ → Tree → Tree → Tree
-unfold_rule k body (Three (HFun f) types args ty) = if f == k then use_body body types args else Three (HFun f) types args ty
-unfold_rule k body (Two (HPred p) types args) = if p == k then use_body body types args else Two (HPred p) types args
+unfold_rule k body (Three (HFun f) types args ty) =
+    if f == k then use_body body types args else Three (HFun f) types args ty
+unfold_rule k body (Two (HPred p) types args) =
+    if p == k then use_body body types args else Two (HPred p) types args
 unfold_rule k body e = e
 
 -- each use in a tree, its arguments first
@@ -46,7 +48,8 @@ with_parameter _ seen = seen
 
 -- each is a parameter, and none stands twice
 abbrev pub are_distinct_parameters : List ℕ → Tree → Bool
-are_distinct_parameters seen (Two HCell a b) = is_other_parameter seen a && are_distinct_parameters (with_parameter a seen) b
+are_distinct_parameters seen (Two HCell a b) =
+    is_other_parameter seen a && are_distinct_parameters (with_parameter a seen) b
 are_distinct_parameters seen _ = true
 
 -- a parameter, an integer, or one symbol or `=` on distinct parameters
@@ -71,7 +74,9 @@ all_definitions (d ∷ ds) = plain_definitions d.body ++ all_definitions ds
 -- those whose bodies, as they are written, are trivial
 abbrev pub trivial_definitions : List DefinitionTree → List DefinitionTree
 trivial_definitions [] = []
-trivial_definitions (d ∷ ds) = if is_trivial (defining_body d.equation) then d ∷ trivial_definitions ds else trivial_definitions ds
+trivial_definitions (d ∷ ds) =
+    if is_trivial (defining_body d.equation) then d
+    ∷ trivial_definitions ds else trivial_definitions ds
 
 -- those that are inlined
 abbrev pub inlined_definitions : InlineMode → List DeclarationTree → List DefinitionTree

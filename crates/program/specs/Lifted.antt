@@ -13,7 +13,8 @@ use Rattle.stages.specs.Lifted.{HandedHasSequents}
 use Rattle.program.specs.declared.parts.StagedTask.{StagedTask}
 use Rattle.program.specs.declared.derivation.RefutedTask.{RefutedTask}
 
--- The text is a file of steps that derive the task, and each given step has its sequent among theirs.
+-- The text is a file of steps that derive the task, and each given step has its sequent among
+-- theirs.
 pub record IsLifted (t : TaskTree) (handed : List (List StepTree)) (text : List ℕ) : Type 0 where
   pub steps : List StepTree
   pub derives : StepsOf t (task_names t) None text steps
@@ -21,7 +22,8 @@ pub record IsLifted (t : TaskTree) (handed : List (List StepTree)) (text : List 
 
 -- the stages of a driver, with the task carried through them
 abbrev pub IsStaged : List Tree → TaskTree → StagedTask → Type 0
-IsStaged s t p = IsCarried (map equation_of p.stages.items) s t p.carried.levels.items p.carried.tasks.items
+IsStaged s t p =
+    IsCarried (map equation_of p.stages.items) s t p.carried.levels.items p.carried.tasks.items
 
 -- a task carried through stages, with refutations of its parts
 pub record IsRefutedTask (s : List Tree) (t : TaskTree) (r : RefutedTask) : Type 0 where

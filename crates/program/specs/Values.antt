@@ -21,11 +21,13 @@ use Rattle.program.specs.declared.parts.PartProblems.{PartProblems}
 use Rattle.program.specs.declared.parts.StagedTask.{StagedTask}
 use Rattle.program.specs.declared.derivation.RefutedTask.{RefutedTask}
 
-abbrev pub steps_in : {E : Type 0} → List Tree → Result (Vec Step Global) E → Result (List StepTree) E
+abbrev pub steps_in : {E : Type 0} → List Tree → Result (Vec Step Global) E
+    → Result (List StepTree) E
 steps_in s (Ok steps) = Ok (steps_at s steps.items)
 steps_in s (Err e) = Err e
 
-abbrev pub handed_in : {E : Type 0} → List Tree → Result (Vec (List Step) Global) E → Result (List (List StepTree)) E
+abbrev pub handed_in : {E : Type 0} → List Tree → Result (Vec (List Step) Global) E
+    → Result (List (List StepTree)) E
 handed_in s (Ok handed) = Ok (parts_at s handed.items)
 handed_in s (Err e) = Err e
 
@@ -33,7 +35,8 @@ abbrev pub tasks_in : {E : Type 0} → List Tree → Result StagedTask E → Res
 tasks_in s (Ok p) = Ok (tasks_at s p.carried.tasks.items)
 tasks_in s (Err e) = Err e
 
-abbrev pub refuted_in : {E : Type 0} → List Tree → Result RefutedTask E → Result (List (List StepTree)) E
+abbrev pub refuted_in : {E : Type 0} → List Tree → Result RefutedTask E
+    → Result (List (List StepTree)) E
 refuted_in s (Ok r) = Ok (parts_at s r.handed.items)
 refuted_in s (Err e) = Err e
 

@@ -1,5 +1,5 @@
--- Tasks carried through stages by their equations, or the first refusal: within a stage each task's in turn, and then that the tasks
--- of the stage are too large.
+-- Tasks carried through stages by their equations, or the first refusal: within a stage each task's
+-- in turn, and then that the tasks of the stage are too large.
 use Rattle.std.specs.Prelude.{ℕ, ◌+◌, List, [], ◌∷◌, ◌++◌, Result, Ok, Err}
 use Rattle.tasks.specs.Task.{TaskTree}
 use Rattle.evidence.specs.Stages.{Refusal, StageEquation}
@@ -16,7 +16,8 @@ map_ok f (Err e) = Err e
 -- the tasks that tasks become, in order
 abbrev pub all_tasks : StageEquation → List TaskTree → Result (List TaskTree) Refusal
 all_tasks equation [] = Ok []
-all_tasks equation (t ∷ ts) = and_then (equation t) (λ us. map_ok (λ vs. us ++ vs) (all_tasks equation ts))
+all_tasks equation (t ∷ ts) =
+    and_then (equation t) (λ us. map_ok (λ vs. us ++ vs) (all_tasks equation ts))
 
 -- one stage; its tasks aren't too large, each and all together
 abbrev pub carried_once : StageEquation → List TaskTree → Result (List TaskTree) Refusal
@@ -34,7 +35,8 @@ at_stage n (Err r) = Err (record { stage = n; refusal = r })
 -- stages in order, of which the first has this number
 abbrev pub carried : List StageEquation → ℕ → List TaskTree → Result (List TaskTree) StageRefusal
 carried [] n ts = Ok ts
-carried (equation ∷ equations) n ts = and_then (at_stage n (carried_once equation ts)) (carried equations (n + 1))
+carried (equation ∷ equations) n ts =
+    and_then (at_stage n (carried_once equation ts)) (carried equations (n + 1))
 
 -- a task carried through stages, the first of which has number 0
 abbrev pub carried_task : List StageEquation → TaskTree → Result (List TaskTree) StageRefusal

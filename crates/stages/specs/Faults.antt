@@ -20,5 +20,6 @@ refusal_at n r = record { stage = n; refusal = r }
 -- want of memory, or the first refusal
 abbrev pub IsCarryFault : {A : Type 0} → Result A StageRefusal → CarryFault → Type 0
 IsCarryFault said fault.Memory = Unit {0}
-IsCarryFault said (fault.Misplaced stage decl) = said ≡ Err (refusal_at stage (refusal.Misplaced decl))
+IsCarryFault said (fault.Misplaced stage decl) =
+    said ≡ Err (refusal_at stage (refusal.Misplaced decl))
 IsCarryFault said (fault.TooLarge stage) = said ≡ Err (refusal_at stage refusal.TooLarge)

@@ -26,7 +26,8 @@ levels_at s ls = map (level_at s) ls
 -- each task becomes so many of the tasks that come next
 abbrev pub BecomeEach : StageEquation → List TaskTree → List ℕ → List TaskTree → Type 0
 BecomeEach equation [] [] us = us ≡ []
-BecomeEach equation (t ∷ ts) (n ∷ ns) us = (n ≤ length us) × (equation t ≡ Ok (take n us)) × BecomeEach equation ts ns (drop n us)
+BecomeEach equation (t ∷ ts) (n ∷ ns) us =
+    (n ≤ length us) × (equation t ≡ Ok (take n us)) × BecomeEach equation ts ns (drop n us)
 BecomeEach equation _ _ us = ⊥
 
 -- the tasks of the first level, or those after the last stage
@@ -37,7 +38,8 @@ next_tasks (l ∷ ls) last = l.tasks
 -- each level becomes the next one by its stage
 abbrev pub AreLevels : List StageEquation → List LevelTree → List TaskTree → Type 0
 AreLevels [] [] last = Unit {0}
-AreLevels (e ∷ es) (l ∷ ls) last = BecomeEach e l.tasks l.counts (next_tasks ls last) × AreLevels es ls last
+AreLevels (e ∷ es) (l ∷ ls) last =
+    BecomeEach e l.tasks l.counts (next_tasks ls last) × AreLevels es ls last
 AreLevels _ _ last = ⊥
 
 -- its tasks are valid, and their numbers are held
@@ -45,7 +47,8 @@ abbrev pub IsLevelHeld : List Tree → Level → Type 0
 IsLevelHeld s l = AreTasks s l.tasks.items
 
 -- a task carried through stages: the levels that they are given, and the tasks after the last one
-pub record IsCarried (equations : List StageEquation) (s : List Tree) (t : TaskTree) (levels : List Level) (tasks : List Task) : Type 0 where
+pub record IsCarried (equations : List StageEquation) (s : List Tree) (t : TaskTree)
+    (levels : List Level) (tasks : List Task) : Type 0 where
   pub levels_are : All (IsLevelHeld s) levels
   pub are : AreTasks s tasks
   pub first : next_tasks (levels_at s levels) (tasks_at s tasks) ≡ t ∷ []
@@ -56,15 +59,19 @@ abbrev pub carried_from : List Tree → TaskLevels → TaskTree
 carried_from s c = task_or (next_tasks (levels_at s c.levels.items) (tasks_at s c.tasks.items)) 0
 
 -- tasks become others by an equation, so many each, and lists of steps refute those
-pub record IsRefutedLevel (equation : StageEquation) (s : List Tree) (tasks : List Task) (counts : List ℕ) (made : List Task) (parts : List (List Step)) : Type 0 where
+pub record IsRefutedLevel (equation : StageEquation) (s : List Tree) (tasks : List Task)
+    (counts : List ℕ) (made : List Task) (parts : List (List Step)) : Type 0 where
   pub are : AreTasks s tasks
   pub made_held : TasksHeld s made
   pub become : BecomeEach equation (tasks_at s tasks) counts (tasks_at s made)
   pub parts_held : PartsHeld s parts
   pub close : PartsClose (tasks_at s made) (parts_at s parts)
 
--- the first i tasks are derived from so many of the given lists, and the later ones become the tasks that are left
-pub record IsSoFar (equation : StageEquation) (ts : List TaskTree) (counts : List ℕ) (us : List TaskTree) (handed : List (List StepTree)) (i used : ℕ) (lists : List (List StepTree)) : Type 0 where
+-- the first i tasks are derived from so many of the given lists, and the later ones become the
+-- tasks that are left
+pub record IsSoFar (equation : StageEquation) (ts : List TaskTree) (counts : List ℕ)
+    (us : List TaskTree) (handed : List (List StepTree)) (i used : ℕ)
+    (lists : List (List StepTree)) : Type 0 where
   pub close : PartsClose (take i ts) lists
   pub within : used ≤ length handed
   pub left : BecomeEach equation (drop i ts) (drop i counts) (drop used us)

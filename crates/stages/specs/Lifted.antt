@@ -1,4 +1,5 @@
--- The derivations that are made of refutations of the tasks that a task becomes, and of those that tasks become.
+-- The derivations that are made of refutations of the tasks that a task becomes, and of those that
+-- tasks become.
 use Rattle.std.specs.Prelude.{◌≡◌, ℕ, ◌<◌, List, length, All}
 use Rattle.tasks.specs.trees.Tree.{Tree}
 use Rattle.tasks.specs.trees.Node.{Grows}
@@ -26,14 +27,16 @@ abbrev pub ListsHaveSequents : List (List StepTree) → List (List StepTree) →
 ListsHaveSequents lists handed = All (λ part. All (OneHasSequent lists) part) handed
 
 -- in a store that has grown, steps derive a task, with the sequents of the given steps
-pub record IsDerived (s : List Tree) (t : TaskTree) (handed : List (List StepTree)) (d : Derived) : Type 0 where
+pub record IsDerived (s : List Tree) (t : TaskTree) (handed : List (List StepTree))
+    (d : Derived) : Type 0 where
   pub grows : Grows s d.store
   pub held : StepsHeld d.store d.steps
   pub closes : Closes t (steps_at d.store d.steps)
   pub sequents : HandedHasSequents (steps_at d.store d.steps) handed
 
 -- and so for tasks
-pub record AreDerived (s : List Tree) (ts : List TaskTree) (handed : List (List StepTree)) (p : PartSteps) : Type 0 where
+pub record AreDerived (s : List Tree) (ts : List TaskTree) (handed : List (List StepTree))
+    (p : PartSteps) : Type 0 where
   pub grows : Grows s p.store
   pub held : PartsHeld p.store p.lists.items
   pub close : PartsClose ts (parts_at p.store p.lists.items)

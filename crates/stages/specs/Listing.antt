@@ -1,4 +1,5 @@
--- The stages of a driver for a task (Why3 manual, "Drivers"): the removal of propositions, then its transformations by their names.
+-- The stages of a driver for a task (Why3 manual, "Drivers"): the removal of propositions, then its
+-- transformations by their names.
 use Rattle.std.specs.Prelude.{ℕ, Bool, ◌&&◌, if◌then◌else◌, List, [], ◌∷◌, ◌++◌, map}
 use Rattle.std.specs.List.{list_any}
 use Rattle.std.specs.Str.{bytes_eq}
@@ -21,8 +22,8 @@ abbrev pub removed_of : List (List ℕ) → List DeclarationTree → List (List 
 removed_of paths [] = []
 removed_of paths (d ∷ ds) = name_if paths d ++ removed_of paths ds
 
--- the propositions that a driver removes from a task, by their theories and names: those that it names, and all of the theories
--- that it names
+-- the propositions that a driver removes from a task, by their theories and names: those that it
+-- names, and all of the theories that it names
 abbrev pub removed_names : Driver → TaskTree → List (List ℕ × List ℕ)
 removed_names d t = d.removed ++ removed_of d.all_removed t.decls
 

@@ -12,12 +12,14 @@ pub record AreTasks (s : List Tree) (tasks : List Task) : Type 0 where
   pub valid : All IsValid (tasks_at s tasks)
 
 -- and they are those that something gives
-pub record AreTasksOf {E : Type 0} (said : Result (List TaskTree) E) (s : List Tree) (tasks : List Task) : Type 0 where
+pub record AreTasksOf {E : Type 0} (said : Result (List TaskTree) E) (s : List Tree)
+    (tasks : List Task) : Type 0 where
   pub are : AreTasks s tasks
   pub is : said ≡ Ok (tasks_at s tasks)
 
 -- the tasks that something gives, so many, were put after others, in a store that has grown
-pub record ArePushed {E : Type 0} (said : Result (List TaskTree) E) (s : List Tree) (old : List Task) (s' : List Tree) (new : List Task) (n : ℕ) : Type 0 where
+pub record ArePushed {E : Type 0} (said : Result (List TaskTree) E) (s : List Tree)
+    (old : List Task) (s' : List Tree) (new : List Task) (n : ℕ) : Type 0 where
   pub are : AreTasks s' new
   pub given : List TaskTree
   pub gives : said ≡ Ok given

@@ -17,7 +17,8 @@ abbrev pub all_plain : List (List ℕ) → Bool
 all_plain [] = true
 all_plain (w ∷ ws) = is_plain_word w && all_plain ws
 
--- A command's name, how many operands come after it, and whether any number more may. `stress` has no row.
+-- A command's name, how many operands come after it, and whether any number more may. `stress` has
+-- no row.
 pub record CommandRow : Type 0 where
   pub name : List ℕ
   pub operands : ℕ
@@ -26,10 +27,11 @@ pub record CommandRow : Type 0 where
 
 -- the row that a row of the code's table shows
 abbrev pub command_row : Row → CommandRow
-command_row row = record { name = row.name.now; operands = row.operands; more = row.more; command = row.command }
+command_row row =
+    record { name = row.name.now; operands = row.operands; more = row.more; command = row.command }
 
--- The operands of `print` and `names` are SRC DRV THEORY GOAL, those of `check` SRC THEORY GOAL DER, and those of
--- `lift` SRC DRV THEORY GOAL REF...
+-- The operands of `print` and `names` are SRC DRV THEORY GOAL, those of `check` SRC THEORY GOAL
+-- DER, and those of `lift` SRC DRV THEORY GOAL REF...
 abbrev pub command_rows : List CommandRow
 command_rows =
     record { name = codes "print"; operands = 4; more = false; command = Print }
@@ -45,7 +47,9 @@ fits_row row n = if row.more then nat_le row.operands n else (row.operands == n)
 -- the command of the first row with the name, if so many operands may come after it
 abbrev pub command_among : List CommandRow → List ℕ → ℕ → Option Command
 command_among [] name n = None
-command_among (row ∷ rows) name n = if bytes_eq name row.name then (if fits_row row n then Some row.command else None) else command_among rows name n
+command_among (row ∷ rows) name n =
+    if bytes_eq name row.name then (if fits_row row n then Some row.command else None)
+    else command_among rows name n
 
 -- an integer from 1 to 200
 abbrev pub from_1_to_200 : Option ℤ → Option ℕ
@@ -63,9 +67,12 @@ stress_of _ = None
 
 -- the command with this name and these operands
 abbrev pub command_named : List ℕ → List (List ℕ) → Option Command
-command_named name operands = if bytes_eq name (codes "stress") then stress_of operands else command_among command_rows name (length operands)
+command_named name operands =
+    if bytes_eq name (codes "stress") then stress_of operands else command_among command_rows name
+    (length operands)
 
 -- the command of the words: the program's name, a command and its operands
 abbrev pub command_of : List (List ℕ) → Option Command
-command_of (program ∷ name ∷ operands) = if is_plain_word name && all_plain operands then command_named name operands else None
+command_of (program ∷ name ∷ operands) =
+    if is_plain_word name && all_plain operands then command_named name operands else None
 command_of _ = None

@@ -29,7 +29,8 @@ ThingFits (PatternOf e) = WellSorted e
 ThingFits (ExpressionOf e) = WellSorted e
 ThingFits (StepOf st) = Unit {0}
 
--- What the words of a line make. None is answered only where they make no thing, or a tree whose parts don't fit.
+-- What the words of a line make. None is answered only where they make no thing, or a tree whose
+-- parts don't fit.
 abbrev pub IsMadeThing : List Tree → Option Thing → Option MadeThing → Type 0
 IsMadeThing s made (Some x) = (made ≡ Some (thing_at s x)) × ThingHeld s x
 IsMadeThing s made None = (x : Thing) → made ≡ Some x → ThingFits x → ⊥

@@ -52,16 +52,19 @@ types_named (Some n) = map AType n.types
 module _ (t : TaskTree) (names : List NameEntry) (r : Earlier) where
   abbrev pub argument : ArgumentKind → LineWord → Option ArgumentTree
   argument kind.Number w = option_map ANumber (number w)
-  argument kind.Symbol w = option_map ASymbol (option_and_then (λ e. symbol_number e.symbol) (entry_named names w))
+  argument kind.Symbol w =
+      option_map ASymbol (option_and_then (λ e. symbol_number e.symbol) (entry_named names w))
   argument kind.Integer w = option_map AInteger (integer w)
   argument kind.Expression w = option_map AExpression (at_number r.expressions w)
   argument kind.Type w = option_map AType (at_number r.types w)
 
-  abbrev pub then_argument : ArgumentKind → LineWord → Option (List ArgumentTree) → Option (List ArgumentTree)
+  abbrev pub then_argument : ArgumentKind → LineWord → Option (List ArgumentTree)
+      → Option (List ArgumentTree)
   then_argument k w rest = option_and_then (λ a. option_map (λ args. a ∷ args) rest) (argument k w)
 
   -- arguments of these kinds, in order, and then of the repeated ones in turn, any number of times
-  abbrev pub arguments : List ArgumentKind → List ArgumentKind → List LineWord → Option (List ArgumentTree)
+  abbrev pub arguments : List ArgumentKind → List ArgumentKind → List LineWord
+      → Option (List ArgumentTree)
   arguments [] again [] = Some []
   arguments (k ∷ ks) again [] = None
   arguments (k ∷ ks) again (w ∷ ws) = then_argument k w (arguments ks again ws)
@@ -76,11 +79,15 @@ module _ (t : TaskTree) (names : List NameEntry) (r : Earlier) where
   -- the arguments of a rule: the first ones, the types of a name among them, and the others
   abbrev pub rule_arguments : KindsOf → List LineWord → Option (List ArgumentTree)
   rule_arguments ks ws =
-      option_and_then (λ first. option_map (λ rest. first ++ (own_types ks.first ws ++ rest)) (arguments [] ks.repeated (drop (length ks.first) ws))) (arguments ks.first [] (take (length ks.first) ws))
+      option_and_then (λ first.
+      option_map (λ rest. first ++ (own_types ks.first ws ++ rest))
+      (arguments [] ks.repeated (drop (length ks.first) ws)))
+      (arguments ks.first [] (take (length ks.first) ws))
 
   -- the rule of a name, by the words after it
   abbrev pub rule_named : List LineWord → RuleName → Option RuleTree
-  rule_named ws n = option_and_then (rule_from n) (rule_arguments (argument_kinds (rule_row n).form) ws)
+  rule_named ws n =
+      option_and_then (rule_from n) (rule_arguments (argument_kinds (rule_row n).form) ws)
 
   abbrev pub rule_of_words : List LineWord → Option RuleTree
   rule_of_words [] = None
@@ -88,11 +95,15 @@ module _ (t : TaskTree) (names : List NameEntry) (r : Earlier) where
 
   -- the step of a sequent, by the words after the sequent's
   abbrev pub step_ended : List Tree → List LineWord → Option StepTree
-  step_ended sequent ws = option_and_then (λ last. option_and_then (λ rule. option_map (step_by sequent rule) (each number last)) (rule_of_words (before_colon ws))) (after_colon ws)
+  step_ended sequent ws = option_and_then
+      (λ last. option_and_then (λ rule. option_map (step_by sequent rule) (each number last))
+      (rule_of_words (before_colon ws))) (after_colon ws)
 
   -- the step of a line `s`: its sequent, its rule and its premises
   abbrev pub step_of_line : List LineWord → Option StepTree
-  step_of_line ws = option_and_then (λ rest. option_and_then (λ sequent. step_ended sequent rest) (each (at_number r.expressions) (before_colon ws))) (after_colon ws)
+  step_of_line ws = option_and_then
+      (λ rest. option_and_then (λ sequent. step_ended sequent rest)
+      (each (at_number r.expressions) (before_colon ws))) (after_colon ws)
 
   -- what a line makes, where it has a form and what it refers to is there
   abbrev pub line_made : List LineWord → Option Thing

@@ -34,7 +34,8 @@ WritesArgument table r (AType y) w = at_number r.types w ≡ Some y
 
 abbrev pub WriteArguments : List NameEntry → Earlier → List ArgumentTree → List LineWord → Type 0
 WriteArguments table r [] [] = Unit {0}
-WriteArguments table r (a ∷ args) (w ∷ ws) = WritesArgument table r a w × WriteArguments table r args ws
+WriteArguments table r (a ∷ args) (w ∷ ws) =
+    WritesArgument table r a w × WriteArguments table r args ws
 WriteArguments table r _ _ = ⊥
 
 -- a term or a formula with a line, and a type with one
@@ -51,8 +52,10 @@ abbrev pub IsArgumentReady : Lines → Argument → Type 0
 IsArgumentReady x (made.Number n) = Unit {0}
 IsArgumentReady x (made.Symbol k) = IsSpelt x.table.now (Symbol k) []
 IsArgumentReady x (made.Integer n) = Unit {0}
-IsArgumentReady x (made.Expression e) = Holds x.store.now e × IsLineOf x.store.now x.numbers.now (tree_at x.store.now e)
-IsArgumentReady x (made.Type y) = Holds x.store.now y × IsTypeLine x.store.now x.numbers.now (tree_at x.store.now y)
+IsArgumentReady x (made.Expression e) =
+    Holds x.store.now e × IsLineOf x.store.now x.numbers.now (tree_at x.store.now e)
+IsArgumentReady x (made.Type y) =
+    Holds x.store.now y × IsTypeLine x.store.now x.numbers.now (tree_at x.store.now y)
 
 -- the word of a number comes at the end of a text
 pub record PushesNumber (old new : List ℕ) (n : ℕ) : Type 0 where
@@ -70,7 +73,8 @@ pub record PushesNumbers (old new : List ℕ) (ns : List ℕ) : Type 0 where
 pub record PushesArguments (x : Lines) (old new : List ℕ) (args : List ArgumentTree) : Type 0 where
   pub more : List LineWord
   pub is : new ≡ old ++ spaced more
-  pub back : (r : Earlier) → AreLines x.store.now x.numbers.now r → WriteArguments x.table.now r args more
+  pub back : (r : Earlier) → AreLines x.store.now x.numbers.now r
+      → WriteArguments x.table.now r args more
 
 -- none of these is a colon
 abbrev pub NoColon : List LineWord → Type 0
@@ -91,14 +95,17 @@ pub record PushesSequent (x : Lines) (old new : List ℕ) (es : List Tree) : Typ
   pub ns : List ℕ
   pub is : new ≡ old ++ spaced more
   pub numbers : each number_of more ≡ Some ns
-  pub back : (r : Earlier) → AreLines x.store.now x.numbers.now r → each (at_number r.expressions) more ≡ Some es
+  pub back : (r : Earlier) → AreLines x.store.now x.numbers.now r
+      → each (at_number r.expressions) more ≡ Some es
 
 -- the words of a rule come at the end
 pub record PushesRule (x : Lines) (old new : List ℕ) (rule : RuleTree) : Type 0 where
   pub more : List LineWord
   pub is : new ≡ old ++ spaced more
-  pub plain : AreWords x.table.now → (t : TaskTree) (r : Earlier) → AreLines x.store.now x.numbers.now r → NoColon more
-  pub back : AreWords x.table.now → (t : TaskTree) (r : Earlier) → AreLines x.store.now x.numbers.now r → rule_of_words t x.table.now r more ≡ Some rule
+  pub plain : AreWords x.table.now → (t : TaskTree) (r : Earlier)
+      → AreLines x.store.now x.numbers.now r → NoColon more
+  pub back : AreWords x.table.now → (t : TaskTree) (r : Earlier)
+      → AreLines x.store.now x.numbers.now r → rule_of_words t x.table.now r more ≡ Some rule
 
 -- what a rule refers to is there
 pub record RuleReady (x : Lines) (r : RuleTree) : Type 0 where
@@ -114,7 +121,9 @@ pub record StepReady (x : Lines) (st : StepTree) : Type 0 where
 
 -- words are read back as a step, wherever the trees of lines are those
 abbrev pub StepBack : Lines → Step → List LineWord → Type 0
-StepBack x st ws = AreWords x.table.now → (t : TaskTree) (r : Earlier) → AreLines x.store.now x.numbers.now r → step_of_line t x.table.now r ws ≡ Some (step_at x.store.now st)
+StepBack x st ws = AreWords x.table.now → (t : TaskTree) (r : Earlier)
+    → AreLines x.store.now x.numbers.now r
+    → step_of_line t x.table.now r ws ≡ Some (step_at x.store.now st)
 
 -- the line of a step comes at the end
 pub record PushesStep (x : Lines) (old new : List ℕ) (st : Step) : Type 0 where

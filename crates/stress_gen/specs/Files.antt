@@ -40,7 +40,8 @@ files_of files = map pair_of_file files
 
 -- the source with n parts, the driver, and the refutations
 abbrev pub stress_files : ℕ → Files
-stress_files n = file_among ((codes "stress.why", source_text n) ∷ (codes "plain.drv", driver_text) ∷ refutation_files n)
+stress_files n = file_among ((codes "stress.why", source_text n) ∷ (codes "plain.drv", driver_text)
+    ∷ refutation_files n)
 
 -- what is written where all n parts are lifted
 abbrev pub accepted_text : ℕ → List ℕ

@@ -14,11 +14,8 @@ use Rattle.elaboration_laws.specs.scopes.Names.{ScopeNames, find_name, number_of
 use Rattle.elaboration_laws.specs.scopes.declared.Table.TheVariants.{Symbols}
 use Rattle.elaboration_laws.specs.scopes.declared.TypeName.{TypeName}
 use Rattle.surface.specs.Lexeme.{Word}
-use Rattle.surface.specs.declared.names.Name.{Name}
 use Rattle.surface.specs.Declarations.{Element, type_element, symbol_element, prop_element, all_axioms}
 use Rattle.elaboration_laws.specs.name_resolution.Abstract.{texts_of_names, type_expression, text_of_own}
-use Rattle.elaboration_laws.specs.name_resolution.Faults.{first_of}
-use Rattle.elaboration_laws.specs.name_resolution.declared.NamingFault.{NamingFault}
 use Rattle.elaboration_laws.specs.name_resolution.variables.Seen.{form_seen}
 use Rattle.elaboration_laws.specs.open_types.Pieces.{type_at}
 use Rattle.elaboration_laws.specs.elab_groups.parts.Elaborated.{unseen}
@@ -28,7 +25,7 @@ use Rattle.elaboration_laws.specs.Signature.{with_entries}
 use Rattle.elaboration_laws.specs.Scopes.{is_projection_kind, IsNamedBy, NamesNew, IsSubvocabulary, AgreeBelow, IsSymbolNumber, IsTypedThing, AreTypedScopes}
 use Rattle.elaboration_laws.proofs.Words.{self_word}
 use Rattle.elaboration_laws.proofs.Scopes.{found_thing}
-use Rattle.elaboration_laws.proofs.Extended.{further, in_either, slice_all, entries_part, type_more}
+use Rattle.elaboration_laws.proofs.Extended.{further, in_either, slice_all, entries_part}
 use Rattle.elaboration_laws.specs.Valid.{IsTypedSetting}
 use Rattle.elaboration_laws.specs.Lists.{is_built, after}
 use Rattle.elaboration_laws.proofs.Made.{tuples_built}
@@ -44,6 +41,7 @@ use Rattle.std.proofs.lemmas.Option.{slice_get-get_or as some_at}
 use Rattle.elaboration_laws.proofs.Declarations.{below as slice_below}
 use Rattle.elaboration_laws.proofs.Names.{or_left as left_of}
 use Rattle.elaboration_laws.proofs.Mapped.{only_here}
+use Rattle.open_types.proofs.Walking.{none_both as first_none}
 
 -- ---- with further entries
 module _ (xs ys : List SymbolTree) (ds : List DeclarationTree) where
@@ -93,10 +91,6 @@ tuples_named pre zs rest ds built k e l q = of (in_either pre zs k e q)
     of (inr z) = by (slice_all (λ (i : SymbolTree). i.theory ≡ builtin) zs built (k - length pre) e z.1)
 
 -- ---- types on right sides
-first_none : (a b : Option NamingFault) → first_of a b ≡ None → (a ≡ None) × (b ≡ None)
-first_none None b q = (refl, q)
-first_none (Some f) b q = absurd (cc)
-
 module _ (all : List SymbolTree) (ds : List DeclarationTree) where
   abbrev w : Vocabulary
   w = after all [] ds

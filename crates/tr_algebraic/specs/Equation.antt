@@ -1,5 +1,6 @@
--- What a task becomes where algebraic types are nothing more than symbols with their laws (Why3 manual, "eliminate_algebraic"): it has
--- no `match`, and in the place of each algebraic group are its symbols and its laws.
+-- What a task becomes where algebraic types are nothing more than symbols with their laws (Why3
+-- manual, "eliminate_algebraic"): it has no `match`, and in the place of each algebraic group are
+-- its symbols and its laws.
 use Rattle.std.specs.Prelude.{ℕ, List, [], ◌∷◌, Option, Some, None, Result, Ok, Err}
 use Rattle.tasks.specs.Task.{TaskTree}
 use Rattle.tr_match.specs.match_forms.Forms.{without_matches}

@@ -1,5 +1,5 @@
 -- A proposition of the new task is an instance of one of the old task, and each other fact is one of the old task.
-use Rattle.std.proofs.Common.{◌≡◌, ◌≢◌, ◌⊎◌, inl, inr, ◌+◌, ℕ, zero, suc, Bool, true, false, if◌then◌else◌, List, [], ◌∷◌, ◌++◌, map, length, slice_get, All, Option, Some, None, IsSomeAnd, refl, sym, ap, subst, ◌∙◌, arith, append_assoc}
+use Rattle.std.proofs.Common.{◌≡◌, ◌≢◌, ◌⊎◌, inl, inr, ◌+◌, ℕ, zero, suc, Bool, true, false, if◌then◌else◌, List, [], ◌∷◌, ◌++◌, map, length, slice_get, All, Option, Some, None, IsSomeAnd, refl, sym, ap, subst, ◌∙◌, arith}
 use Rattle.std.proofs.lemmas.List.Elements.{All-cons, All-nil, All-map, All-weaker}
 use Rattle.tasks.specs.trees.Tree.{Tree, Leaf, One, Two, Three, Head, HTyVar, HBound, HParam, binders_over}
 use Rattle.tasks.specs.trees.Binding.{change, leaf_by, one_by, typing, inst_types}
@@ -24,6 +24,7 @@ use Rattle.tr_discriminate.specs.Equation.{discriminate_rule, discriminate_equat
 use Rattle.tr_discriminate.specs.Kept.{discriminate_rule_keeps, discriminated_one}
 use Rattle.tr_discriminate.specs.instance_sets.Made.{IsTypeTree}
 use Rattle.tr_discriminate.specs.Origins.{IsSaidInstance, HasOrigin}
+use Rattle.evidence.proofs.FactNames.{props_append as props_two}
 
 -- ---- no types change nothing
 leaf_none : (h : Head) → leaf_by (typing []) h ≡ Leaf h
@@ -46,10 +47,6 @@ no_types [] e = refl
 no_types (y ∷ tys) e = absurd (omega (arith, e))
 
 -- ---- where a proposition comes from
-props_two : (xs ys : List DeclarationTree) → props_of (xs ++ ys) ≡ props_of xs ++ props_of ys
-props_two [] ys = refl
-props_two (d ∷ xs) ys = ap (λ (z : List PropositionTree). said_by d d.body ++ z) (props_two xs ys) ∙ sym (append_assoc (said_by d d.body) (props_of xs) (props_of ys))
-
 -- what is at a place of two lists is in the first, where this holds of each, or in the second
 at_place : {A : Type 0} (P : A → Type 0) (xs ys : List A) (k : ℕ) (p : A) → All P xs → slice_get (xs ++ ys) k ≡ Some p → P p ⊎ ((j : ℕ) × (slice_get ys j ≡ Some p))
 at_place P [] ys k p a e = inr (k, e)

@@ -1,4 +1,5 @@
--- What a task becomes where polymorphic propositions are replaced by their wanted instances (Why3 manual, "discriminate").
+-- What a task becomes where polymorphic propositions are replaced by their wanted instances (Why3
+-- manual, "discriminate").
 use Rattle.std.specs.Prelude.{ℕ, List, [], ◌∷◌, Option, Some, None, Result, Ok, Err}
 use Rattle.tasks.specs.Task.{TaskTree}
 use Rattle.name_tables.specs.Occurrences.{Occurrence}

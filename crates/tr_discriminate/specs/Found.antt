@@ -25,7 +25,8 @@ abbrev pub types_found : Tree → Tree → List Tree → List Tree
 types_found (Leaf h) e tys = leaf_found h e tys
 types_found (One h a) (One g x) tys = types_found a x tys
 types_found (Two h a b) (Two g x y) tys = types_found b y (types_found a x tys)
-types_found (Three h a b c) (Three g x y z) tys = types_found c z (types_found b y (types_found a x tys))
+types_found (Three h a b c) (Three g x y z) tys =
+    types_found c z (types_found b y (types_found a x tys))
 types_found _ _ tys = tys
 
 abbrev pub ints : ℕ → List Tree

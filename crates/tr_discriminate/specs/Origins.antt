@@ -25,7 +25,8 @@ HasOrigin (d ∷ ds) e = IsSaidInstance d.vars d.body e ⊎ HasOrigin ds e
 
 -- it is the instance at these types of the proposition at a place
 abbrev pub IsInstanceThere : List PropositionTree → ℕ → List Tree → Tree → Type 0
-IsInstanceThere ps place types e = IsSomeAnd (slice_get ps place) (λ p. (length types ≡ p.vars) × (e ≡ inst_types p.formula types))
+IsInstanceThere ps place types e =
+    IsSomeAnd (slice_get ps place) (λ p. (length types ≡ p.vars) × (e ≡ inst_types p.formula types))
 
 -- propositions go on from a place as others do
 abbrev pub AreFrom : List PropositionTree → ℕ → List PropositionTree → Type 0

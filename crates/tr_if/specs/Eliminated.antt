@@ -1,4 +1,5 @@
--- Tasks without conditionals: propositions, locals and goal, where none of these has a `let` or `match` (Why3 manual, "eliminate_if").
+-- Tasks without conditionals: propositions, locals and goal, where none of these has a `let` or
+-- `match` (Why3 manual, "eliminate_if").
 use Rattle.std.specs.Prelude.{ℕ, ◌+◌, Bool, false, ◌||◌, nat_lt, if◌then◌else◌, List, [], ◌∷◌, length, Option, Some, None, Err}
 use Rattle.std.specs.List.{list_any}
 use Rattle.tasks.specs.trees.Tree.{Tree}
@@ -19,9 +20,12 @@ abbrev pub before_refused : List DeclarationTree → ℕ
 before_refused [] = 0
 before_refused (d ∷ ds) = if says_let_or_match d.body then 0 else before_refused ds + 1
 
--- the place of the first such proposition, or the number of declarations where a local or the goal has one
+-- the place of the first such proposition, or the number of declarations where a local or the goal
+-- has one
 abbrev pub refused_place : TaskTree → Option ℕ
-refused_place t = if nat_lt (before_refused t.decls) (length t.decls) || (list_any has_let_or_match t.locals || has_let_or_match t.goal) then Some (before_refused t.decls) else None
+refused_place t = if nat_lt (before_refused t.decls) (length t.decls)
+    || (list_any has_let_or_match t.locals || has_let_or_match t.goal) then Some
+    (before_refused t.decls) else None
 
 -- ---- what is made
 -- what a formula of a task becomes

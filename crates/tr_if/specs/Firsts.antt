@@ -41,13 +41,14 @@ pub record IsFirstOf (d : DraftTree) (a : Tree) (w : TermId) : Type 0 where
   pub first : first_if a ≡ Some (tree_at d.trees w)
 
 -- an open term of the type of a conditional
-pub record IsPartFor (d : DraftTree) (env : List TermId) (w part : TermId) (fresh : ℕ) : Type 0 where
+pub record IsPartFor (d : DraftTree) (env : List TermId) (w part : TermId)
+    (fresh : ℕ) : Type 0 where
   pub place : IsOpenAt d env part fresh
   pub term : sort_of (tree_at d.trees part) ≡ Term
   pub type : type_of (tree_at d.trees part) ≡ type_of (tree_at d.trees w)
 
--- A formula with a hole, the variable 0: with the instance of a term in it, it is the instance of the atom that has the term in the
--- place of its first conditional.
+-- A formula with a hole, the variable 0: with the instance of a term in it, it is the instance of
+-- the atom that has the term in the place of its first conditional.
 pub record IsHoleOf (d : DraftTree) (env : List TermId) (a w : Tree) (hole : TermId) : Type 0 where
   pub held : Holds d.trees hole
   pub ty : Tree
@@ -55,16 +56,33 @@ pub record IsHoleOf (d : DraftTree) (env : List TermId) (a w : Tree) (hole : Ter
   pub sort : sort_of (tree_at d.trees hole) ≡ Formula
   pub typed : TypedUnder (of_task d.task) (ty ∷ []) (tree_at d.trees hole)
   pub ground : IsGround (tree_at d.trees hole)
-  pub fills : (z : Tree) → loose (inst_many z (trees_at d.trees env)) ≡ 0 → inst (tree_at d.trees hole) (inst_many z (trees_at d.trees env)) ≡ inst_many (replace_first a z) (trees_at d.trees env)
+  pub fills : (z : Tree) → loose (inst_many z (trees_at d.trees env)) ≡ 0
+      → inst (tree_at d.trees hole) (inst_many z (trees_at d.trees env))
+      ≡ inst_many (replace_first a z) (trees_at d.trees env)
 
 abbrev pub then_terms : OpenAtom → FirstCase → PlacedTerm
-then_terms a k = record { hole = k.hole; left = a.left; right = k.first.left; old = k.at.whole; new = k.at.then_part }
+then_terms a k = record {
+  hole = k.hole;
+  left = a.left;
+  right = k.first.left;
+  old =
+      k.at.whole;
+  new = k.at.then_part;
+}
 
 abbrev pub else_terms : OpenAtom → FirstCase → PlacedTerm
-else_terms a k = record { hole = k.hole; left = a.left; right = k.second.left; old = k.at.whole; new = k.at.else_part }
+else_terms a k = record {
+  hole = k.hole;
+  left = a.left;
+  right = k.second.left;
+  old =
+      k.at.whole;
+  new = k.at.else_part;
+}
 
 -- an atom by cases on its first conditional
-pub record IsFirstCase (d : DraftTree) (env : List TermId) (a : OpenAtom) (fresh : ℕ) (k : FirstCase) : Type 0 where
+pub record IsFirstCase (d : DraftTree) (env : List TermId) (a : OpenAtom) (fresh : ℕ)
+    (k : FirstCase) : Type 0 where
   pub condition : IsInstanceAt d env k.condition k.at.condition fresh
   pub at : IsConditional d k.at
   pub is : IsIfAt d k.at
@@ -73,6 +91,8 @@ pub record IsFirstCase (d : DraftTree) (env : List TermId) (a : OpenAtom) (fresh
   pub then_placed : IsPlacedTerm d (then_terms a k)
   pub else_placed : IsPlacedTerm d (else_terms a k)
   pub cases : cases_over (tree_at d.trees a.formula) (λ u. u)
-      ≡ implications (tree_at d.trees k.condition) (cases_over (tree_at d.trees k.first.formula) (λ u. u)) (cases_over (tree_at d.trees k.second.formula) (λ u. u))
+      ≡ implications (tree_at d.trees k.condition)
+      (cases_over (tree_at d.trees k.first.formula) (λ u. u))
+      (cases_over (tree_at d.trees k.second.formula) (λ u. u))
   pub first_smaller : size (tree_at d.trees k.first.formula) < size (tree_at d.trees a.formula)
   pub second_smaller : size (tree_at d.trees k.second.formula) < size (tree_at d.trees a.formula)

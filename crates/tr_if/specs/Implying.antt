@@ -9,4 +9,6 @@ use Rattle.tr_if.specs.conditionals.Conditionals.{implications}
 -- the whole is `(c -> a) /\ (not c -> b)`, of formulas
 pub record AreImplications (d : DraftTree) (k : Conditional) : Type 0 where
   pub parts : IsConditional d k
-  pub is : tree_at d.trees k.whole ≡ implications (tree_at d.trees k.condition) (tree_at d.trees k.then_part) (tree_at d.trees k.else_part)
+  pub is : tree_at d.trees k.whole
+      ≡ implications (tree_at d.trees k.condition) (tree_at d.trees k.then_part)
+      (tree_at d.trees k.else_part)

@@ -1,14 +1,12 @@
 -- The definitions that are inlined: steps can cite their equations by name.
 use Rattle.std.proofs.Common.{◌≡◌, ℕ, ◌+◌, ◌<◌, Bool, true, false, if◌then◌else◌, List, [], ◌∷◌, ◌++◌, map, length, get_or, All, Some, subst, sym, ap, ◌∙◌, arith}
-use Rattle.std.proofs.lemmas.List.{length-map, get_or-map, get_or_default}
+use Rattle.std.proofs.lemmas.List.{length-map, get_or-map}
 use Rattle.std.proofs.lemmas.List.Elements.{All-nil, All-cons, All-head, All-tail}
-use Rattle.trees.specs.Tree.{Tree}
-use Rattle.trees.specs.Node.{tree_at, Holds}
 use Rattle.tasks.specs.declared.declaration.Def.{Def}
 use Rattle.tasks.specs.declared.facts.Fact.TheVariants as fact
 use Rattle.tasks.specs.declared.task.Task.{Task}
 use Rattle.tasks.specs.Task.{DefinitionTree, BodyTree, MakesType, Makes, Defines, Induces, Constructs, Says, DeclarationTree, TaskTree}
-use Rattle.tasks.specs.Facts.{FactTree, equation_fact, body_facts, said_in, facts_from, facts}
+use Rattle.tasks.specs.Facts.{equation_fact, body_facts, said_in, facts_from, facts}
 use Rattle.tasks.specs.Meaning.{definition_at, definitions_at, task_at}
 use Rattle.tasks.specs.Vocabulary.{of_task}
 use Rattle.tasks.specs.Valid.{IsDefinition, IsValid}
@@ -23,15 +21,9 @@ use Rattle.inlining.specs.declared.modes.InlineMode.{InlineMode}
 use Rattle.inlining.specs.declared.modes.InlineMode.TheVariants as mode
 use Rattle.inlining.specs.Inlining.{is_trivial, plain_definitions, all_definitions, trivial_definitions, inlined_definitions}
 use Rattle.inlining.proofs.Inlined.{inlined_defined}
-use Rattle.tr_inline.specs.Definitions.{IsDefinedIn, AreDefinedIn}
-
-all_left : {X : Type 0} (P : X → Type 0) (xs ys : List X) → All P (xs ++ ys) → All P xs
-all_left P [] ys h = All-nil P
-all_left P (x ∷ xs) ys h = All-cons P x xs (All-head P x (xs ++ ys) h) (all_left P xs ys (All-tail P x (xs ++ ys) h))
-
-all_right : {X : Type 0} (P : X → Type 0) (xs ys : List X) → All P (xs ++ ys) → All P ys
-all_right P [] ys h = h
-all_right P (x ∷ xs) ys h = all_right P xs ys (All-tail P x (xs ++ ys) h)
+use Rattle.tr_inline.specs.Definitions.{AreDefinedIn}
+use Rattle.tasks.proofs.plain_laws.Lists.{All-right as all_right}
+use Rattle.tasks.proofs.plain_laws.Lists.{All-left as all_left}
 
 module _ (t : TaskTree) where
   abbrev IsNamed : DefinitionTree → Type 0

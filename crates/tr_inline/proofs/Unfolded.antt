@@ -1,9 +1,9 @@
 -- A use unfolded: the open one, and its instance, which is the closed use unfolded.
-use Rattle.std.proofs.Common.{◌≡◌, ℕ, ◌==◌, ◌≤◌, inl, inr, Bool, true, false, if◌then◌else◌, List, [], ◌∷◌, length, Option, Some, subst, refl, sym, ap, ◌∙◌, arith}
+use Rattle.std.proofs.Common.{◌≡◌, ℕ, ◌==◌, inl, inr, Bool, true, false, if◌then◌else◌, List, length, Option, subst, refl, sym, ap, ◌∙◌, arith}
 use Rattle.std.proofs.lemmas.Bool.Decides.{nat_tests}
 use Rattle.trees.specs.declared.TermId.{TermId}
-use Rattle.trees.specs.Tree.{Tree, Leaf, One, Two, Three, HFun, HPred, above_params}
-use Rattle.trees.specs.Binding.{instantiating_many, inst_many, AreClosed, AreNoPatterns}
+use Rattle.trees.specs.Tree.{Tree, Two, Three, HFun, HPred}
+use Rattle.trees.specs.Binding.{instantiating_many, inst_many, AreClosed}
 use Rattle.trees.specs.Node.{tree_at, trees_at, Holds}
 use Rattle.trees.specs.declared.Sort.TheVariants.{Kind, Term}
 use Rattle.trees.specs.Sorts.{WellSorted, sort_of, type_of, IsExpression, IsList}
@@ -37,6 +37,7 @@ use Rattle.walking.proofs.Placed.{placed}
 use Rattle.tr_inline.specs.Uses.{IsUseOf, IsNoUse}
 use Rattle.tr_inline.specs.Definitions.{formula_or_end, body_in, unfolding_rule, IsDefinedIn}
 use Rattle.tr_inline.specs.Unfolded.{AreUnfolded}
+use Rattle.trees.proofs.Many.{closed_terms as closed_patterns}
 
 -- ---- the rule
 same_number : (k : ℕ) → (k == k) ≡ true
@@ -79,10 +80,6 @@ use_same k e f zs ts q u = subst (λ (z : Tree). IsUseOf k z zs ts) (sym q) u
 -- ---- definitions
 pub body_of : (d : DraftTree) (def : Def) → IsDefinedIn d def → body_in d.task def.symbol ≡ defining_body (tree_at d.trees def.equation)
 body_of d def r = ap (λ (o : Option PropositionTree). defining_body (formula_or_end o)) r.named
-
-closed_patterns : (us : List Tree) → AreClosed us → AreNoPatterns us
-closed_patterns [] c = tt
-closed_patterns (u ∷ us) c = (c.0.1, closed_patterns us c.1)
 
 -- ---- the use
 module _ (d d1 d2 : DraftTree) (x : Extends d d1) (y : Extends d1 d2) (def : Def) (r : IsDefinedIn d def) (env : List TermId) (e left : TermId) (n : ℕ) (p : IsInstanceAt d env e left n) (zs ts : Tree) (u : IsUseOf def.symbol (tree_at d.trees e) zs ts)

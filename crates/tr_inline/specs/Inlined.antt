@@ -35,16 +35,20 @@ pub record IsImageOf (d : DraftTree) (e image : Tree) (m : FormulaImage) : Type 
   pub back : Refutes d m.back (image ∷ neg e ∷ [])
 
 -- the full bodies, where they are made, are those of the definitions of the mode
-pub record AreBodiesOf (m : InlineMode) (t : TaskTree) (s : List Tree) (bodies : List FullBody) : Type 0 where
+pub record AreBodiesOf (m : InlineMode) (t : TaskTree) (s : List Tree)
+    (bodies : List FullBody) : Type 0 where
   pub are : AreFullBodies s (of_task t) (λ e. e) bodies
   pub rule : rule_after s (λ e. e) bodies ≡ full_rule (inlined_definitions m t.decls)
 
 -- the same, where there are any
-abbrev pub AreReadyBodies : InlineMode → TaskTree → List Tree → Option (Bor (List FullBody)) → Type 0
+abbrev pub AreReadyBodies : InlineMode → TaskTree → List Tree
+    → Option (Bor (List FullBody)) → Type 0
 AreReadyBodies m t s None = Unit {0}
 AreReadyBodies m t s (Some bodies) = AreBodiesOf m t s bodies.now
 
-pub bodies_later : (m : InlineMode) (t : TaskTree) (s s1 : List Tree) (bodies : Option (Bor (List FullBody))) → Grows s s1 → AreReadyBodies m t s bodies → AreReadyBodies m t s1 bodies
+pub bodies_later : (m : InlineMode) (t : TaskTree) (s s1 : List Tree)
+    (bodies : Option (Bor (List FullBody))) → Grows s s1 → AreReadyBodies m t s bodies
+    → AreReadyBodies m t s1 bodies
 bodies_later m t s s1 None w r = tt
 bodies_later m t s s1 (Some bodies) w r = record {
   are = full_bodies_later s s1 (of_task t) (λ e. e) bodies.now w r.are;

@@ -1,4 +1,5 @@
--- Lemmas of a draft: formulas whose negations steps refute; and universal formulas that can be taken at terms.
+-- Lemmas of a draft: formulas whose negations steps refute; and universal formulas that can be
+-- taken at terms.
 use Rattle.std.specs.Prelude.{◌≡◌, [], ◌∷◌, Some}
 use Rattle.trees.specs.Tree.{Tree, Two, HCell, HForall}
 use Rattle.trees.specs.Binding.{inst}

@@ -10,8 +10,10 @@ use Rattle.walking.specs.Places.{IsLinkOf}
 use Rattle.inlining.specs.Inlining.{inlined}
 
 -- those that are left are the first ones, and the others are inlined
-pub record IsPartlyInlined (d d1 : DraftTree) (formula : TermId) (n : ℕ) (defs left : List Def) (made : Linked) : Type 0 where
+pub record IsPartlyInlined (d d1 : DraftTree) (formula : TermId) (n : ℕ) (defs left : List Def)
+    (made : Linked) : Type 0 where
   pub grows : Extends d d1
   pub done : List Def
   pub are : defs ≡ left ++ done
-  pub link : IsLinkOf d1 [] formula n (inlined (definitions_at d.trees done) (tree_at d.trees formula)) made
+  pub link : IsLinkOf d1 [] formula n
+      (inlined (definitions_at d.trees done) (tree_at d.trees formula)) made

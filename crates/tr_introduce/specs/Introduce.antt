@@ -14,11 +14,19 @@ pub record Judgement : Type 0 where
   pub locals : List Tree
   pub goal : Tree
 
--- One introduction. Of `forall x. A` the variable becomes the parameter whose number is the number of parameters, and `A` the goal
--- there; of `A -> B` the premise A becomes the last local, and B the goal.
+-- One introduction. Of `forall x. A` the variable becomes the parameter whose number is the number
+-- of parameters, and `A` the goal there; of `A -> B` the premise A becomes the last local, and B
+-- the goal.
 abbrev pub introduced_from : Judgement → Tree → Judgement
-introduced_from j (Two HForall ty a) = record { params = j.params ++ ty ∷ []; locals = j.locals; goal = inst a (Param (length j.params) ty) }
-introduced_from j (Two (HJoin Imp) a b) = record { params = j.params; locals = j.locals ++ a ∷ []; goal = b }
+introduced_from j (Two HForall ty a) =
+    record {
+      params = j.params ++ ty ∷ [];
+      locals = j.locals;
+      goal =
+          inst a (Param (length j.params) ty);
+    }
+introduced_from j (Two (HJoin Imp) a b) =
+    record { params = j.params; locals = j.locals ++ a ∷ []; goal = b }
 introduced_from j _ = j
 
 abbrev pub introduced_once : Judgement → Judgement
@@ -53,7 +61,8 @@ abbrev pub introduce_equation : TaskTree → Result (List TaskTree) ℕ
 introduce_equation t = Ok (introduced_task t ∷ [])
 
 abbrev pub judgement_at : List Tree → List TermId → List TermId → TermId → Judgement
-judgement_at s params locals goal = record { params = trees_at s params; locals = trees_at s locals; goal = tree_at s goal }
+judgement_at s params locals goal =
+    record { params = trees_at s params; locals = trees_at s locals; goal = tree_at s goal }
 
 -- what is to be refuted for a judgement: the locals, then the negation of the goal
 abbrev pub judgement_sequent : Judgement → List Tree

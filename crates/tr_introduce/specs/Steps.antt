@@ -17,11 +17,14 @@ use Rattle.tr_introduce.specs.declared.refuting.Opening.TheVariants as opens_at
 use Rattle.tr_introduce.specs.Introduce.{introduced, judgement_sequent, prefix}
 pub use Rattle.tasks.specs.typed_trees.instances.Instances.{AreParamsBelow}
 
--- a step refutes what is introduced from the goal over these locals, where parameters count from this number
-pub record EndsDraftAt (d : DraftTree) (end : ℕ) (front : List Tree) (goal : Tree) (number : ℕ) : Type 0 where
+-- a step refutes what is introduced from the goal over these locals, where parameters count from
+-- this number
+pub record EndsDraftAt (d : DraftTree) (end : ℕ) (front : List Tree) (goal : Tree)
+    (number : ℕ) : Type 0 where
   pub params : List Tree
   pub as_many : length params ≡ number
-  pub refutes : Refutes d end (judgement_sequent (introduced (record { params = params; locals = front; goal = goal })))
+  pub refutes : Refutes d end
+      (judgement_sequent (introduced (record { params = params; locals = front; goal = goal })))
 
 -- the rule on the negation of a quantifier, or on that of an implication
 abbrev pub negation_rule : Opening → ℕ → RuleTree
@@ -30,10 +33,14 @@ negation_rule opens_at.Implication i = RNotImp i
 
 -- the rule adds these formulas to a front with the negation of a goal
 abbrev pub Opens : TaskTree → List Tree → Tree → RuleTree → List Tree → Type 0
-Opens t front goal rule added = IsRuleRow t (front ++ neg goal ∷ []) rule (((front ++ neg goal ∷ []) ++ added) ∷ [])
+Opens t front goal rule added =
+    IsRuleRow t (front ++ neg goal ∷ []) rule (((front ++ neg goal ∷ []) ++ added) ∷ [])
 
 -- what a formula begins with
 abbrev pub IsBeginning : List Tree → TermId → Beginning → Type 0
-IsBeginning s goal (begins.Universal ty body) = (tree_at s goal ≡ Two HForall (tree_at s ty) (tree_at s body)) × Holds s ty × Holds s body × (sort_of (tree_at s ty) ≡ Kind)
-IsBeginning s goal (begins.Implication a b) = (tree_at s goal ≡ Two (HJoin Imp) (tree_at s a) (tree_at s b)) × Holds s a × Holds s b
+IsBeginning s goal (begins.Universal ty body) =
+    (tree_at s goal ≡ Two HForall (tree_at s ty) (tree_at s body)) × Holds s ty × Holds s body
+    × (sort_of (tree_at s ty) ≡ Kind)
+IsBeginning s goal (begins.Implication a b) =
+    (tree_at s goal ≡ Two (HJoin Imp) (tree_at s a) (tree_at s b)) × Holds s a × Holds s b
 IsBeginning s goal begins.Neither = prefix (tree_at s goal) ≡ 0

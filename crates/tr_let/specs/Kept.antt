@@ -16,5 +16,7 @@ use Rattle.tr_let.specs.LetKept.{let_typed_rule}
 abbrev pub lets_equation : TaskTree → Result (List TaskTree) ℕ
 lets_equation t = formulas_equation scope.Everywhere (λ _. image let_rule) t
 
-pub lets_keep : (t : TaskTree) (ts : List TaskTree) → IsValid t → Gives lets_equation t ts → All (Keeps t) ts
-lets_keep t ts valid gives = rewritten_keeps scope.Everywhere (λ _. image let_rule) (λ u _. rule_keeps_formulas (of_task u) let_rule (let_typed_rule (of_task u))) t ts valid gives
+pub lets_keep : (t : TaskTree) (ts : List TaskTree) → IsValid t → Gives lets_equation t ts
+    → All (Keeps t) ts
+lets_keep t ts valid gives = rewritten_keeps scope.Everywhere (λ _. image let_rule)
+    (λ u _. rule_keeps_formulas (of_task u) let_rule (let_typed_rule (of_task u))) t ts valid gives

@@ -1,4 +1,5 @@
--- What `eliminate_let` makes of a node over images: of a `let`, its body at its value (Why3 manual, "eliminate_let").
+-- What `eliminate_let` makes of a node over images: of a `let`, its body at its value (Why3 manual,
+-- "eliminate_let").
 use Rattle.std.specs.Prelude.{◌≡◌, refl}
 use Rattle.trees.specs.Tree.{Tree, Two, HLet, head_of}
 use Rattle.trees.specs.Binding.{inst}

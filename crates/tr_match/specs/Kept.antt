@@ -39,5 +39,8 @@ matches_commute t valid ys each e s x = without_at_types t valid ys each [] e x
 abbrev pub matches_equation : TaskTree → Result (List TaskTree) ℕ
 matches_equation t = formulas_equation scope.Everywhere without_matches t
 
-pub matches_keep : (t : TaskTree) (ts : List TaskTree) → IsValid t → Gives matches_equation t ts → All (Keeps t) ts
-matches_keep t ts valid gives = rewritten_keeps scope.Everywhere without_matches (λ u w. matches_keep_typing u w) t ts valid gives
+pub matches_keep : (t : TaskTree) (ts : List TaskTree) → IsValid t → Gives matches_equation t ts
+    → All (Keeps t) ts
+matches_keep t ts valid gives =
+    rewritten_keeps scope.Everywhere without_matches (λ u w. matches_keep_typing u w) t ts
+    valid gives

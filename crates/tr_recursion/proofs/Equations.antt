@@ -27,9 +27,7 @@ use Rattle.congruence.specs.kernel.rules.Rows.{equation}
 use Rattle.tr_inline.specs.Definitions.{IsDefinedIn}
 use Rattle.tr_recursion.specs.Followed.{IsBranchFact, FollowsFrom, FollowsFromEquation}
 use Rattle.tr_recursion.proofs.Followed.{IsAtTypes}
-
-same_symbol : (k j : ℕ) → fact.Equation k ≡ fact.Equation j → k ≡ j
-same_symbol k j q = cc
+use Rattle.evidence.proofs.FactNames.{equation_symbol as same_symbol}
 
 module _ (t : TaskTree) (k : ℕ) where
   role_by_some : (r : RoleTree) → role t k ≡ r → (P : PropositionTree → Type 0) → IsSomeAnd (option_map (at_symbol t k) (equation r)) P → (e : Tree) × (role t k ≡ DefinedRole e)

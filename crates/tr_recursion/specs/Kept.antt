@@ -9,9 +9,11 @@ use Rattle.tr_inline.specs.inlining.branch_equations.Branches.{recursion_facts}
 use Rattle.tr_inline.proofs.inlining.branch_equations.Formulas.{recursions_spelling}
 use Rattle.tr_define.specs.Kept.{spelled_keep}
 
--- each recursive group becomes its symbols, and then the equations of its members, by branches where that applies
+-- each recursive group becomes its symbols, and then the equations of its members, by branches
+-- where that applies
 abbrev pub recursions_equation : TaskTree → Result (List TaskTree) ℕ
 recursions_equation t = rewrite_equation (spelling_rule recursion_facts) t
 
-pub recursions_keep : (t : TaskTree) (ts : List TaskTree) → IsValid t → Gives recursions_equation t ts → All (Keeps t) ts
+pub recursions_keep : (t : TaskTree) (ts : List TaskTree) → IsValid t
+    → Gives recursions_equation t ts → All (Keeps t) ts
 recursions_keep t ts valid gives = spelled_keep recursion_facts recursions_spelling t ts valid gives

@@ -32,11 +32,14 @@ module _ (props : List (List ℕ × List ℕ)) (d : DeclarationTree) where
   made_left true e = sym (none_made e)
   made_left false e = alone_made d
 
-  role_left : (k : ℕ) (r : Bool) → is_removed props d ≡ r → is_made_by k d.body ≡ true → role_by k (maker (if r then [] else d ∷ []) k) ≡ role_in k d.body
-  role_left k true e m = absurd (let f : true ≡ false = sym m ∙ ap (list_any (λ j. j == k)) (none_made e) in cc)
+  role_left : (k : ℕ) (r : Bool) → is_removed props d ≡ r → is_made_by k d.body ≡ true
+      → role_by k (maker (if r then [] else d ∷ []) k) ≡ role_in k d.body
+  role_left k true e m =
+      absurd (let f : true ≡ false = sym m ∙ ap (list_any (λ j. j == k)) (none_made e) in cc)
   role_left k false e m = alone_role k d m
 
-  valid_left : (v : Vocabulary) (r : Bool) → IsValidDecl v d → All (IsValidDecl v) (if r then [] else d ∷ [])
+  valid_left : (v : Vocabulary) (r : Bool) → IsValidDecl v d
+      → All (IsValidDecl v) (if r then [] else d ∷ [])
   valid_left v true a = All-nil (IsValidDecl v)
   valid_left v false a = All-cons (IsValidDecl v) d [] a (All-nil (IsValidDecl v))
 
@@ -47,9 +50,13 @@ removal_keeps props = record {
 }
 
 removal_constructors : (props : List (List ℕ × List ℕ)) → KeepsConstructors (removal_rule props)
-removal_constructors props = λ symbols d k m. ap is_constructor (role_left props d k (is_removed props d) refl m)
+removal_constructors props =
+    λ symbols d k m. ap is_constructor (role_left props d k (is_removed props d) refl m)
 
-pub remove_keeps : (props : List (List ℕ × List ℕ)) (t : TaskTree) (ts : List TaskTree) → IsValid t → Gives (remove_equation props) t ts → All (Keeps t) ts
+pub remove_keeps : (props : List (List ℕ × List ℕ)) (t : TaskTree) (ts : List TaskTree) → IsValid t
+    → Gives (remove_equation props) t ts → All (Keeps t) ts
 remove_keeps props t ts valid gives =
     one_keeps t (removed_task props t) ts (one_task (removal_rule props) t ts gives)
-    (rewritten_kept (removal_rule props) (removal_keeps props) t (removal_constructors props) (λ d. Unit {0}) (λ d u n a. valid_left props d _ (is_removed props d) a) valid (λ k d l. tt))
+    (rewritten_kept (removal_rule props) (removal_keeps props) t (removal_constructors props)
+    (λ d. Unit {0}) (λ d u n a. valid_left props d _ (is_removed props d) a) valid
+    (λ k d l. tt))

@@ -1,4 +1,5 @@
--- Propositions removed from a task: a driver names them by theory and name (Why3 manual, "remove prop").
+-- Propositions removed from a task: a driver names them by theory and name (Why3 manual, "remove
+-- prop").
 use Rattle.std.specs.Prelude.{ℕ, Bool, true, false, ◌&&◌, if◌then◌else◌, List, [], ◌∷◌, Result}
 use Rattle.std.specs.List.{list_any}
 use Rattle.std.specs.Str.{bytes_eq}

@@ -16,5 +16,9 @@ use Rattle.tr_simplify.specs.SimplifyKept.{simplify_typed_rule}
 abbrev pub simplified_equation : TaskTree → Result (List TaskTree) ℕ
 simplified_equation t = formulas_equation scope.Everywhere (λ _. image simplify_rule) t
 
-pub simplified_keep : (t : TaskTree) (ts : List TaskTree) → IsValid t → Gives simplified_equation t ts → All (Keeps t) ts
-simplified_keep t ts valid gives = rewritten_keeps scope.Everywhere (λ _. image simplify_rule) (λ u _. rule_keeps_formulas (of_task u) simplify_rule (simplify_typed_rule (of_task u))) t ts valid gives
+pub simplified_keep : (t : TaskTree) (ts : List TaskTree) → IsValid t
+    → Gives simplified_equation t ts → All (Keeps t) ts
+simplified_keep t ts valid gives =
+    rewritten_keeps scope.Everywhere (λ _. image simplify_rule)
+    (λ u _. rule_keeps_formulas (of_task u) simplify_rule (simplify_typed_rule (of_task u))) t ts
+    valid gives

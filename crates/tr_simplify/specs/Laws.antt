@@ -1,6 +1,7 @@
--- The laws of `simplify_formula` in the order in which they are named (Why3 manual, "simplify_formula"), and what they make of a node
--- over images. A law that negates a side is followed by the laws of negations; what any other law gives is a part, which is an image
--- already, or a constant.
+-- The laws of `simplify_formula` in the order in which they are named (Why3 manual,
+-- "simplify_formula"), and what they make of a node over images. A law that negates a side is
+-- followed by the laws of negations; what any other law gives is a part, which is an image already,
+-- or a constant.
 use Rattle.std.specs.Prelude.{◌≡◌, ◌⊎◌, Bool, true, false, pos, refl}
 use Rattle.trees.specs.declared.Op.{Op}
 use Rattle.trees.specs.declared.Op.TheVariants.{And, AndThen, Or, OrElse, Imp, Iff}
@@ -91,7 +92,8 @@ quantified_by false h ty b = inst b zero_term
 
 abbrev pub simplify_rule : Tree → Tree
 simplify_rule (One HNot a) = negated_by (constant a) a
-simplify_rule (Two (HJoin op) a b) = joined_by (law_for op (constant a) (constant b)) op (constant a) (constant b) a b
+simplify_rule (Two (HJoin op) a b) =
+    joined_by (law_for op (constant a) (constant b)) op (constant a) (constant b) a b
 simplify_rule (Two HForall ty b) = quantified_by (is_open 0 b) HForall ty b
 simplify_rule (Two HExists ty b) = quantified_by (is_open 0 b) HExists ty b
 simplify_rule (Three HIf c a b) = if_by (constant c) c a b
@@ -108,7 +110,8 @@ has_laws _ = false
 
 -- a quantifier over a body
 abbrev pub IsQuantifiedOver : Tree → Tree → Type 0
-IsQuantifiedOver e b = ((ty : Tree) × (e ≡ Two HForall ty b)) ⊎ ((ty : Tree) × (e ≡ Two HExists ty b))
+IsQuantifiedOver e b =
+    ((ty : Tree) × (e ≡ Two HForall ty b)) ⊎ ((ty : Tree) × (e ≡ Two HExists ty b))
 
 -- it leaves types, patterns, lists and branches as they are
 pub simplify_others : (e : Tree) → IsOtherHead (head_of e) → simplify_rule e ≡ e

@@ -51,7 +51,8 @@ whole_of s (stands.Hypothesis h) a = imp (tree_at s h) a
 whole_of s (stands.Universal ty t) a = Two HForall (tree_at s ty) a
 whole_of s (stands.Value v) a = Two HLet (tree_at s v) a
 
--- the part alone: under a hypothesis it is the same, and under a binder that is opened it is an instance
+-- the part alone: under a hypothesis it is the same, and under a binder that is opened it is an
+-- instance
 abbrev pub inner_of : List Tree → Over → Tree → Tree
 inner_of s (stands.Hypothesis h) a = a
 inner_of s (stands.Universal ty t) a = inst a (tree_at s t)

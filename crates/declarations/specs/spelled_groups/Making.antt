@@ -1,4 +1,5 @@
--- Numbers of types and formulas over a store, and the conjunction of a list of formulas where it isn't empty.
+-- Numbers of types and formulas over a store, and the conjunction of a list of formulas where it
+-- isn't empty.
 use Rattle.std.specs.Prelude.{◌≡◌, ◌<◌, length, List, [], ◌∷◌, All, Option, Some, None, IfSome, slice_get}
 use Rattle.tasks.specs.declared.signature.SymbolInfo.{SymbolInfo}
 use Rattle.tasks.specs.declared.declaration.Ind.{Ind}

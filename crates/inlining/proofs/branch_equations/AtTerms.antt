@@ -52,7 +52,7 @@ above_plain : (n : ℕ) (types : List Tree) → AreNoPatterns (variables_above n
 above_plain n [] = tt
 above_plain n (ty ∷ types) = (refl, above_plain n types)
 
-plain_append : (ts us : List Tree) → AreNoPatterns ts → AreNoPatterns us → AreNoPatterns (ts ++ us)
+pub plain_append : (ts us : List Tree) → AreNoPatterns ts → AreNoPatterns us → AreNoPatterns (ts ++ us)
 plain_append [] us a c = c
 plain_append (t ∷ ts) us a c = (a.0, plain_append ts us a.1 c)
 

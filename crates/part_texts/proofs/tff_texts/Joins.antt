@@ -1,6 +1,5 @@
 -- Texts that grow piece by piece.
-use Rattle.std.proofs.Common.{◌≡◌, ℕ, ◌+◌, ◌<◌, List, ◌++◌, length, get_or, drop, if◌then◌else◌, Result, Ok, Err, is_ok, OnOk, IsErrAnd, sym, ap, ◌∙◌, append_assoc}
-use Rattle.std.specs.List.{flat_map}
+use Rattle.std.proofs.Common.{◌≡◌, ℕ, ◌+◌, ◌<◌, List, ◌++◌, length, get_or, drop, sym, ap, ◌∙◌, append_assoc}
 use Rattle.std.proofs.lemmas.List.{drop_more}
 use Rattle.trees.specs.declared.TermId.{TermId}
 use Rattle.trees.specs.Tree.{Tree}
@@ -8,12 +7,7 @@ use Rattle.trees.specs.Node.{tree_at}
 use Rattle.tasks.specs.Meaning.{trees_at}
 use Rattle.printed_problems.specs.printed_terms.Texts.{Printing, sort_text}
 use Rattle.part_texts.specs.tff_texts.Text.{tff_parameter_line, tff_parameter_lines, axiom_line, axiom_lines}
-use Rattle.tasks.proofs.plain_laws.Lists.{then_piece}
-
--- the last piece, where a fault leaves nothing to say
-pub last_piece : {X E : Type 0} (r : Result X E) (o p q a rest : List ℕ) → p ≡ o ++ a → OnOk r (q ≡ p ++ rest) → OnOk r (q ≡ o ++ (a ++ rest))
-last_piece (Ok x) o p q a rest e f = then_piece o p q a rest e f
-last_piece (Err x) o p q a rest e f = tt
+pub use Rattle.part_texts.proofs.smt_texts.Joins.{last_piece}
 
 pub parameter_step : (p : Printing) (s : List Tree) (ids : List TermId) (i : ℕ) (d : TermId) (old new all : List ℕ) → i < length ids → new ≡ old ++ tff_parameter_line i (sort_text p (tree_at s (get_or ids i d)))
     → old ++ tff_parameter_lines p i (trees_at s (drop i ids)) ≡ all → new ++ tff_parameter_lines p (i + 1) (trees_at s (drop (i + 1) ids)) ≡ all

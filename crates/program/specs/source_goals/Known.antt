@@ -14,7 +14,8 @@ use Rattle.theories.specs.theory_states.declared.goal_tasks.theories.Theory.{The
 use Rattle.theories.specs.theory_states.goal_tasks.Theories.{KnownTheoryTree, TheoriesTree}
 use Rattle.theories.specs.theory_states.goal_tasks.Meaning.{placed}
 
--- the symbols that a driver may name, and the known theories, each with the names of its propositions
+-- the symbols that a driver may name, and the known theories, each with the names of its
+-- propositions
 pub record KnownByDriver : Type 0 where
   pub symbols : List SymbolTree
   pub theories : List (List ℕ × List (List ℕ))
@@ -41,7 +42,8 @@ known_of all = record { symbols = all.symbols; theories = map known_theory all.l
 abbrev pub named_bytes : NamedTheory → List ℕ × List (List ℕ)
 named_bytes theory = (string_bytes theory.0, map string_bytes theory.1.items)
 
--- what a driver asks of an entry: its theory, its name and its kind, and how many type variables and arguments it has
+-- what a driver asks of an entry: its theory, its name and its kind, and how many type variables
+-- and arguments it has
 pub record AskedSymbol : Type 0 where
   pub theory : List ℕ
   pub name : List ℕ
@@ -50,13 +52,16 @@ pub record AskedSymbol : Type 0 where
   pub count : ℕ
 
 abbrev pub asked_of : SymbolTree → AskedSymbol
-asked_of e = record { theory = e.theory; name = e.name; kind = e.kind; vars = e.vars; count = length e.args }
+asked_of e =
+    record { theory = e.theory; name = e.name; kind = e.kind; vars = e.vars; count = length e.args }
 
 abbrev pub asked_in : SymbolInfo → AskedSymbol
-asked_in e = record { theory = e.theory; name = e.name; kind = e.kind; vars = e.vars; count = length e.args }
+asked_in e =
+    record { theory = e.theory; name = e.name; kind = e.kind; vars = e.vars; count = length e.args }
 
 -- a signature and named theories tell a driver what is known
-pub record IsKnownAs (known : KnownByDriver) (infos : List SymbolInfo) (named : NamedTheories) : Type 0 where
+pub record IsKnownAs (known : KnownByDriver) (infos : List SymbolInfo)
+    (named : NamedTheories) : Type 0 where
   pub symbols : map asked_in infos ≡ map asked_of known.symbols
   pub theories : map named_bytes named ≡ known.theories
 

@@ -1,5 +1,6 @@
--- From a source's bytes to the task of a goal and the driver that it goes through, or what is first in the way: the bytes'
--- tokens, their file, its theories; the driver; then the theory and the goal by their names.
+-- From a source's bytes to the task of a goal and the driver that it goes through, or what is first
+-- in the way: the bytes' tokens, their file, its theories; the driver; then the theory and the goal
+-- by their names.
 use Rattle.std.specs.Prelude.{◌≡◌, ℕ, List, Option, Some, None, Result, Ok, Err}
 use Rattle.tasks.specs.Task.{TaskTree}
 use Rattle.tasks.specs.declared.signature.SymbolInfo.{SymbolInfo}
@@ -34,11 +35,14 @@ abbrev pub Lexes : List ℕ → Stage (List Token)
 Lexes text (Ok tokens) = AreTokens text tokens
 Lexes text (Err stop) = HasNoTokens text stop
 
--- why tokens are no source: 13 at the first one that is nested too deep, else 14 or 12 at the least with which none begins
+-- why tokens are no source: 13 at the first one that is nested too deep, else 14 or 12 at the least
+-- with which none begins
 abbrev pub IsNoFile : List Lexeme → RunStop → Type 0
 IsNoFile xs (refused (fault.TooDeep token)) = IsTooDeep (terminals xs) token
-IsNoFile xs (refused (fault.ProgramDecl token)) = IsShallow (terminals xs) × IsFileFault xs token × IsProgramDecl xs token
-IsNoFile xs (refused (fault.Syntax token)) = IsShallow (terminals xs) × IsFileFault xs token × (IsProgramDecl xs token → ⊥)
+IsNoFile xs (refused (fault.ProgramDecl token)) =
+    IsShallow (terminals xs) × IsFileFault xs token × IsProgramDecl xs token
+IsNoFile xs (refused (fault.Syntax token)) =
+    IsShallow (terminals xs) × IsFileFault xs token × (IsProgramDecl xs token → ⊥)
 IsNoFile xs _ = ⊥
 
 -- the file of the tokens
@@ -48,19 +52,32 @@ Parses xs (Err stop) = IsNoFile xs stop
 
 -- why a file has no theories: 20 to 40, at its first fault
 abbrev pub HasNoTheories : List SyntaxTheory → RunStop → Type 0
-HasNoTheories file (refused (fault.Unknown decl token)) = IsPlainFirstFault file (source_fault.Unknown decl token)
-HasNoTheories file (refused (fault.Duplicate decl token)) = IsPlainFirstFault file (source_fault.Duplicate decl token)
-HasNoTheories file (refused (fault.WrongKind decl token)) = IsPlainFirstFault file (source_fault.WrongKind decl token)
-HasNoTheories file (refused (fault.Arity decl token)) = IsPlainFirstFault file (source_fault.Arity decl token)
-HasNoTheories file (refused (fault.Clash decl k)) = IsPlainFirstFault file (source_fault.Clash decl k)
-HasNoTheories file (refused (fault.Undetermined decl token)) = IsPlainFirstFault file (source_fault.Undetermined decl token)
-HasNoTheories file (refused (fault.NotExhaustive decl token)) = IsPlainFirstFault file (source_fault.NotExhaustive decl token)
-HasNoTheories file (refused (fault.BadClause decl clause)) = IsPlainFirstFault file (source_fault.BadClause decl clause)
-HasNoTheories file (refused (fault.NotPositive decl clause)) = IsPlainFirstFault file (source_fault.NotPositive decl clause)
-HasNoTheories file (refused (fault.NotStructural decl)) = IsPlainFirstFault file (source_fault.NotStructural decl)
-HasNoTheories file (refused (fault.GroupTooWide decl)) = IsPlainFirstFault file (source_fault.GroupTooWide decl)
-HasNoTheories file (refused (fault.Uninhabited decl)) = IsPlainFirstFault file (source_fault.Uninhabited decl)
-HasNoTheories file (refused (fault.BadSubstitution decl token)) = IsPlainFirstFault file (source_fault.BadSubstitution decl token)
+HasNoTheories file (refused (fault.Unknown decl token)) =
+    IsPlainFirstFault file (source_fault.Unknown decl token)
+HasNoTheories file (refused (fault.Duplicate decl token)) =
+    IsPlainFirstFault file (source_fault.Duplicate decl token)
+HasNoTheories file (refused (fault.WrongKind decl token)) =
+    IsPlainFirstFault file (source_fault.WrongKind decl token)
+HasNoTheories file (refused (fault.Arity decl token)) =
+    IsPlainFirstFault file (source_fault.Arity decl token)
+HasNoTheories file (refused (fault.Clash decl k)) =
+    IsPlainFirstFault file (source_fault.Clash decl k)
+HasNoTheories file (refused (fault.Undetermined decl token)) =
+    IsPlainFirstFault file (source_fault.Undetermined decl token)
+HasNoTheories file (refused (fault.NotExhaustive decl token)) =
+    IsPlainFirstFault file (source_fault.NotExhaustive decl token)
+HasNoTheories file (refused (fault.BadClause decl clause)) =
+    IsPlainFirstFault file (source_fault.BadClause decl clause)
+HasNoTheories file (refused (fault.NotPositive decl clause)) =
+    IsPlainFirstFault file (source_fault.NotPositive decl clause)
+HasNoTheories file (refused (fault.NotStructural decl)) =
+    IsPlainFirstFault file (source_fault.NotStructural decl)
+HasNoTheories file (refused (fault.GroupTooWide decl)) =
+    IsPlainFirstFault file (source_fault.GroupTooWide decl)
+HasNoTheories file (refused (fault.Uninhabited decl)) =
+    IsPlainFirstFault file (source_fault.Uninhabited decl)
+HasNoTheories file (refused (fault.BadSubstitution decl token)) =
+    IsPlainFirstFault file (source_fault.BadSubstitution decl token)
 HasNoTheories file _ = ⊥
 
 -- the theories of a file
@@ -102,24 +119,33 @@ abbrev pub Goal : List ℕ → List ℕ → List ℕ → StageMeaning TaskTree
 Goal src theory goal files limit = After (SourceTheoriesOf src files limit) (TaskOf theory goal)
 
 -- ---- the driver
--- what the reading of a driver's files gives is the driver, or why there is none: a file that is absent or can't be read, or 15 and 50 to 55
+-- what the reading of a driver's files gives is the driver, or why there is none: a file that is
+-- absent or can't be read, or 15 and 50 to 55
 abbrev pub IsDriverOr : Result Driver DriverStop → Stage Driver
 IsDriverOr found (Ok d) = found ≡ Ok d
 IsDriverOr found (Err (absent file)) = found ≡ Err (driver.file_absent file)
 IsDriverOr found (Err (unread file name)) = found ≡ Err (driver.file_unread file name)
-IsDriverOr found (Err (refused (fault.TooLong file))) = found ≡ Err (driver.file_refused (driver_fault.TooLong file))
-IsDriverOr found (Err (refused (fault.DriverSyntax file byte))) = found ≡ Err (driver.file_refused (driver_fault.DriverSyntax file byte))
-IsDriverOr found (Err (refused (fault.UnknownTransformation file byte))) = found ≡ Err (driver.file_refused (driver_fault.UnknownTransformation file byte))
-IsDriverOr found (Err (refused (fault.BadTemplate file byte))) = found ≡ Err (driver.file_refused (driver_fault.BadTemplate file byte))
-IsDriverOr found (Err (refused (fault.UnknownSymbol file byte))) = found ≡ Err (driver.file_refused (driver_fault.UnknownSymbol file byte))
-IsDriverOr found (Err (refused (fault.ImportCycle file byte))) = found ≡ Err (driver.file_refused (driver_fault.ImportCycle file byte))
-IsDriverOr found (Err (refused (fault.UnknownPrinter file byte))) = found ≡ Err (driver.file_refused (driver_fault.UnknownPrinter file byte))
+IsDriverOr found (Err (refused (fault.TooLong file))) =
+    found ≡ Err (driver.file_refused (driver_fault.TooLong file))
+IsDriverOr found (Err (refused (fault.DriverSyntax file byte))) =
+    found ≡ Err (driver.file_refused (driver_fault.DriverSyntax file byte))
+IsDriverOr found (Err (refused (fault.UnknownTransformation file byte))) =
+    found ≡ Err (driver.file_refused (driver_fault.UnknownTransformation file byte))
+IsDriverOr found (Err (refused (fault.BadTemplate file byte))) =
+    found ≡ Err (driver.file_refused (driver_fault.BadTemplate file byte))
+IsDriverOr found (Err (refused (fault.UnknownSymbol file byte))) =
+    found ≡ Err (driver.file_refused (driver_fault.UnknownSymbol file byte))
+IsDriverOr found (Err (refused (fault.ImportCycle file byte))) =
+    found ≡ Err (driver.file_refused (driver_fault.ImportCycle file byte))
+IsDriverOr found (Err (refused (fault.UnknownPrinter file byte))) =
+    found ≡ Err (driver.file_refused (driver_fault.UnknownPrinter file byte))
 IsDriverOr found (Err _) = ⊥
 
 -- the driver of a file, whose number is 1, over what is known
 abbrev pub DriverOf : KnownByDriver → List ℕ → StageMeaning Driver
 DriverOf known drv files limit r =
-    (symbols : List SymbolInfo) × (theories : NamedTheories) × IsKnownAs known symbols theories × IsDriverOr (driver_named symbols theories drv files limit) r
+    (symbols : List SymbolInfo) × (theories : NamedTheories) × IsKnownAs known symbols theories
+    × IsDriverOr (driver_named symbols theories drv files limit) r
 
 -- ---- a goal under a driver
 -- a goal's task, and the driver that it goes through
@@ -135,7 +161,9 @@ abbrev pub TaskUnder : List ℕ → List ℕ → TheoriesTree → Driver → Sta
 TaskUnder theory goal all d = After (TaskOf theory goal all) (λ t. Answer (Ok (setting_of d t)))
 
 abbrev pub Driven : List ℕ → List ℕ → List ℕ → TheoriesTree → StageMeaning GoalSettingTree
-Driven drv theory goal all files limit = After (DriverOf (known_of all) drv files limit) (TaskUnder theory goal all)
+Driven drv theory goal all files limit =
+    After (DriverOf (known_of all) drv files limit) (TaskUnder theory goal all)
 
 abbrev pub GoalUnder : List ℕ → List ℕ → List ℕ → List ℕ → StageMeaning GoalSettingTree
-GoalUnder src drv theory goal files limit = After (SourceTheoriesOf src files limit) (λ all. Driven drv theory goal all files limit)
+GoalUnder src drv theory goal files limit =
+    After (SourceTheoriesOf src files limit) (λ all. Driven drv theory goal all files limit)

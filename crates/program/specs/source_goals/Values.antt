@@ -1,4 +1,5 @@
--- What the results of the parts stand for over a store, and the faults of a run that the parts' faults are.
+-- What the results of the parts stand for over a store, and the faults of a run that the parts'
+-- faults are.
 use Rattle.std.specs.Prelude.{ℕ, List, Result, Ok, Err, Vec}
 use Rattle.std.specs.declared.alloc.Global.{Global}
 use Rattle.tasks.specs.trees.Tree.{Tree}
@@ -59,13 +60,15 @@ source_fault (of_source.WrongKind decl token) = run_fault.Refused (fault.WrongKi
 source_fault (of_source.Arity decl token) = run_fault.Refused (fault.Arity decl token)
 source_fault (of_source.Clash decl k) = run_fault.Refused (fault.Clash decl k)
 source_fault (of_source.Undetermined decl token) = run_fault.Refused (fault.Undetermined decl token)
-source_fault (of_source.NotExhaustive decl token) = run_fault.Refused (fault.NotExhaustive decl token)
+source_fault (of_source.NotExhaustive decl token) =
+    run_fault.Refused (fault.NotExhaustive decl token)
 source_fault (of_source.BadClause decl clause) = run_fault.Refused (fault.BadClause decl clause)
 source_fault (of_source.NotPositive decl clause) = run_fault.Refused (fault.NotPositive decl clause)
 source_fault (of_source.NotStructural decl) = run_fault.Refused (fault.NotStructural decl)
 source_fault (of_source.GroupTooWide decl) = run_fault.Refused (fault.GroupTooWide decl)
 source_fault (of_source.Uninhabited decl) = run_fault.Refused (fault.Uninhabited decl)
-source_fault (of_source.BadSubstitution decl token) = run_fault.Refused (fault.BadSubstitution decl token)
+source_fault (of_source.BadSubstitution decl token) =
+    run_fault.Refused (fault.BadSubstitution decl token)
 
 -- where no driver is read
 abbrev pub driver_fault : DriverFault → RunFault
@@ -74,8 +77,10 @@ driver_fault (of_driver.Absent file) = run_fault.Absent file
 driver_fault (of_driver.ReadFault file) = run_fault.ReadFault file
 driver_fault (of_driver.TooLong file) = run_fault.Refused (fault.TooLong file)
 driver_fault (of_driver.DriverSyntax file byte) = run_fault.Refused (fault.DriverSyntax file byte)
-driver_fault (of_driver.UnknownTransformation file byte) = run_fault.Refused (fault.UnknownTransformation file byte)
+driver_fault (of_driver.UnknownTransformation file byte) =
+    run_fault.Refused (fault.UnknownTransformation file byte)
 driver_fault (of_driver.BadTemplate file byte) = run_fault.Refused (fault.BadTemplate file byte)
 driver_fault (of_driver.UnknownSymbol file byte) = run_fault.Refused (fault.UnknownSymbol file byte)
 driver_fault (of_driver.ImportCycle file byte) = run_fault.Refused (fault.ImportCycle file byte)
-driver_fault (of_driver.UnknownPrinter file byte) = run_fault.Refused (fault.UnknownPrinter file byte)
+driver_fault (of_driver.UnknownPrinter file byte) =
+    run_fault.Refused (fault.UnknownPrinter file byte)

@@ -28,10 +28,12 @@ use Rattle.stages.specs.declared.transformations.transformation.Transformation.T
 -- what is known of a transformation by itself
 pub record TransformationLaw : Type 0 where
   pub equation : TaskEquation
-  pub keeps : (t : TaskTree) (ts : List TaskTree) → IsValid t → Gives equation t ts → All (Keeps t) ts
+  pub keeps : (t : TaskTree) (ts : List TaskTree) → IsValid t → Gives equation t ts
+      → All (Keeps t) ts
 
 abbrev pub law_of : Transformation → TransformationLaw
-law_of (Remove its) = record { equation = remove_equation its.props; keeps = remove_keeps its.props }
+law_of (Remove its) =
+    record { equation = remove_equation its.props; keeps = remove_keeps its.props }
 law_of (Split its) = record { equation = split_equation; keeps = split_keeps }
 law_of (Introduce its) = record { equation = introduce_equation; keeps = introduce_keeps }
 law_of (Definitions its) = record { equation = definitions_equation; keeps = definitions_keep }
@@ -52,5 +54,6 @@ task_equation_of x = (law_of x).equation
 abbrev pub equation_of : Transformation → StageEquation
 equation_of x t = stage_equation (task_equation_of x) t
 
-pub keeps_of : (x : Transformation) (t : TaskTree) (ts : List TaskTree) → IsValid t → Gives (task_equation_of x) t ts → All (Keeps t) ts
+pub keeps_of : (x : Transformation) (t : TaskTree) (ts : List TaskTree) → IsValid t
+    → Gives (task_equation_of x) t ts → All (Keeps t) ts
 keeps_of x t ts valid gives = (law_of x).keeps t ts valid gives

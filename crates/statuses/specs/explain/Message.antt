@@ -33,20 +33,26 @@ line_if_any (c ∷ cs) = shown_line (c ∷ cs)
 
 abbrev pub place_text : List ℕ → Spot → List ℕ
 place_text text Nowhere = []
-place_text text (Byte byte) = decimal (line_number text byte) ++ codes ":" ++ decimal (column_behind (line_before text byte)) ++ codes ":"
+place_text text (Byte byte) =
+    decimal (line_number text byte) ++ codes ":" ++ decimal (column_behind (line_before text byte))
+    ++ codes ":"
 place_text text (Line number) = decimal number ++ codes ":"
 
 abbrev pub excerpt : List ℕ → Spot → List ℕ
 excerpt text Nowhere = []
-excerpt text (Byte byte) = shown_line (line_numbered text (line_number text byte)) ++ caret_line (line_before text byte)
+excerpt text (Byte byte) =
+    shown_line (line_numbered text (line_number text byte)) ++ caret_line (line_before text byte)
 excerpt text (Line number) = line_if_any (line_numbered text number)
 
 -- the words, and the fault as its line has it
 abbrev pub head_line : List ℕ → List ℕ → List ℕ → List ℕ → List ℕ
-head_line name place words fault = name ++ codes ":" ++ place ++ codes " " ++ words ++ codes " (refused:" ++ spaced_words fault ++ codes ")\n"
+head_line name place words fault =
+    name ++ codes ":" ++ place ++ codes " " ++ words ++ codes " (refused:" ++ spaced_words fault
+    ++ codes ")\n"
 
 abbrev pub message : List ℕ → List ℕ → List ℕ → RowText → Spot → List ℕ
-message name text fault row spot = head_line name (place_text text spot) row.words fault ++ excerpt text spot
+message name text fault row spot =
+    head_line name (place_text text spot) row.words fault ++ excerpt text spot
 
 abbrev pub row_if_fits : List ℕ → Option RowText → Option RowText
 row_if_fits fields None = None
@@ -63,8 +69,10 @@ last_of fault = get_or fault (length fault - 1) 0
 abbrev pub ExplainsBy : Option RowText → List ℕ → List ℕ → List ℕ → Option (List ℕ) → Type 0
 ExplainsBy None name text fault answer = answer ≡ None
 ExplainsBy (Some row) name text fault answer =
-    (spot : Spot) × StandsAt text row.counts (last_of fault) spot × (answer ≡ Some (message name text fault row spot))
+    (spot : Spot) × StandsAt text row.counts (last_of fault) spot
+    × (answer ≡ Some (message name text fault row spot))
 
--- the message of a fault in a file of this name and text; none exactly where the numbers are no fault
+-- the message of a fault in a file of this name and text; none exactly where the numbers are no
+-- fault
 abbrev pub Explains : List ℕ → List ℕ → List ℕ → Option (List ℕ) → Type 0
 Explains name text fault answer = ExplainsBy (row_for fault) name text fault answer

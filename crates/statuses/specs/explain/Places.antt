@@ -53,9 +53,11 @@ end_of (Some token) = token.end
 
 abbrev pub start_or : List Token → ℕ → Option Token → Option ℕ
 start_or tokens number (Some token) = Some token.start
-start_or tokens number None = if number == length tokens then Some (end_of (slice_get tokens (number - 1))) else None
+start_or tokens number None =
+    if number == length tokens then Some (end_of (slice_get tokens (number - 1))) else None
 
--- The byte at which a token begins, by its number from 0 on. The number of tokens stands for the end of the last one.
+-- The byte at which a token begins, by its number from 0 on. The number of tokens stands for the
+-- end of the last one.
 abbrev pub token_byte : List Token → ℕ → Option ℕ
 token_byte tokens number = start_or tokens number (slice_get tokens number)
 
@@ -65,7 +67,8 @@ spot_or text (Some byte) = byte_spot text byte
 
 -- where a token of a text stands; nowhere in a text without tokens
 abbrev pub TokenStandsAt : List ℕ → ℕ → Spot → Type 0
-TokenStandsAt text number spot = ((ts : List Token) × AreTokens text ts × (spot ≡ spot_or text (token_byte ts number)))
+TokenStandsAt text number spot =
+    ((ts : List Token) × AreTokens text ts × (spot ≡ spot_or text (token_byte ts number)))
     ⊎ (((ts : List Token) → AreTokens text ts → ⊥) × (spot ≡ Nowhere))
 
 -- where a fault with this last number stands

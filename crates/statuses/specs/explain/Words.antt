@@ -11,7 +11,9 @@ use Rattle.statuses.specs.explain.Message.{row_for, Explains}
 abbrev pub number_after_digits : ℕ → List ℕ → Option ℕ
 number_after_digits n [] = Some n
 number_after_digits n (c ∷ cs) =
-    if (nat_le 48 c && nat_le c 57) && nat_lt (n * 10 + (c - 48)) 18446744073709551616 then number_after_digits (n * 10 + (c - 48)) cs else None
+    if (nat_le 48 c && nat_le c 57)
+    && nat_lt (n * 10 + (c - 48)) 18446744073709551616 then number_after_digits
+    (n * 10 + (c - 48)) cs else None
 
 -- the number that a word writes in decimal
 abbrev pub decimal_value : List ℕ → Option ℕ
@@ -40,25 +42,32 @@ bytes_of (Err e) = Err e
 abbrev pub CountsStay : LibraryState → LibraryState → Type 0
 CountsStay old new = (new.faults ≡ old.faults) × (new.absents ≡ old.absents)
 
--- What a fault in a file comes to: the message over the file's bytes, or why there is none. A fetch that failed is
--- what is told.
-abbrev pub FileGives : List ℕ → List ℕ → LibraryState → LibraryState → Result (List ℕ) ExplainFault → Type 0
+-- What a fault in a file comes to: the message over the file's bytes, or why there is none. A fetch
+-- that failed is what is told.
+abbrev pub FileGives : List ℕ → List ℕ → LibraryState → LibraryState
+    → Result (List ℕ) ExplainFault → Type 0
 FileGives name fault old new (Ok text) = CountsStay old new
-    × ((bytes : List ℕ) × IfSome old.files (λ files. IsFront (files name) 18446744073709551615 bytes) × Explains name bytes fault (Some text))
+    × ((bytes : List ℕ) × IfSome old.files
+    (λ files. IsFront (files name) 18446744073709551615 bytes)
+    × Explains name bytes fault (Some text))
 FileGives name fault old new (Err Memory) = CountsStay old new
 FileGives name fault old new (Err Usage) = CountsStay old new × (row_for fault ≡ None)
-FileGives name fault old new (Err Absent) = (new.faults ≡ old.faults) × IsSome (row_for fault) × Rose old.absents new.absents
-FileGives name fault old new (Err ReadFault) = (new.absents ≡ old.absents) × IsSome (row_for fault) × Rose old.faults new.faults
+FileGives name fault old new (Err Absent) =
+    (new.faults ≡ old.faults) × IsSome (row_for fault) × Rose old.absents new.absents
+FileGives name fault old new (Err ReadFault) =
+    (new.absents ≡ old.absents) × IsSome (row_for fault) × Rose old.faults new.faults
 
 abbrev pub IsMisused : Result (List ℕ) ExplainFault → Type 0
 IsMisused (Err Usage) = Unit {0}
 IsMisused (Err Memory) = Unit {0}
 IsMisused _ = ⊥
 
-abbrev pub GivesBy : Option (List ℕ) → List ℕ → LibraryState → LibraryState → Result (List ℕ) ExplainFault → Type 0
+abbrev pub GivesBy : Option (List ℕ) → List ℕ → LibraryState → LibraryState
+    → Result (List ℕ) ExplainFault → Type 0
 GivesBy None name old new r = CountsStay old new × IsMisused r
 GivesBy (Some fault) name old new r = FileGives name fault old new r
 
 -- what the words come to
-abbrev pub GivesWords : List (List ℕ) → LibraryState → LibraryState → Result (List ℕ) ExplainFault → Type 0
+abbrev pub GivesWords : List (List ℕ) → LibraryState → LibraryState
+    → Result (List ℕ) ExplainFault → Type 0
 GivesWords words old new r = GivesBy (fault_in_words words) (file_in_words words) old new r

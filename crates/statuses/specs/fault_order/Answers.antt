@@ -36,34 +36,46 @@ pub record OneFault (old new : LibraryState) : Type 0 where
 -- the file with this number can't be read, and it is the one whose name the library refused
 abbrev pub StopsAt : {A : Type 0} → StageMeaning A → ℕ → Option (List ℕ) → Files → Type 0
 StopsAt meaning file refused_name files =
-    (name : List ℕ) × meaning files (Some file) (Err (unread file name)) × IfSome refused_name (λ its. its ≡ name)
+    (name : List ℕ) × meaning files (Some file) (Err (unread file name))
+    × IfSome refused_name (λ its. its ≡ name)
 
--- The answer of a part that fetches files from number `start` on, and after Ok has fetched those below `next`.
-abbrev pub IsPartAnswer : {A : Type 0} → StageMeaning A → ℕ → (A → ℕ) → LibraryState → LibraryState → Result A RunFault → Type 0
+-- The answer of a part that fetches files from number `start` on, and after Ok has fetched those
+-- below `next`.
+abbrev pub IsPartAnswer : {A : Type 0} → StageMeaning A → ℕ → (A → ℕ) → LibraryState → LibraryState
+    → Result A RunFault → Type 0
 IsPartAnswer meaning start next old new (Ok value) = Still old new × (start ≤ next value)
-    × IfSome old.files (λ files. (limit : Option ℕ) → Reaches limit (next value) → meaning files limit (Ok value))
+    × IfSome old.files (λ files. (limit : Option ℕ) → Reaches limit (next value)
+    → meaning files limit (Ok value))
 IsPartAnswer meaning start next old new (Err run_fault.Memory) = Still old new
 IsPartAnswer meaning start next old new (Err (run_fault.Refused fault)) = Still old new
     × IfSome old.files (λ files. meaning files None (Err (refused fault)))
 IsPartAnswer meaning start next old new (Err (run_fault.Absent file)) = OneAbsent old new
     × IfSome old.files (λ files. meaning files None (Err (absent file)))
-IsPartAnswer meaning start next old new (Err (run_fault.ReadFault file)) = OneFault old new × (start ≤ file)
+IsPartAnswer meaning start next old new (Err (run_fault.ReadFault file)) =
+    OneFault old new × (start ≤ file)
     × IfSome old.files (StopsAt meaning file new.refused_name)
 
 -- The files stay, and the answer meets the meaning.
-pub record Answers {A : Type 0} (meaning : StageMeaning A) (start : ℕ) (next : A → ℕ) (old new : LibraryState) (result : Result A RunFault) : Type 0 where
+pub record Answers {A : Type 0} (meaning : StageMeaning A) (start : ℕ) (next : A → ℕ)
+    (old new : LibraryState) (result : Result A RunFault) : Type 0 where
   pub files : new.files ≡ old.files
   pub meets : IsPartAnswer meaning start next old new result
 
 -- The answer of a whole part: its value, or what stopped it.
-abbrev pub IsWholeAnswer : {A : Type 0} → StageMeaning A → LibraryState → LibraryState → Result A RunFault → Type 0
-IsWholeAnswer meaning old new (Ok value) = Still old new × IfSome old.files (λ files. meaning files None (Ok value))
+abbrev pub IsWholeAnswer : {A : Type 0} → StageMeaning A → LibraryState → LibraryState
+    → Result A RunFault → Type 0
+IsWholeAnswer meaning old new (Ok value) =
+    Still old new × IfSome old.files (λ files. meaning files None (Ok value))
 IsWholeAnswer meaning old new (Err run_fault.Memory) = Still old new
-IsWholeAnswer meaning old new (Err (run_fault.Refused fault)) = Still old new × IfSome old.files (λ files. meaning files None (Err (refused fault)))
-IsWholeAnswer meaning old new (Err (run_fault.Absent file)) = OneAbsent old new × IfSome old.files (λ files. meaning files None (Err (absent file)))
-IsWholeAnswer meaning old new (Err (run_fault.ReadFault file)) = OneFault old new × IfSome old.files (StopsAt meaning file new.refused_name)
+IsWholeAnswer meaning old new (Err (run_fault.Refused fault)) =
+    Still old new × IfSome old.files (λ files. meaning files None (Err (refused fault)))
+IsWholeAnswer meaning old new (Err (run_fault.Absent file)) =
+    OneAbsent old new × IfSome old.files (λ files. meaning files None (Err (absent file)))
+IsWholeAnswer meaning old new (Err (run_fault.ReadFault file)) =
+    OneFault old new × IfSome old.files (StopsAt meaning file new.refused_name)
 
-pub record EndsAs {A : Type 0} (meaning : StageMeaning A) (old new : LibraryState) (result : Result A RunFault) : Type 0 where
+pub record EndsAs {A : Type 0} (meaning : StageMeaning A) (old new : LibraryState)
+    (result : Result A RunFault) : Type 0 where
   pub files : new.files ≡ old.files
   pub gives : IsWholeAnswer meaning old new result
 

@@ -7,7 +7,8 @@ use Rattle.step_lines.specs.declared.rule_words.argument.Argument.TheVariants as
 use Rattle.step_lines.specs.declared.rule_words.argument.ArgumentKind.{ArgumentKind}
 use Rattle.step_lines.specs.declared.rule_words.argument.ArgumentKind.TheVariants as kind
 
--- a place or another number, a symbol by its entry in the signature, an integer, a term or formula, or a type
+-- a place or another number, a symbol by its entry in the signature, an integer, a term or formula,
+-- or a type
 pub data ArgumentTree : Type 0 where
   ANumber : ℕ → ArgumentTree
   ASymbol : ℕ → ArgumentTree

@@ -36,7 +36,8 @@ argument_kinds (TwoNumbers f) = kinds_by (kind.Number ∷ kind.Number ∷ []) []
 argument_kinds (OneExpression f) = kinds_by (kind.Expression ∷ []) []
 argument_kinds (TwoExpressions f) = kinds_by (kind.Expression ∷ kind.Expression ∷ []) []
 argument_kinds (NumberExpression f) = kinds_by (kind.Number ∷ kind.Expression ∷ []) []
-argument_kinds (NumbersExpression f) = kinds_by (kind.Number ∷ kind.Number ∷ kind.Expression ∷ []) []
+argument_kinds (NumbersExpression f) =
+    kinds_by (kind.Number ∷ kind.Number ∷ kind.Expression ∷ []) []
 argument_kinds (ExpressionInteger f) = kinds_by (kind.Expression ∷ kind.Integer ∷ []) []
 argument_kinds (AnyNumbers f) = kinds_by [] (kind.Number ∷ [])
 argument_kinds (AnyPairs f) = kinds_by [] (kind.Number ∷ kind.Integer ∷ [])
@@ -52,24 +53,30 @@ abbrev then3 : {A B C D : Type 0} → Option A → Option B → Option C → (A 
 then3 (Some a) (Some b) (Some c) f = Some (f a b c)
 then3 _ _ _ f = None
 
-abbrev pub one_argument : {A : Type 0} → (ArgumentTree → Option A) → (A → RuleTree) → List ArgumentTree → Option RuleTree
+abbrev pub one_argument : {A : Type 0} → (ArgumentTree → Option A) → (A → RuleTree)
+    → List ArgumentTree → Option RuleTree
 one_argument p f (a ∷ []) = option_map f (p a)
 one_argument p f _ = None
 
-abbrev pub two_arguments : {A B : Type 0} → (ArgumentTree → Option A) → (ArgumentTree → Option B) → (A → B → RuleTree) → List ArgumentTree → Option RuleTree
+abbrev pub two_arguments : {A B : Type 0} → (ArgumentTree → Option A) → (ArgumentTree → Option B)
+    → (A → B → RuleTree) → List ArgumentTree → Option RuleTree
 two_arguments p q f (a ∷ b ∷ []) = then2 (p a) (q b) f
 two_arguments p q f _ = None
 
-abbrev pub three_arguments : {A B C : Type 0} → (ArgumentTree → Option A) → (ArgumentTree → Option B) → (ArgumentTree → Option C) → (A → B → C → RuleTree) → List ArgumentTree → Option RuleTree
+abbrev pub three_arguments : {A B C : Type 0} → (ArgumentTree → Option A)
+    → (ArgumentTree → Option B) → (ArgumentTree → Option C) → (A → B → C → RuleTree)
+    → List ArgumentTree → Option RuleTree
 three_arguments p q r f (a ∷ b ∷ c ∷ []) = then3 (p a) (q b) (r c) f
 three_arguments p q r f _ = None
 
 -- what arguments of one kind are, after earlier ones
-abbrev pub each_from : {A : Type 0} → (ArgumentTree → Option A) → List A → List ArgumentTree → Option (List A)
+abbrev pub each_from : {A : Type 0} → (ArgumentTree → Option A) → List A → List ArgumentTree
+    → Option (List A)
 each_from p xs [] = Some xs
 each_from p xs (a ∷ args) = option_and_then (λ x. each_from p (xs ++ x ∷ []) args) (p a)
 
-abbrev pub each_argument : {A : Type 0} → (ArgumentTree → Option A) → List ArgumentTree → Option (List A)
+abbrev pub each_argument : {A : Type 0} → (ArgumentTree → Option A) → List ArgumentTree
+    → Option (List A)
 each_argument p args = each_from p [] args
 
 -- pairs of a number and an integer, after earlier ones; a number may be read already
@@ -77,12 +84,14 @@ abbrev pub pairs_from : List (ℕ × ℤ) → Option ℕ → List ArgumentTree �
 pairs_from ps None [] = Some ps
 pairs_from ps (Some i) [] = None
 pairs_from ps None (a ∷ args) = option_and_then (λ i. pairs_from ps (Some i) args) (number_in a)
-pairs_from ps (Some i) (a ∷ args) = option_and_then (λ m. pairs_from (ps ++ (i, m) ∷ []) None args) (integer_in a)
+pairs_from ps (Some i) (a ∷ args) =
+    option_and_then (λ m. pairs_from (ps ++ (i, m) ∷ []) None args) (integer_in a)
 
 abbrev pub argument_pairs : List ArgumentTree → Option (List (ℕ × ℤ))
 argument_pairs args = pairs_from [] None args
 
-abbrev pub one_then_types : (ArgumentTree → Option ℕ) → (ℕ → List Tree → RuleTree) → List ArgumentTree → Option RuleTree
+abbrev pub one_then_types : (ArgumentTree → Option ℕ) → (ℕ → List Tree → RuleTree)
+    → List ArgumentTree → Option RuleTree
 one_then_types p f [] = None
 one_then_types p f (a ∷ args) = then2 (p a) (each_argument type_in args) f
 

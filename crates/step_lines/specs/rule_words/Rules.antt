@@ -1,4 +1,5 @@
--- The words of the rules, with the kinds of their arguments: one table, by which rules are read and written.
+-- The words of the rules, with the kinds of their arguments: one table, by which rules are read and
+-- written.
 use Rattle.std.specs.Prelude.{ℕ, List, [], ◌∷◌, map, Option, codes, slice_get}
 use Rattle.std.specs.Option.{option_and_then}
 use Rattle.word_tables.specs.Words.{place_in_words}
@@ -58,7 +59,12 @@ rule_row name.Trichotomy = row_by (codes "trichotomy") (TwoExpressions RTrichoto
 
 -- the names in the order of their words
 abbrev pub rule_names : List RuleName
-rule_names = name.And ∷ name.AndThen ∷ name.Bound ∷ name.Case ∷ name.Clash ∷ name.Clause ∷ name.Cut ∷ name.Def ∷ name.Distinct ∷ name.Exists ∷ name.Fact ∷ name.False ∷ name.Forall ∷ name.IfDef ∷ name.Iff ∷ name.Imp ∷ name.Inject ∷ name.Inv ∷ name.Irrefl ∷ name.Keep ∷ name.LetDef ∷ name.Linear ∷ name.MatchDef ∷ name.NotAnd ∷ name.NotAndThen ∷ name.NotExists ∷ name.NotForall ∷ name.NotIff ∷ name.NotImp ∷ name.NotNot ∷ name.NotOr ∷ name.NotOrElse ∷ name.NotTrue ∷ name.Or ∷ name.OrElse ∷ name.Project ∷ name.Refl ∷ name.Replace ∷ name.Trichotomy ∷ []
+rule_names = name.And ∷ name.AndThen ∷ name.Bound ∷ name.Case ∷ name.Clash ∷ name.Clause ∷ name.Cut
+    ∷ name.Def ∷ name.Distinct ∷ name.Exists ∷ name.Fact ∷ name.False ∷ name.Forall ∷ name.IfDef
+    ∷ name.Iff ∷ name.Imp ∷ name.Inject ∷ name.Inv ∷ name.Irrefl ∷ name.Keep ∷ name.LetDef
+    ∷ name.Linear ∷ name.MatchDef ∷ name.NotAnd ∷ name.NotAndThen ∷ name.NotExists ∷ name.NotForall
+    ∷ name.NotIff ∷ name.NotImp ∷ name.NotNot ∷ name.NotOr ∷ name.NotOrElse ∷ name.NotTrue ∷ name.Or
+    ∷ name.OrElse ∷ name.Project ∷ name.Refl ∷ name.Replace ∷ name.Trichotomy ∷ []
 
 abbrev pub rule_words : List (List ℕ)
 rule_words = map (λ n. (rule_row n).word) rule_names

@@ -46,16 +46,19 @@ name_and_arguments (NotExists i e) = by name.NotExists (made.Number i ∷ made.E
 name_and_arguments (Cut e) = by name.Cut (made.Expression e ∷ [])
 name_and_arguments (Keep places) = by name.Keep (map made.Number places)
 name_and_arguments (Refl e) = by name.Refl (made.Expression e ∷ [])
-name_and_arguments (Replace i j e) = by name.Replace (made.Number i ∷ made.Number j ∷ made.Expression e ∷ [])
+name_and_arguments (Replace i j e) =
+    by name.Replace (made.Number i ∷ made.Number j ∷ made.Expression e ∷ [])
 name_and_arguments (LetDef e) = by name.LetDef (made.Expression e ∷ [])
 name_and_arguments (IfDef e) = by name.IfDef (made.Expression e ∷ [])
 name_and_arguments (MatchDef e) = by name.MatchDef (made.Expression e ∷ [])
 name_and_arguments (Fact k types) = by name.Fact (made.Number k ∷ map made.Type types)
 name_and_arguments (Def k types) = by name.Def (made.Symbol k ∷ map made.Type types)
-name_and_arguments (Clause k i types) = by name.Clause (made.Symbol k ∷ made.Number i ∷ map made.Type types)
+name_and_arguments (Clause k i types) =
+    by name.Clause (made.Symbol k ∷ made.Number i ∷ map made.Type types)
 name_and_arguments (Inv k types) = by name.Inv (made.Symbol k ∷ map made.Type types)
 name_and_arguments (Case e) = by name.Case (made.Expression e ∷ [])
 name_and_arguments (Inject i) = by name.Inject (made.Number i ∷ [])
 name_and_arguments (Project e) = by name.Project (made.Expression e ∷ [])
-name_and_arguments (Trichotomy a b) = by name.Trichotomy (made.Expression a ∷ made.Expression b ∷ [])
+name_and_arguments (Trichotomy a b) =
+    by name.Trichotomy (made.Expression a ∷ made.Expression b ∷ [])
 name_and_arguments (Bound e n) = by name.Bound (made.Expression e ∷ made.Integer n ∷ [])

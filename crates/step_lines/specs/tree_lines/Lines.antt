@@ -40,7 +40,8 @@ symbol_number (Symbol k) = Some k
 
 -- the lists of the types and the parts, and the result at the types
 abbrev pub use_trees : SymbolUse → Option (Tree × Tree × Tree)
-use_trees u = option_map (λ ty. (cells u.types, cells u.parts, inst_types ty u.types)) u.entry.result
+use_trees u =
+    option_map (λ ty. (cells u.types, cells u.parts, inst_types ty u.types)) u.entry.result
 
 abbrev pub term_of : SymbolUse → Option Tree
 term_of u = option_map (λ p. Three (HFun u.symbol) p.0 p.1 p.2) (use_trees u)
@@ -68,10 +69,15 @@ abbrev pub pattern_words : List LineWord
 pattern_words = codes "any" ∷ codes "as" ∷ codes "con" ∷ codes "var" ∷ []
 
 abbrev pub expression_names : List NodeWord
-expression_names = word.And ∷ word.AndThen ∷ word.Bound ∷ word.Eq ∷ word.Exists ∷ word.False ∷ word.Forall ∷ word.If ∷ word.Iff ∷ word.Imp ∷ word.Let ∷ word.Match ∷ word.Not ∷ word.Num ∷ word.Or ∷ word.OrElse ∷ word.Param ∷ word.Sym ∷ word.True ∷ []
+expression_names = word.And ∷ word.AndThen ∷ word.Bound ∷ word.Eq ∷ word.Exists ∷ word.False
+    ∷ word.Forall ∷ word.If ∷ word.Iff ∷ word.Imp ∷ word.Let ∷ word.Match ∷ word.Not ∷ word.Num
+    ∷ word.Or ∷ word.OrElse ∷ word.Param ∷ word.Sym ∷ word.True ∷ []
 
 abbrev pub expression_words : List LineWord
-expression_words = codes "and" ∷ codes "andthen" ∷ codes "bound" ∷ codes "eq" ∷ codes "exists" ∷ codes "false" ∷ codes "forall" ∷ codes "if" ∷ codes "iff" ∷ codes "imp" ∷ codes "let" ∷ codes "match" ∷ codes "not" ∷ codes "num" ∷ codes "or" ∷ codes "orelse" ∷ codes "param" ∷ codes "sym" ∷ codes "true" ∷ []
+expression_words = codes "and" ∷ codes "andthen" ∷ codes "bound" ∷ codes "eq" ∷ codes "exists"
+    ∷ codes "false" ∷ codes "forall" ∷ codes "if" ∷ codes "iff" ∷ codes "imp" ∷ codes "let"
+    ∷ codes "match" ∷ codes "not" ∷ codes "num" ∷ codes "or" ∷ codes "orelse" ∷ codes "param"
+    ∷ codes "sym" ∷ codes "true" ∷ []
 
 abbrev pub pattern_word : LineWord → Option NodeWord
 pattern_word w = option_and_then (slice_get pattern_node_words) (place_in_words w pattern_words)
@@ -123,13 +129,17 @@ module _ (t : TaskTree) (names : List NameEntry) (r : Earlier) where
   abbrev pub meaning_types : NameMeaning → List LineWord → Option (List Tree)
   meaning_types n ws = option_map (λ types. n.types ++ types) (each type ws)
 
-  -- A symbol with as many types as it has type variables, of which words write those that its name lacks, and then with its parts.
-  -- Where words for types are missing, the tree isn't well typed.
-  abbrev pub use_of : (LineWord → Option Tree) → NameMeaning → List LineWord → ℕ → SymbolTree → Option SymbolUse
-  use_of part n ws k e = option_and_then (λ types. option_map (use_by k e types) (each part (drop (e.vars - length n.types) ws))) (meaning_types n (take (e.vars - length n.types) ws))
+  -- A symbol with as many types as it has type variables, of which words write those that its name
+  -- lacks, and then with its parts. Where words for types are missing, the tree isn't well typed.
+  abbrev pub use_of : (LineWord → Option Tree) → NameMeaning → List LineWord → ℕ → SymbolTree
+      → Option SymbolUse
+  use_of part n ws k e = option_and_then
+      (λ types. option_map (use_by k e types) (each part (drop (e.vars - length n.types) ws)))
+      (meaning_types n (take (e.vars - length n.types) ws))
 
   abbrev pub named_use : (LineWord → Option Tree) → List LineWord → NameMeaning → Option SymbolUse
-  named_use part ws n = option_and_then (λ k. option_and_then (use_of part n ws k) (slice_get t.symbols k)) (symbol_number n.symbol)
+  named_use part ws n = option_and_then
+      (λ k. option_and_then (use_of part n ws k) (slice_get t.symbols k)) (symbol_number n.symbol)
 
   abbrev pub used_on : (LineWord → Option Tree) → List LineWord → Option SymbolUse
   used_on part [] = None
@@ -138,7 +148,8 @@ module _ (t : TaskTree) (names : List NameEntry) (r : Earlier) where
   -- the type of a line `y`
   abbrev pub type_of_line : List LineWord → Option Tree
   type_of_line [] = None
-  type_of_line (w ∷ ws) = option_and_then (λ n. option_and_then (named_type_at n.symbol) (meaning_types n ws)) (meaning names w)
+  type_of_line (w ∷ ws) = option_and_then
+      (λ n. option_and_then (named_type_at n.symbol) (meaning_types n ws)) (meaning names w)
 
   -- the pattern of a line `p`, by its word
   abbrev pub pattern_by : NodeWord → List LineWord → Option Tree
@@ -152,7 +163,8 @@ module _ (t : TaskTree) (names : List NameEntry) (r : Earlier) where
 
   abbrev pub match_by_words : List LineWord → Option Tree
   match_by_words [] = None
-  match_by_words (w ∷ ws) = option_and_then (λ e. option_map (match_tree e) (pairs pattern_at expression_at ws)) (expression_at w)
+  match_by_words (w ∷ ws) = option_and_then
+      (λ e. option_map (match_tree e) (pairs pattern_at expression_at ws)) (expression_at w)
 
   -- the term or formula of a word other than `sym` and `match`
   abbrev pub plain_by : NodeWord → List LineWord → Option Tree

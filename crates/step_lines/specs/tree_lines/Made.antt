@@ -18,7 +18,8 @@ use Rattle.step_lines.specs.declared.tree_lines.uses.Applied.{Applied}
 use Rattle.step_lines.specs.tree_lines.Named.{NameMeaning, entry_named}
 use Rattle.step_lines.specs.tree_lines.Lines.{Earlier, SymbolUse}
 
--- The number of the tree that words make. None is answered only where they make no tree, or one whose parts don't fit.
+-- The number of the tree that words make. None is answered only where they make no tree, or one
+-- whose parts don't fit.
 abbrev pub IsTreeMade : List Tree → Option Tree → Option TermId → Type 0
 IsTreeMade s made (Some id) = (made ≡ Some (tree_at s id)) × Holds s id
 IsTreeMade s made None = (e : Tree) → made ≡ Some e → WellSorted e → ⊥
@@ -29,14 +30,21 @@ IsTypeHeld s id = Holds s id × (sort_of (tree_at s id) ≡ Kind)
 
 -- the places of the entries by their names
 abbrev pub IsNamesOf : TableNames → List NameEntry → Type 0
-IsNamesOf n table = (name : List ℕ) → option_and_then (slice_get table) (get_by (λ k. bytes_eq name k.items) n.places) ≡ entry_named table name
+IsNamesOf n table = (name : List ℕ)
+    → option_and_then (slice_get table) (get_by (λ k. bytes_eq name k.items) n.places)
+    ≡ entry_named table name
 
 -- what a name stands for
 abbrev pub named_meaning : List Tree → Named → NameMeaning
 named_meaning s n = record { symbol = n.symbol; types = trees_at s n.types.items }
 
 abbrev pub earlier_at : List Tree → EarlierLines → Earlier
-earlier_at s x = record { types = trees_at s x.types.now; patterns = trees_at s x.patterns.now; expressions = trees_at s x.expressions.now }
+earlier_at s x = record {
+  types = trees_at s x.types.now;
+  patterns =
+      trees_at s x.patterns.now;
+  expressions = trees_at s x.expressions.now;
+}
 
 -- what is known before a line is held
 pub record KnownHeld (s : List Tree) (x : EarlierLines) : Type 0 where
@@ -47,7 +55,13 @@ pub record KnownHeld (s : List Tree) (x : EarlierLines) : Type 0 where
   pub expressions : All (Holds s) x.expressions.now
 
 abbrev pub use_at : List Tree → Applied → SymbolUse
-use_at s u = record { symbol = u.symbol; entry = symbol_at s u.info.now; types = trees_at s u.types.items; parts = trees_at s u.parts.items }
+use_at s u = record {
+  symbol = u.symbol;
+  entry = symbol_at s u.info.now;
+  types =
+      trees_at s u.types.items;
+  parts = trees_at s u.parts.items;
+}
 
 pub record UseHeld (s : List Tree) (u : Applied) : Type 0 where
   pub result : IfSome u.info.now.result (Holds s)
@@ -55,8 +69,10 @@ pub record UseHeld (s : List Tree) (u : Applied) : Type 0 where
   pub parts : All (Holds s) u.parts.items
 
 -- the numbers of the trees of a use
-abbrev pub AreTrees : List Tree → Option (Tree × Tree × Tree) → Option (TermId × TermId × TermId) → Type 0
-AreTrees s made (Some p) = (made ≡ Some (tree_at s p.0, tree_at s p.1, tree_at s p.2)) × Holds s p.0 × Holds s p.1 × Holds s p.2
+abbrev pub AreTrees : List Tree → Option (Tree × Tree × Tree)
+    → Option (TermId × TermId × TermId) → Type 0
+AreTrees s made (Some p) = (made ≡ Some (tree_at s p.0, tree_at s p.1, tree_at s p.2)) × Holds s p.0
+    × Holds s p.1 × Holds s p.2
 AreTrees s made None = (q : Tree × Tree × Tree) → made ≡ Some q → WellSorted q.1 → ⊥
 
 -- the trees of pairs of numbers

@@ -19,7 +19,9 @@ named_type_at (Symbol k) types = Some (One (HTyApp k) (cells types))
 -- the type that the entry at a place stands for, by so many entries one under another at most
 abbrev pub entry_type : ℕ → List NameEntry → ℕ → Option Tree
 entry_type zero names place = None
-entry_type (suc n) names place = option_and_then (λ e. option_and_then (named_type_at e.symbol) (each (λ k. entry_type n names k) e.types)) (slice_get names place)
+entry_type (suc n) names place =
+    option_and_then (λ e. option_and_then (named_type_at e.symbol)
+    (each (λ k. entry_type n names k) e.types)) (slice_get names place)
 
 -- the types that the entries at places stand for: one under another no more than all entries
 abbrev pub entry_types : List NameEntry → List ℕ → Option (List Tree)

@@ -22,22 +22,27 @@ each f [] = Some []
 each f (x ∷ xs) = option_and_then (λ y. option_map (λ ys. y ∷ ys) (each f xs)) (f x)
 
 -- what words two by two are
-abbrev pub pairs : {A B : Type 0} → (LineWord → Option A) → (LineWord → Option B) → List LineWord → Option (List (A × B))
+abbrev pub pairs : {A B : Type 0} → (LineWord → Option A) → (LineWord → Option B) → List LineWord
+    → Option (List (A × B))
 pairs p q [] = Some []
 pairs p q (w ∷ []) = None
-pairs p q (w ∷ v ∷ ws) = option_and_then (λ x. option_and_then (λ y. option_map (λ ps. (x, y) ∷ ps) (pairs p q ws)) (q v)) (p w)
+pairs p q (w ∷ v ∷ ws) = option_and_then
+    (λ x. option_and_then (λ y. option_map (λ ps. (x, y) ∷ ps) (pairs p q ws)) (q v)) (p w)
 
 -- what the only word makes, or the only two or three
 abbrev pub one : {A C : Type 0} → (LineWord → Option A) → (A → C) → List LineWord → Option C
 one p f (w ∷ []) = option_map f (p w)
 one p f _ = None
 
-abbrev pub two : {A B C : Type 0} → (LineWord → Option A) → (LineWord → Option B) → (A → B → C) → List LineWord → Option C
+abbrev pub two : {A B C : Type 0} → (LineWord → Option A) → (LineWord → Option B) → (A → B → C)
+    → List LineWord → Option C
 two p q f (w ∷ v ∷ []) = option_and_then (λ x. option_map (f x) (q v)) (p w)
 two p q f _ = None
 
-abbrev pub three : {A B C D : Type 0} → (LineWord → Option A) → (LineWord → Option B) → (LineWord → Option C) → (A → B → C → D) → List LineWord → Option D
-three p q r f (w ∷ v ∷ u ∷ []) = option_and_then (λ x. option_and_then (λ y. option_map (f x y) (r u)) (q v)) (p w)
+abbrev pub three : {A B C D : Type 0} → (LineWord → Option A) → (LineWord → Option B)
+    → (LineWord → Option C) → (A → B → C → D) → List LineWord → Option D
+three p q r f (w ∷ v ∷ u ∷ []) =
+    option_and_then (λ x. option_and_then (λ y. option_map (f x y) (r u)) (q v)) (p w)
 three p q r f _ = None
 
 -- what no word makes

@@ -11,14 +11,17 @@ branch_list (Two HCell (Two HArm p b) rest) = (p, b) ∷ branch_list rest
 branch_list _ = []
 
 -- the words of a list's branches come at the end
-pub record PushesBranches (s : List Tree) (lines : List (Option ℕ)) (list : Tree) (old new : List LineWord) : Type 0 where
+pub record PushesBranches (s : List Tree) (lines : List (Option ℕ)) (list : Tree)
+    (old new : List LineWord) : Type 0 where
   pub more : List LineWord
   pub is : new ≡ old ++ more
-  pub refer : (r : Earlier) → AreLines s lines r → pairs (at_number r.patterns) (at_number r.expressions) more ≡ Some (branch_list list)
+  pub refer : (r : Earlier) → AreLines s lines r
+      → pairs (at_number r.patterns) (at_number r.expressions) more ≡ Some (branch_list list)
 
 -- the patterns and bodies of a list's branches have lines
 abbrev pub BranchLines : List Tree → List (Option ℕ) → Tree → Type 0
-BranchLines s lines (Two HCell (Two HArm p b) rest) = HasLine s lines p × HasLine s lines b × BranchLines s lines rest
+BranchLines s lines (Two HCell (Two HArm p b) rest) =
+    HasLine s lines p × HasLine s lines b × BranchLines s lines rest
 BranchLines s lines _ = Unit {0}
 
 abbrev pub two_arm : Head → Type 0

@@ -1,4 +1,5 @@
--- A symbol written by its name, with the numbers of the types at which the name isn't; and which types can be written.
+-- A symbol written by its name, with the numbers of the types at which the name isn't; and which
+-- types can be written.
 use Rattle.std.specs.Prelude.{◌≡◌, ℕ, zero, suc, Bool, true, false, List, [], ◌∷◌, ◌++◌, All, Option, Some}
 use Rattle.tasks.specs.trees.declared.Sort.TheVariants.{Kind}
 use Rattle.tasks.specs.trees.Tree.{Tree, Leaf, One, Head, HTyRigid, HTyApp}
@@ -17,7 +18,8 @@ types_after true types = types
 types_after false types = []
 
 -- a symbol's name comes at the end, with the words that refer to the types at which the name isn't
-pub record PushesSymbol (s : List Tree) (table : List NameEntry) (lines : List (Option ℕ)) (symbol : NameOf) (types : List Tree) (old new : List LineWord) : Type 0 where
+pub record PushesSymbol (s : List Tree) (table : List NameEntry) (lines : List (Option ℕ))
+    (symbol : NameOf) (types : List Tree) (old new : List LineWord) : Type 0 where
   pub name : LineWord
   pub whole : Bool
   pub more : List LineWord

@@ -12,7 +12,8 @@ abbrev pub IsSubtree : Tree → Tree → Type 0
 IsSubtree e (Leaf h) = e ≡ Leaf h
 IsSubtree e (One h a) = (e ≡ One h a) ⊎ IsSubtree e a
 IsSubtree e (Two h a b) = (e ≡ Two h a b) ⊎ (IsSubtree e a ⊎ IsSubtree e b)
-IsSubtree e (Three h a b c) = (e ≡ Three h a b c) ⊎ (IsSubtree e a ⊎ (IsSubtree e b ⊎ IsSubtree e c))
+IsSubtree e (Three h a b c) =
+    (e ≡ Three h a b c) ⊎ (IsSubtree e a ⊎ (IsSubtree e b ⊎ IsSubtree e c))
 
 -- it is in one of these
 pub record StandsIn (roots : List Tree) (e : Tree) : Type 0 where
@@ -64,7 +65,8 @@ abbrev pub ChildrenMarked : List Tree → List Bool → ℕ → Tree → Type 0
 ChildrenMarked s marks k (Leaf h) = Unit {0}
 ChildrenMarked s marks k (One h a) = HasMark s marks k a
 ChildrenMarked s marks k (Two h a b) = HasMark s marks k a × HasMark s marks k b
-ChildrenMarked s marks k (Three h a b c) = HasMark s marks k a × HasMark s marks k b × HasMark s marks k c
+ChildrenMarked s marks k (Three h a b c) =
+    HasMark s marks k a × HasMark s marks k b × HasMark s marks k c
 
 -- these trees are marked, and of those that are marked each is held and is in one of these
 pub record RootsMarked (s : List Tree) (roots : List TermId) (marks : List Bool) : Type 0 where

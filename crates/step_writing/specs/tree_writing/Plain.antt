@@ -21,10 +21,12 @@ op_word Iff = codes "iff"
 
 -- a word refers to a tree wherever the trees of lines are those
 abbrev pub WordRefers : List Tree → List (Option ℕ) → LineWord → Tree → Type 0
-WordRefers s lines w e = (r : Earlier) → AreLines s lines r → at_number (trees_of_sort (sort_of e) r) w ≡ Some e
+WordRefers s lines w e =
+    (r : Earlier) → AreLines s lines r → at_number (trees_of_sort (sort_of e) r) w ≡ Some e
 
 -- a word, and two that refer to these trees
-pub record AreTwoWords (s : List Tree) (lines : List (Option ℕ)) (word : LineWord) (a b : Tree) (ws : List LineWord) : Type 0 where
+pub record AreTwoWords (s : List Tree) (lines : List (Option ℕ)) (word : LineWord) (a b : Tree)
+    (ws : List LineWord) : Type 0 where
   pub first : LineWord
   pub second : LineWord
   pub is : ws ≡ word ∷ first ∷ second ∷ []
@@ -32,13 +34,15 @@ pub record AreTwoWords (s : List Tree) (lines : List (Option ℕ)) (word : LineW
   pub b_there : WordRefers s lines second b
 
 -- a word, and one that refers to this tree
-pub record IsOneWord (s : List Tree) (lines : List (Option ℕ)) (word : LineWord) (a : Tree) (ws : List LineWord) : Type 0 where
+pub record IsOneWord (s : List Tree) (lines : List (Option ℕ)) (word : LineWord) (a : Tree)
+    (ws : List LineWord) : Type 0 where
   pub first : LineWord
   pub is : ws ≡ word ∷ first ∷ []
   pub a_there : WordRefers s lines first a
 
 -- a word, one that writes this number, and one that refers to this tree
-pub record AreVariableWords (s : List Tree) (lines : List (Option ℕ)) (word : LineWord) (n : ℕ) (a : Tree) (ws : List LineWord) : Type 0 where
+pub record AreVariableWords (s : List Tree) (lines : List (Option ℕ)) (word : LineWord) (n : ℕ)
+    (a : Tree) (ws : List LineWord) : Type 0 where
   pub first : LineWord
   pub second : LineWord
   pub is : ws ≡ word ∷ first ∷ second ∷ []
@@ -46,7 +50,8 @@ pub record AreVariableWords (s : List Tree) (lines : List (Option ℕ)) (word : 
   pub a_there : WordRefers s lines second a
 
 -- a word, and three that refer to these trees
-pub record AreThreeWords (s : List Tree) (lines : List (Option ℕ)) (word : LineWord) (a b c : Tree) (ws : List LineWord) : Type 0 where
+pub record AreThreeWords (s : List Tree) (lines : List (Option ℕ)) (word : LineWord) (a b c : Tree)
+    (ws : List LineWord) : Type 0 where
   pub first : LineWord
   pub second : LineWord
   pub third : LineWord
@@ -101,4 +106,5 @@ PartLines s lines (Three h a b c) = HasLine s lines a × HasLine s lines b × Ha
 
 -- words are read back as a term or a formula wherever the trees of lines are those
 abbrev pub ReadsBack : List Tree → List NameEntry → List (Option ℕ) → Tree → List LineWord → Type 0
-ReadsBack s table lines e ws = (t : TaskTree) (r : Earlier) → AreLines s lines r → expression_of_line t table r ws ≡ Some e
+ReadsBack s table lines e ws =
+    (t : TaskTree) (r : Earlier) → AreLines s lines r → expression_of_line t table r ws ≡ Some e

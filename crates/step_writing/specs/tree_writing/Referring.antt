@@ -31,7 +31,8 @@ line_at lines id = option_and_then (λ o. o) (slice_get lines id.0)
 
 -- each tree with a line is at the number of that line
 abbrev pub AreLines : List Tree → List (Option ℕ) → Earlier → Type 0
-AreLines s lines r = (id : TermId) (n : ℕ) → line_at lines id ≡ Some n → slice_get (trees_of_sort (sort_of (tree_at s id)) r) n ≡ Some (tree_at s id)
+AreLines s lines r = (id : TermId) (n : ℕ) → line_at lines id ≡ Some n
+    → slice_get (trees_of_sort (sort_of (tree_at s id)) r) n ≡ Some (tree_at s id)
 
 -- a tree has a line
 pub record HasLine (s : List Tree) (lines : List (Option ℕ)) (e : Tree) : Type 0 where
@@ -43,7 +44,9 @@ pub record HasLine (s : List Tree) (lines : List (Option ℕ)) (e : Tree) : Type
 
 -- a number refers to a tree, and numbers to trees, wherever the trees of lines are those
 abbrev pub Refers : List Tree → List (Option ℕ) → Sort → ℕ → Tree → Type 0
-Refers s lines sort n e = (r : Earlier) → AreLines s lines r → slice_get (trees_of_sort sort r) n ≡ Some e
+Refers s lines sort n e =
+    (r : Earlier) → AreLines s lines r → slice_get (trees_of_sort sort r) n ≡ Some e
 
 abbrev pub ReferAll : List Tree → List (Option ℕ) → Sort → List ℕ → List Tree → Type 0
-ReferAll s lines sort ns es = (r : Earlier) → AreLines s lines r → each (slice_get (trees_of_sort sort r)) ns ≡ Some es
+ReferAll s lines sort ns es =
+    (r : Earlier) → AreLines s lines r → each (slice_get (trees_of_sort sort r)) ns ≡ Some es

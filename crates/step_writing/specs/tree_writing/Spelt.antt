@@ -17,7 +17,8 @@ types_under false types = types
 
 -- a name stands for a symbol, whole or at these types
 abbrev pub Spells : List NameEntry → NameOf → List Tree → List ℕ → Bool → Type 0
-Spells table symbol types name whole = meaning table name ≡ Some (meaning_by symbol (types_under whole types))
+Spells table symbol types name whole =
+    meaning table name ≡ Some (meaning_by symbol (types_under whole types))
 
 -- a table has a name for a symbol at types: whole, or at these
 pub record IsSpelt (table : List NameEntry) (symbol : NameOf) (types : List Tree) : Type 0 where
@@ -59,7 +60,8 @@ module _ {S : Type 0} (s : List Tree) (table : List NameEntry) (places : HashMap
   -- so many entries are noted
   pub record AreNoted (n : ℕ) : Type 0 where
     pub sound : (q : Key) (place : ℕ) → get same_key places q ≡ Some place → IsPlaceNoted q place
-    pub reached : (i : ℕ) (e : NameEntry) (m : NameMeaning) → i < n → slice_get table i ≡ Some e → meaning table e.name ≡ Some m → IsReached m
+    pub reached : (i : ℕ) (e : NameEntry) (m : NameMeaning) → i < n → slice_get table i ≡ Some e
+        → meaning table e.name ≡ Some m → IsReached m
 
 -- the names of a table, by symbols and lists of types
 pub record AreNamesOf (s : List Tree) (table : List NameEntry) (n : SymbolNames) : Type 0 where

@@ -18,7 +18,8 @@ use Rattle.step_writing.specs.tree_writing.Branches.{BranchLines}
 use Rattle.step_writing.specs.tree_writing.Plain.{leaf_plain, one_plain, two_plain, three_plain}
 
 -- the words of a list's members come at the end
-pub record PushesParts (s : List Tree) (lines : List (Option ℕ)) (list : Tree) (old new : List LineWord) : Type 0 where
+pub record PushesParts (s : List Tree) (lines : List (Option ℕ)) (list : Tree)
+    (old new : List LineWord) : Type 0 where
   pub more : List LineWord
   pub ns : List ℕ
   pub is : new ≡ old ++ more
@@ -26,7 +27,8 @@ pub record PushesParts (s : List Tree) (lines : List (Option ℕ)) (list : Tree)
   pub refer : (sort : Sort) → IsList sort list → ReferAll s lines sort ns (members list)
 
 -- a word, a symbol's name, the types at which it isn't, and the parts
-pub record AreUseWords (s : List Tree) (table : List NameEntry) (lines : List (Option ℕ)) (word : LineWord) (k : ℕ) (types parts : Tree) (ws : List LineWord) : Type 0 where
+pub record AreUseWords (s : List Tree) (table : List NameEntry) (lines : List (Option ℕ))
+    (word : LineWord) (k : ℕ) (types parts : Tree) (ws : List LineWord) : Type 0 where
   pub name : LineWord
   pub whole : Bool
   pub more : List LineWord
@@ -40,14 +42,18 @@ pub record AreUseWords (s : List Tree) (table : List NameEntry) (lines : List (O
   pub last_numbers : each number last ≡ Some ms
   pub last_refer : (sort : Sort) → IsList sort parts → ReferAll s lines sort ms (members parts)
 
--- the symbol at the top is one of a task, used at as many types as it has type variables, and of its result there
+-- the symbol at the top is one of a task, used at as many types as it has type variables, and of
+-- its result there
 abbrev pub two_used : TaskTree → Head → Tree → Type 0
-two_used t (HPred k) a = IsSomeAnd (slice_get t.symbols k) (λ e. (e.kind ≡ Predicate) × (length (members a) ≡ e.vars))
+two_used t (HPred k) a =
+    IsSomeAnd (slice_get t.symbols k) (λ e. (e.kind ≡ Predicate) × (length (members a) ≡ e.vars))
 two_used t _ a = Unit {0}
 
 abbrev pub three_used : TaskTree → Head → Tree → Tree → Type 0
-three_used t (HFun k) a c = IsSomeAnd (slice_get t.symbols k) (λ e. MakesTerms e.kind × (length (members a) ≡ e.vars) × HasResult e a c)
-three_used t (HPatCon k) a c = IsSomeAnd (slice_get t.symbols k) (λ e. (length (members a) ≡ e.vars) × HasResult e a c)
+three_used t (HFun k) a c = IsSomeAnd (slice_get t.symbols k)
+    (λ e. MakesTerms e.kind × (length (members a) ≡ e.vars) × HasResult e a c)
+three_used t (HPatCon k) a c =
+    IsSomeAnd (slice_get t.symbols k) (λ e. (length (members a) ≡ e.vars) × HasResult e a c)
 three_used t _ a c = Unit {0}
 
 abbrev pub IsUsed : TaskTree → Tree → Type 0
@@ -72,13 +78,16 @@ IsNamed table _ = Unit {0}
 
 -- each part has a line, and of a symbol's lists each member
 abbrev pub two_lines : List Tree → List (Option ℕ) → Head → Tree → Tree → Type 0
-two_lines s lines (HPred k) a b = All (HasLine s lines) (members a) × All (HasLine s lines) (members b)
+two_lines s lines (HPred k) a b =
+    All (HasLine s lines) (members a) × All (HasLine s lines) (members b)
 two_lines s lines HCase a b = HasLine s lines a × BranchLines s lines b
 two_lines s lines _ a b = HasLine s lines a × HasLine s lines b
 
 abbrev pub three_lines : List Tree → List (Option ℕ) → Head → Tree → Tree → Tree → Type 0
-three_lines s lines (HFun k) a b c = All (HasLine s lines) (members a) × All (HasLine s lines) (members b)
-three_lines s lines (HPatCon k) a b c = All (HasLine s lines) (members a) × All (HasLine s lines) (members b)
+three_lines s lines (HFun k) a b c =
+    All (HasLine s lines) (members a) × All (HasLine s lines) (members b)
+three_lines s lines (HPatCon k) a b c =
+    All (HasLine s lines) (members a) × All (HasLine s lines) (members b)
 three_lines s lines _ a b c = HasLine s lines a × HasLine s lines b × HasLine s lines c
 
 abbrev pub NodeLines : List Tree → List (Option ℕ) → Tree → Type 0
@@ -88,11 +97,15 @@ NodeLines s lines (Two h a b) = two_lines s lines h a b
 NodeLines s lines (Three h a b c) = three_lines s lines h a b c
 
 -- words are read back, in a task that has the symbol so, wherever the trees of lines are those
-abbrev pub PatternBack : List Tree → List NameEntry → List (Option ℕ) → Tree → List LineWord → Type 0
-PatternBack s table lines e ws = (t : TaskTree) (r : Earlier) → IsUsed t e → AreLines s lines r → pattern_of_line t table r ws ≡ Some e
+abbrev pub PatternBack : List Tree → List NameEntry → List (Option ℕ) → Tree
+    → List LineWord → Type 0
+PatternBack s table lines e ws = (t : TaskTree) (r : Earlier) → IsUsed t e → AreLines s lines r
+    → pattern_of_line t table r ws ≡ Some e
 
-abbrev pub ExpressionBack : List Tree → List NameEntry → List (Option ℕ) → Tree → List LineWord → Type 0
-ExpressionBack s table lines e ws = (t : TaskTree) (r : Earlier) → IsUsed t e → AreLines s lines r → expression_of_line t table r ws ≡ Some e
+abbrev pub ExpressionBack : List Tree → List NameEntry → List (Option ℕ) → Tree
+    → List LineWord → Type 0
+ExpressionBack s table lines e ws = (t : TaskTree) (r : Earlier) → IsUsed t e → AreLines s lines r
+    → expression_of_line t table r ws ≡ Some e
 
 -- a pattern
 abbrev pub one_is_pattern : Head → Type 0

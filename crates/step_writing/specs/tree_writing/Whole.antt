@@ -74,15 +74,21 @@ tree_by t table r kind.Type ws = type_of_line t table r ws
 tree_by t table r kind.Pattern ws = pattern_of_line t table r ws
 tree_by t table r kind.Expression ws = expression_of_line t table r ws
 
--- words are read back as a tree, in a task that has the symbol so, wherever the trees of lines are those
-abbrev pub LineBack : List Tree → List NameEntry → List (Option ℕ) → LineKind → Tree → List LineWord → Type 0
-LineBack s table lines k e ws = (t : TaskTree) (r : Earlier) → IsUsed t e → AreLines s lines r → tree_by t table r k ws ≡ Some e
+-- words are read back as a tree, in a task that has the symbol so, wherever the trees of lines are
+-- those
+abbrev pub LineBack : List Tree → List NameEntry → List (Option ℕ) → LineKind → Tree
+    → List LineWord → Type 0
+LineBack s table lines k e ws =
+    (t : TaskTree) (r : Earlier) → IsUsed t e → AreLines s lines r → tree_by t table r k ws ≡ Some e
 
 -- a tree more
 abbrev pub with_tree : LineKind → Earlier → Tree → Earlier
-with_tree kind.Type r e = record { types = r.types ++ e ∷ []; patterns = r.patterns; expressions = r.expressions }
-with_tree kind.Pattern r e = record { types = r.types; patterns = r.patterns ++ e ∷ []; expressions = r.expressions }
-with_tree kind.Expression r e = record { types = r.types; patterns = r.patterns; expressions = r.expressions ++ e ∷ [] }
+with_tree kind.Type r e =
+    record { types = r.types ++ e ∷ []; patterns = r.patterns; expressions = r.expressions }
+with_tree kind.Pattern r e =
+    record { types = r.types; patterns = r.patterns ++ e ∷ []; expressions = r.expressions }
+with_tree kind.Expression r e =
+    record { types = r.types; patterns = r.patterns; expressions = r.expressions ++ e ∷ [] }
 
 abbrev pub nothing_before : Earlier
 nothing_before = record { types = []; patterns = []; expressions = [] }
@@ -96,9 +102,12 @@ abbrev pub line_bytes : TreeLine → List ℕ
 line_bytes l = letter l.kind ++ spaced l.words
 
 -- lines make trees that are in these, one after another
-abbrev pub ReadTrees : TaskTree → List NameEntry → List Tree → Earlier → List TreeLine → Earlier → Type 0
+abbrev pub ReadTrees : TaskTree → List NameEntry → List Tree → Earlier → List TreeLine
+    → Earlier → Type 0
 ReadTrees t table roots r [] end = r ≡ end
-ReadTrees t table roots r (l ∷ ls) end = (e : Tree) × (tree_by t table r l.kind l.words ≡ Some e) × StandsIn roots e × ReadTrees t table roots (with_tree l.kind r e) ls end
+ReadTrees t table roots r (l ∷ ls) end =
+    (e : Tree) × (tree_by t table r l.kind l.words ≡ Some e) × StandsIn roots e
+    × ReadTrees t table roots (with_tree l.kind r e) ls end
 
 -- the trees of a kind
 abbrev pub of_kind : LineKind → Earlier → List Tree
@@ -110,19 +119,22 @@ of_kind kind.Expression r = r.expressions
 abbrev pub Differ : List Tree → Type 0
 Differ es = (i j : ℕ) (e : Tree) → slice_get es i ≡ Some e → slice_get es j ≡ Some e → i ≡ j
 
--- A text of lines, which are read back as trees that are in these, in a task that has the symbols of these so; each tree that
--- has a line is at its number; and no two lines make the same tree.
-pub record IsWritten (s : List Tree) (table : List NameEntry) (roots : List Tree) (text : List ℕ) (numbers : List (Option ℕ)) : Type 0 where
+-- A text of lines, which are read back as trees that are in these, in a task that has the symbols
+-- of these so; each tree that has a line is at its number; and no two lines make the same tree.
+pub record IsWritten (s : List Tree) (table : List NameEntry) (roots : List Tree) (text : List ℕ)
+    (numbers : List (Option ℕ)) : Type 0 where
   pub lines : List TreeLine
   pub earlier : Earlier
   pub is : text ≡ whole_text (map line_bytes lines)
   pub numbered : AreLines s numbers earlier
   pub once : (k : LineKind) → Differ (of_kind k earlier)
-  pub back : (t : TaskTree) → ((e : Tree) → StandsIn roots e → IsUsed t e) → ReadTrees t table roots nothing_before lines earlier
+  pub back : (t : TaskTree) → ((e : Tree) → StandsIn roots e → IsUsed t e)
+      → ReadTrees t table roots nothing_before lines earlier
 
 -- each of these that is no list and no branch has a line
 abbrev pub HaveLines : List Tree → List (Option ℕ) → List Tree → Type 0
-HaveLines s numbers roots = All (λ (e : Tree). (k : LineKind) → IsOfKind k e → HasLine s numbers e) roots
+HaveLines s numbers roots =
+    All (λ (e : Tree). (k : LineKind) → IsOfKind k e → HasLine s numbers e) roots
 
 -- some tree that is in these has no name at its top
 abbrev pub LacksName : List NameEntry → List Tree → Type 0
@@ -163,11 +175,15 @@ next_tree x w = get_or x.store.now (length w.numbers.items) (Leaf HEnd)
 
 -- each of these has a number below this one
 abbrev pub HaveLesser : List Tree → ℕ → List Tree → Type 0
-HaveLesser s n es = (i : ℕ) (e : Tree) → slice_get es i ≡ Some e → (j : ℕ) × (j < n) × (get_or s j (Leaf HEnd) ≡ e)
+HaveLesser s n es =
+    (i : ℕ) (e : Tree) → slice_get es i ≡ Some e → (j : ℕ) × (j < n) × (get_or s j (Leaf HEnd) ≡ e)
 
 -- the first trees of a store have been written, as far as they are marked
 pub record IsWritingOf (x : Trees) (w : Writing) : Type 0 where
-  pub written : IsWritten x.store.now x.table.now (trees_at x.store.now x.roots.now) w.text.items w.numbers.items
+  pub written : IsWritten x.store.now x.table.now (trees_at x.store.now x.roots.now) w.text.items
+      w.numbers.items
   pub counted : AreCounted written.earlier w
-  pub lesser : (k : LineKind) → HaveLesser x.store.now (length w.numbers.items) (of_kind k written.earlier)
-  pub there : (i : ℕ) (k : LineKind) → i < length w.numbers.items → IsNextLine x i k → (n : ℕ) × (slice_get w.numbers.items i ≡ Some (Some n))
+  pub lesser : (k : LineKind)
+      → HaveLesser x.store.now (length w.numbers.items) (of_kind k written.earlier)
+  pub there : (i : ℕ) (k : LineKind) → i < length w.numbers.items → IsNextLine x i k
+      → (n : ℕ) × (slice_get w.numbers.items i ≡ Some (Some n))

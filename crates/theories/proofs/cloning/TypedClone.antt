@@ -170,7 +170,7 @@ state_over c s ys g signature built h =
       moves = moves_more v w p c.trees s g c.opened.moves h.moves;
     }
 
-stored : (c : StateTree) (s : List Tree) → Grows c.trees s → IsTypedState c → IsTypedState (record c { trees = s })
+pub stored : (c : StateTree) (s : List Tree) → Grows c.trees s → IsTypedState c → IsTypedState (record c { trees = s })
 stored c s g h =
     let v = of_signature c.symbols in
     let p = same_part v in

@@ -1,9 +1,8 @@
 -- All that is known stays typed as a declaration becomes known.
-use Rattle.std.proofs.Common.{ℕ, List, [], ◌∷◌, ◌++◌, get_or, Option, Some, None, IfSome, option_map}
+use Rattle.std.proofs.Common.{ℕ, List, [], ◌∷◌, Option, Some, None, IfSome, option_map}
 use Rattle.std.proofs.lemmas.List.Elements.{All-nil, All-cons, All-append}
 use Rattle.tasks.specs.trees.Tree.{Tree}
-use Rattle.tasks.specs.trees.Node.{Grows}
-use Rattle.tasks.specs.Task.{SymbolTree, DeclarationTree}
+use Rattle.tasks.specs.Task.{DeclarationTree}
 use Rattle.tasks.specs.Vocabulary.{Vocabulary, of_signature}
 use Rattle.elab_groups.specs.scopes.Names.{ScopeNames, find_name, number_of}
 use Rattle.elab_groups.specs.scopes.declared.Table.{Table}
@@ -18,19 +17,17 @@ use Rattle.theory_states.specs.declared.moves.Move.TheVariants.{Brings}
 use Rattle.elab_groups.specs.name_resolution.Abstract.{Expression}
 use Rattle.elab_groups.specs.parts.Declarations.{Declaration, declaration, Made, makes, binds_names, made_names}
 use Rattle.elab_declarations.specs.Outcomes.{proposition_seen}
-use Rattle.elaboration_laws.specs.Scopes.{IsSubvocabulary, IsTypedThing, AreTypedScopes}
-use Rattle.elaboration_laws.proofs.Extended.{further, scopes_part}
+use Rattle.elaboration_laws.specs.Scopes.{IsTypedThing, AreTypedScopes}
 use Rattle.elaboration_laws.proofs.Scopes.{found_thing}
 use Rattle.elaboration_laws.specs.Valid.{IsTypedSetting}
 use Rattle.elaboration_laws.specs.theory_states.goal_tasks.Theories.{GoalTree}
 use Rattle.elaboration_laws.specs.Moves.{IsTypedMove, AreTypedMoves}
-use Rattle.elaboration_laws.proofs.MovedScopes.{moves_more}
 use Rattle.theories.specs.declaring.Made.{thing_named, brought_as, moves_made, moves_of, moves_declared}
 use Rattle.theory_states.specs.declared.states.AxiomAt.{AxiomAt}
 use Rattle.theory_states.specs.States.{StateTree, with_declaration, with_declarations}
 use Rattle.elaboration_laws.specs.TypedStates.{state_setting, IsTypedState}
 use Rattle.theories.specs.declaring.Declared.{with_declared_goal, with_proposition, with_proposed, known_by}
-use Rattle.elaboration_laws.proofs.Used.{is_part_itself as same_part}
+pub use Rattle.theories.proofs.cloning.TypedClone.{stored as trees_typed}
 
 -- ---- moves of names of a typed scope
 module _ (v : Vocabulary) (s : List Tree) (names : ScopeNames) (h : AreTypedScopes v s names) where
@@ -65,23 +62,6 @@ module _ (v : Vocabulary) (s : List Tree) (names : ScopeNames) (h : AreTypedScop
 -- ---- states
 pub setting_typed : (c : StateTree) → IsTypedState c → IsTypedSetting (of_signature c.symbols) (state_setting c)
 setting_typed c h = record { theory = h.theory; source = h.source; signature = h.theories.signature; scopes = h.scopes }
-
--- over a store that has grown
-pub trees_typed : (c : StateTree) (s : List Tree) → Grows c.trees s → IsTypedState c → IsTypedState (record c { trees = s })
-trees_typed c s g h =
-    let v = of_signature c.symbols in
-    let p = same_part v in
-    record {
-      theories = record {
-        signature = h.theories.signature;
-        built = h.theories.built;
-        known = λ k d l. moves_more v v p c.trees s g (get_or c.known k d).moves (h.theories.known k d l);
-      };
-      theory = h.theory;
-      source = h.source;
-      scopes = scopes_part v v p c.trees s g c.opened.scope h.scopes;
-      moves = moves_more v v p c.trees s g c.opened.moves h.moves;
-    }
 
 -- with other declarations, axioms and goals
 others_typed : (c : StateTree) (ds : List DeclarationTree) (visible : List ℕ) (axioms : List AxiomAt) (goals : List GoalTree) → IsTypedState c → IsTypedState (record c { decls = ds; opened = record c.opened { visible = visible; axioms = axioms; goals = goals } })

@@ -1,10 +1,10 @@
 -- Terms, types and constructors stay as the store grows, and what is made of them, one step more.
-use Rattle.std.proofs.Common.{◌≡◌, ◌≢◌, ◌+◌, ◌-◌, ◌==◌, Bool, true, false, ℕ, zero, suc, List, [], ◌∷◌, ◌++◌, length, map, All, refl, sym, ap, subst, ◌∙◌, arith, append_assoc}
+use Rattle.std.proofs.Common.{◌≡◌, ◌+◌, ◌-◌, ◌==◌, Bool, true, false, ℕ, List, [], ◌∷◌, ◌++◌, length, map, All, refl, sym, ap, subst, ◌∙◌, append_assoc}
 use Rattle.std.proofs.lemmas.List.{map-append, length-map}
 use Rattle.std.proofs.lemmas.List.Elements.{All-weaker, All-push}
 use Rattle.trees.specs.declared.TermId.{TermId}
 use Rattle.trees.specs.declared.Sort.TheVariants.{Term}
-use Rattle.trees.specs.Tree.{Tree, Leaf, Two, HTyVar, HCell, HJoin}
+use Rattle.trees.specs.Tree.{Tree, Two, HJoin}
 use Rattle.trees.specs.declared.Op.TheVariants.{Or}
 use Rattle.trees.specs.Binding.{Bound}
 use Rattle.trees.specs.Node.{tree_at, trees_at, Holds, Grows}
@@ -12,7 +12,7 @@ use Rattle.trees.specs.Sorts.{sort_of, IsList}
 use Rattle.tasks.specs.declared.declaration.Con.{Con}
 use Rattle.tasks.specs.declared.declaration.Alg.{Alg}
 use Rattle.tasks.specs.Task.{ConstructorTree}
-use Rattle.tasks.specs.Equations.{cells, type_variables, for_all}
+use Rattle.tasks.specs.Equations.{for_all}
 use Rattle.tasks.specs.Meaning.{con_at, cons_at, algebraic_at, algebraics_at}
 use Rattle.tasks.proofs.Growth.{map_agree, held_later, all_held_later, tree_later, trees_later}
 use Rattle.declarations.specs.spelled_groups.Making.{IsKindAt}
@@ -20,6 +20,7 @@ use Rattle.declarations.proofs.spelled_groups.Making.{kind_later, kinds_later, k
 use Rattle.tr_algebraic.specs.declared.algebraic_forms.terms.OwnType.{OwnType}
 use Rattle.tr_algebraic.specs.algebraic_forms.Formulas.{variable_under, projection_law, projection_laws, all_projection_laws, distinctness_law, distinctness_laws, case_equation, disjunction}
 use Rattle.tr_algebraic.specs.algebraic_forms.Making.{IsTermAt, AreTermsAt, IsOwnType, ConIsFit, AlgIsFit}
+pub use Rattle.declarations.proofs.spelled_groups.Making.{own_step}
 
 -- a type in its own words
 pub own_itself : (s : List Tree) (symbol vars : ℕ) (own : OwnType) → IsOwnType s symbol vars own → IsOwnType s own.symbol own.vars own
@@ -108,10 +109,6 @@ module _ (s s1 : List Tree) (g : Grows s s1) (type vars : ℕ) where
   distinctness_more first rest a old some new p q =
       then_others old some new (map (distinctness_law type vars (con_at s first)) (cons_at s rest)) (distinctness_laws type vars (cons_at s rest)) p
       (q ∙ ap (λ (z : List ConstructorTree). some ++ distinctness_laws type vars z) (cons_same s s1 g rest a))
-
-pub own_step : (from many : ℕ) → many ≢ 0 → cells (type_variables from many) ≡ Two HCell (Leaf (HTyVar from)) (cells (type_variables (from + 1) (many - 1)))
-own_step from zero n = absurd (n refl)
-own_step from (suc m) n = let e : m ≡ suc m - 1 = omega arith in ap (λ (k : ℕ). Two HCell (Leaf (HTyVar from)) (cells (type_variables (from + 1) k))) e
 
 pub for_all_append : (as_ bs : List Tree) (e : Tree) → for_all (as_ ++ bs) e ≡ for_all as_ (for_all bs e)
 for_all_append [] bs e = refl

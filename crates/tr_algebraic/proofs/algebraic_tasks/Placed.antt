@@ -16,10 +16,7 @@ use Rattle.tr_algebraic.specs.declared.algebraic_tasks.origins.PropositionOrigin
 use Rattle.tr_algebraic.specs.declared.algebraic_tasks.origins.PropositionOrigin.TheVariants.{Proposition, Law}
 use Rattle.tr_algebraic.specs.algebraic_tasks.Plain.{task_with_laws}
 use Rattle.tr_algebraic.specs.algebraic_tasks.Origins.{PlacedTree, law_says, placed_law, placed_by, placed_from, origins, says_after, IsLawThere, ComesFrom}
-
-props_append : (xs ys : List DeclarationTree) → props_of (xs ++ ys) ≡ props_of xs ++ props_of ys
-props_append [] ys = refl
-props_append (d ∷ xs) ys = ap (λ (z : List PropositionTree). said_by d d.body ++ z) (props_append xs ys) ∙ sym (append_assoc (said_by d d.body) (props_of xs) (props_of ys))
+use Rattle.evidence.proofs.FactNames.{props_append}
 
 abbrev after : (Tree → Tree) → PlacedTree → PropositionTree
 after g x = says_after g x.origin x.says

@@ -9,15 +9,18 @@ use Rattle.declarations.specs.Within.{NamesAll, MatchesNone}
 use Rattle.tr_algebraic.specs.algebraic_forms.Groups.{algebraic_rule}
 use Rattle.tr_algebraic.specs.algebraic_forms.NoMatch.{HasNoMatch, IsMatchFree}
 
--- what is put in the place of a declaration makes the same symbols in the same order, those of algebraic types as nothing more than
--- symbols
+-- what is put in the place of a declaration makes the same symbols in the same order, those of
+-- algebraic types as nothing more than symbols
 abbrev pub AlgebraicTypesKeepMade : Type 0
 AlgebraicTypesKeepMade = KeepsMade algebraic_rule
 
--- and it is valid where the declaration is, over any vocabulary that names as much, whatever patterns may name there
+-- and it is valid where the declaration is, over any vocabulary that names as much, whatever
+-- patterns may name there
 abbrev pub AlgebraicTypesStayValid : Type 0
-AlgebraicTypesStayValid = (v w : Vocabulary) → NamesAll v w → KeepsValid IsMatchFree algebraic_rule v w
+AlgebraicTypesStayValid =
+    (v w : Vocabulary) → NamesAll v w → KeepsValid IsMatchFree algebraic_rule v w
 
 -- an expression without a `match` has no pattern's constructor in it
 abbrev pub NoMatchMatchesNone : Type 0
-NoMatchMatchesNone = (e : Tree) → WellSorted e → IsExpression (sort_of e) ⊎ IsList Term e → HasNoMatch e → MatchesNone e
+NoMatchMatchesNone = (e : Tree) → WellSorted e → IsExpression (sort_of e) ⊎ IsList Term e
+    → HasNoMatch e → MatchesNone e

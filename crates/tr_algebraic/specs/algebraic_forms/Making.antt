@@ -1,4 +1,5 @@
--- Numbers of terms, of an algebraic type at its own type variables, and of constructors whose fields have types, in a store.
+-- Numbers of terms, of an algebraic type at its own type variables, and of constructors whose
+-- fields have types, in a store.
 use Rattle.std.specs.Prelude.{◌≡◌, ℕ, List, All}
 use Rattle.trees.specs.declared.TermId.{TermId}
 use Rattle.trees.specs.declared.Sort.TheVariants.{Kind, Term}

@@ -1,4 +1,5 @@
--- Trees that have no `match` outside their types and patterns, and declarations over which a pattern can name nothing.
+-- Trees that have no `match` outside their types and patterns, and declarations over which a
+-- pattern can name nothing.
 use Rattle.std.specs.Prelude.{◌≤◌}
 use Rattle.trees.specs.Tree.{Tree, Leaf, One, Two, Three, Head, HNot, HPred, HForall, HExists, HArm, HCase, HFun, HIf, size}
 use Rattle.tasks.specs.Task.{BodyTree, Defines, Induces, Says, DeclarationTree}

@@ -1,4 +1,5 @@
--- A law that is looked for in a list of laws, by its place: it is there, with its kind, or so many are left after them.
+-- A law that is looked for in a list of laws, by its place: it is there, with its kind, or so many
+-- are left after them.
 use Rattle.std.specs.Prelude.{◌≡◌, ℕ, ◌+◌, List, map, length, slice_get, All, Some}
 use Rattle.tr_algebraic.specs.declared.algebraic_forms.origins.LawKind.{LawKind}
 use Rattle.tr_algebraic.specs.declared.algebraic_forms.origins.LawSearch.{LawSearch}

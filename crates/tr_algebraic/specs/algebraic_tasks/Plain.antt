@@ -1,4 +1,5 @@
--- Tasks without `match`es, and the task in which symbols and laws are in the place of algebraic types.
+-- Tasks without `match`es, and the task in which symbols and laws are in the place of algebraic
+-- types.
 use Rattle.std.specs.Prelude.{List, All}
 use Rattle.tasks.specs.Task.{BodyTree, Defines, Induces, Says, DeclarationTree, TaskTree}
 use Rattle.declarations.specs.Rewritten.{rewritten_task}

@@ -1,4 +1,5 @@
--- Declarations that may not be there where algebraic types become symbols with their laws: definitions and inductive predicates.
+-- Declarations that may not be there where algebraic types become symbols with their laws:
+-- definitions and inductive predicates.
 use Rattle.std.specs.Prelude.{ℕ, ◌+◌, List, [], ◌∷◌, Option, Some, None}
 use Rattle.tasks.specs.Task.{BodyTree, Defines, Induces, DeclarationTree}
 

@@ -26,7 +26,8 @@ IsDisjunction s e (Parts first rest) = AreDisjunctionParts s e first rest
 -- a disjunction whose formulas are among those of another
 pub record IsPartOf (d : DraftTree) (whole part : TermId) : Type 0 where
   pub formula : IsFormulaAt d part
-  pub among : (c : Tree) → Contains (disjuncts (tree_at d.trees part)) c → Contains (disjuncts (tree_at d.trees whole)) c
+  pub among : (c : Tree) → Contains (disjuncts (tree_at d.trees part)) c
+      → Contains (disjuncts (tree_at d.trees whole)) c
 
 -- the negation of a formula, with each of these
 abbrev pub with_each : Tree → List Tree → List (List Tree)
@@ -35,7 +36,9 @@ with_each w cs = map (λ (c : Tree). neg w ∷ c ∷ []) cs
 -- steps after others for the formulas of such a disjunction
 abbrev pub MakeCases : DraftTree → DraftTree → TermId → TermId → List ℕ → List ℕ → Type 0
 MakeCases d d1 whole part old new =
-    (done : List (List Tree)) → RefuteAll d old done → RefuteAll d1 new (done ++ with_each (tree_at d.trees whole) (disjuncts (tree_at d.trees part)))
+    (done : List (List Tree)) → RefuteAll d old done
+    → RefuteAll d1 new (done
+    ++ with_each (tree_at d.trees whole) (disjuncts (tree_at d.trees part)))
 
 -- a step for a later formula of a disjunction
 pub record IsLaterStep (d : DraftTree) (whole case : TermId) (inner : ℕ) : Type 0 where

@@ -1,5 +1,6 @@
--- The shapes of the laws of algebraic types, at types: quantifiers over an equation of a projection of a constructor's application
--- with the argument, or over the negation of an equation of two constructors' applications; a quantifier over the cases of a term.
+-- The shapes of the laws of algebraic types, at types: quantifiers over an equation of a projection
+-- of a constructor's application with the argument, or over the negation of an equation of two
+-- constructors' applications; a quantifier over the cases of a term.
 use Rattle.std.specs.Prelude.{◌≡◌, ◌≢◌, ◌⊎◌, ℕ, zero, suc, List, [], ◌∷◌, map, slice_get, Some, IsTrue}
 use Rattle.tasks.specs.trees.declared.Op.TheVariants.{Or}
 use Rattle.tasks.specs.trees.Tree.{Tree, Leaf, One, Two, Three, HTyApp, HCell, HFun, HEq, HFalse, HNot, HJoin, HForall}
@@ -33,7 +34,8 @@ pub record IsProjected (t : TaskTree) (e : Tree) : Type 0 where
   pub args : Tree
   pub result : Tree
   pub value : Tree
-  pub is : e ≡ equal (Three (HFun projection) types (Two HCell (Three (HFun con.symbol) own args result) rest) type) value
+  pub is : e ≡ equal (Three (HFun projection) types
+      (Two HCell (Three (HFun con.symbol) own args result) rest) type) value
   pub made : role t projection ≡ ProjectionRole con place
   pub there : slice_get (members args) place ≡ Some value
 
@@ -47,7 +49,8 @@ pub record AreApart (t : TaskTree) (e : Tree) : Type 0 where
   pub own : Tree
   pub others : Tree
   pub result : Tree
-  pub is : e ≡ neg (equal (Three (HFun first) types args type) (Three (HFun second) own others result))
+  pub is : e ≡ neg (equal (Three (HFun first) types args type)
+      (Three (HFun second) own others result))
   pub first_made : IsTrue (is_constructor (role t first))
   pub second_made : IsTrue (is_constructor (role t second))
   pub different : first ≢ second
@@ -71,7 +74,8 @@ disjuncts e = e ∷ []
 
 -- what the cases of a term of an algebraic type say of it
 abbrev pub cases_at : TaskTree → Tree → List ConstructorTree → Tree → List Tree
-cases_at t types cons x = map (λ (c : ConstructorTree). equal x (rebuilt t c.symbol c.projections types x)) cons
+cases_at t types cons x =
+    map (λ (c : ConstructorTree). equal x (rebuilt t c.symbol c.projections types x)) cons
 
 -- a term of an algebraic type, and a disjunction of its cases
 pub record HasCasesOf (t : TaskTree) (x whole : Tree) : Type 0 where
@@ -95,4 +99,5 @@ pub record AreCases (t : TaskTree) (e : Tree) : Type 0 where
   pub body : Tree
   pub is : e ≡ Two HForall (One (HTyApp symbol) types) body
   pub made : role t symbol ≡ AlgebraicRole cons
-  pub cases : (n : ℕ) → disjuncts (inst body (Param n (One (HTyApp symbol) types))) ≡ cases_at t types cons (Param n (One (HTyApp symbol) types))
+  pub cases : (n : ℕ) → disjuncts (inst body (Param n (One (HTyApp symbol) types)))
+      ≡ cases_at t types cons (Param n (One (HTyApp symbol) types))

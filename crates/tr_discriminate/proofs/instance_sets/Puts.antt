@@ -1,5 +1,5 @@
 -- Declarations put after others, one list after the other.
-use Rattle.std.proofs.Common.{◌≡◌, ◌+◌, ◌*◌, ◌/◌, ◌-◌, ◌<◌, ◌≤◌, ℕ, zero, suc, Bool, true, false, if◌then◌else◌, Some, None, List, [], ◌∷◌, ◌++◌, map, length, get_or, take, All, Result, Ok, Err, IfErr, IsErrAnd, refl, sym, ap, subst, ◌∙◌, arith, append_assoc, mul-le-mul}
+use Rattle.std.proofs.Common.{◌≡◌, ◌+◌, ◌*◌, ◌/◌, ◌-◌, ◌<◌, ◌≤◌, ℕ, zero, suc, Bool, true, false, if◌then◌else◌, Some, None, List, [], ◌∷◌, ◌++◌, map, length, get_or, take, All, refl, sym, ap, subst, ◌∙◌, arith, append_assoc, mul-le-mul}
 use Rattle.std.specs.List.{flat_map}
 use Rattle.std.proofs.lemmas.List.{append-nil, map-append, length-take, take_all}
 use Rattle.std.proofs.lemmas.List.Elements.{All-cons, All-nil, All-push, All-weaker}
@@ -25,6 +25,7 @@ use Rattle.tr_discriminate.specs.wanted_instances.Wanted.{wanted_formulas}
 use Rattle.tr_discriminate.specs.wanted_instances.Discriminated.{is_monomorphic, said_at, proposition_of, put_in_place, discriminated_decls}
 use Rattle.tr_discriminate.proofs.wanted_instances.Nodes.{said_nodes}
 use Rattle.tr_discriminate.specs.instance_sets.Made.{IsTypeTree, AreTypeLists, IsSearchable, IsSearchableBody, polymorphic_formula, PutsDeclarations, IsAboveAllowed, instances_of}
+pub use Rattle.tr_discriminate.proofs.Early.{fault_there as fault_passed}
 
 two_nodes : (ds es : List DeclarationTree) → declaration_nodes (ds ++ es) ≡ declaration_nodes ds + declaration_nodes es
 two_nodes ds es = sum_by-append (λ (d : DeclarationTree). body_nodes d.body) ds es
@@ -113,10 +114,6 @@ many_ready o vars (Induces is) a q h = absurd (cc)
 many_ready o vars (Constructs ts) a q h = absurd (cc)
 
 -- ---- faults
-pub fault_passed : {T : Type 0} (r : Result T StageFault) (f : StageFault) (Q : StageFault → Type 0) → IsErrAnd r (λ (e : StageFault). e ≡ f) → Q f → IfErr r Q
-fault_passed (Ok v) f Q h q = tt
-fault_passed (Err e) f Q h q = subst Q (sym h) q
-
 pub above_weaker : (n m : ℕ) (ds es : List DeclarationTree) → (n < declaration_nodes ds → m < declaration_nodes es) → (f : StageFault) → IsAboveAllowed n ds f → IsAboveAllowed m es f
 above_weaker n m ds es w fault.Memory x = tt
 above_weaker n m ds es w (fault.Misplaced decl) x = absurd x

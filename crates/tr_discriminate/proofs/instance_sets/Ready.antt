@@ -1,5 +1,5 @@
 -- What a search for wanted instances needs of a valid declaration, and the three sets over a store.
-use Rattle.std.proofs.Common.{◌≡◌, ◌<◌, ℕ, zero, suc, Bool, true, false, cond, not, if◌then◌else◌, List, [], ◌∷◌, ◌++◌, map, filter, length, get_or, All, Some, None, refl, sym, ap, subst, ◌∙◌, arith, append_assoc}
+use Rattle.std.proofs.Common.{◌≡◌, ◌<◌, ℕ, zero, suc, Bool, true, false, cond, not, if◌then◌else◌, List, [], ◌∷◌, ◌++◌, map, filter, length, get_or, All, Some, None, refl, sym, ap, subst, ◌∙◌, arith}
 use Rattle.std.specs.List.{flat_map}
 use Rattle.std.proofs.lemmas.List.{append-nil}
 use Rattle.std.proofs.lemmas.List.Concat.{flat_map-append}
@@ -30,6 +30,7 @@ use Rattle.tr_discriminate.specs.wanted_instances.Instances.{inner_instances, in
 use Rattle.tr_discriminate.specs.wanted_instances.Wanted.{wanted_types, wanted_formulas}
 use Rattle.tr_discriminate.specs.wanted_instances.Growing.{GoesOn}
 use Rattle.tr_discriminate.specs.wanted_instances.Discriminated.{is_monomorphic, monomorphic, polymorphic, first_set, next_set, last_set, said_at, proposition_of, put_in_place, discriminated_decls}
+use Rattle.tr_discriminate.proofs.wanted_instances.Growing.{goes_on_trans as goes_twice}
 use Rattle.tr_discriminate.proofs.wanted_instances.Nodes.{first_goes_on, second_goes_on}
 use Rattle.tr_discriminate.specs.wanted_instances.lemmas.Typed.{IsGoodInstance}
 use Rattle.tr_discriminate.specs.wanted_instances.lemmas.Kept.{int_good, AreFor, wanted_for, last_good}
@@ -147,9 +148,6 @@ pub next_added : (t : TaskTree) → IsValid t → (s : List Occurrence) → IsEa
 next_added t valid s h = added s t.decls (all_ready t valid s h.goes t.decls valid.decls) s h.own
 
 -- ---- the first two sets
-goes_twice : {A : Type 0} (xs ys zs : List A) → GoesOn xs ys → GoesOn ys zs → GoesOn xs zs
-goes_twice xs ys zs g h = record { more = g.more ++ h.more; is = h.is ∙ ap (λ z. z ++ h.more) g.is ∙ append_assoc xs g.more h.more }
-
 abbrev judged : TaskTree → List Occurrence
 judged t = flat_map inner_instances (t.locals ++ t.goal ∷ [])
 

@@ -23,7 +23,7 @@ use Rattle.tr_discriminate.specs.wanted_instances.Growing.{GoesOn, wanted_nodes}
 goes_on_refl : {A : Type 0} (xs : List A) → GoesOn xs xs
 goes_on_refl xs = record { more = []; is = sym (append-nil xs) }
 
-goes_on_trans : {A : Type 0} (xs ys zs : List A) → GoesOn xs ys → GoesOn ys zs → GoesOn xs zs
+pub goes_on_trans : {A : Type 0} (xs ys zs : List A) → GoesOn xs ys → GoesOn ys zs → GoesOn xs zs
 goes_on_trans xs ys zs g h = record { more = g.more ++ h.more; is = h.is ∙ ap (λ z. z ++ h.more) g.is ∙ append_assoc xs g.more h.more }
 
 one_if : {A : Type 0} (b : Bool) (xs : List A) (x : A) → GoesOn xs (if b then xs else xs ++ x ∷ [])

@@ -193,7 +193,7 @@ all_known s a known l h = each_weaker (above_ty_vars a) _ _ (λ j. by j (has_var
     by j false e = refl
     by j true e = filtered_any (Below (length known)) (mentions j) (λ o. has s (at_types known o)) (λ o. list_any (matches known o) s) (λ o k. any_kept (matches known o) (is_same (at_types known o)) (λ i. match_is known o i k) s) (driving a) (driving_below a (length known) l) e
 
-same_tests : (a b : Bool) → (a ≡ true → b ≡ true) → (b ≡ true → a ≡ true) → a ≡ b
+pub same_tests : (a b : Bool) → (a ≡ true → b ≡ true) → (b ≡ true → a ≡ true) → a ≡ b
 same_tests true b f g = sym (f refl)
 same_tests false true f g = g refl
 same_tests false false f g = refl

@@ -22,6 +22,8 @@ use Rattle.tr_discriminate.specs.declared.wanted_search.asking.AskingInstance.{A
 use Rattle.tr_discriminate.specs.declared.wanted_search.asking.Asking.{Asking}
 use Rattle.tr_discriminate.specs.wanted_search.Asking.{is_type_variable, asking_at, IsAsking}
 use Rattle.tr_discriminate.specs.wanted_search.Search.{may_ask}
+use Rattle.tr_discriminate.proofs.wanted_instances.Searching.{same_tests as told}
+use Rattle.tasks.proofs.outside.Bools.{or_grouped as either_way}
 
 -- ---- tests over lists
 pub any_map : {A B : Type 0} (f : B → Bool) (g : A → B) (xs : List A) → list_any f (map g xs) ≡ list_any (λ x. f (g x)) xs
@@ -35,10 +37,6 @@ any_of_filter f p (x ∷ xs) = by (p x) (any_of_filter f p xs)
     by : (b : Bool) → list_any f (filter p xs) ≡ list_any (λ y. p y && f y) xs → list_any f (cond b (x ∷ filter p xs) (filter p xs)) ≡ ((b && f x) || list_any (λ y. p y && f y) xs)
     by true e = ap (λ b. f x || b) e
     by false e = e
-
-either_way : (a b c : Bool) → ((a || b) || c) ≡ (a || (b || c))
-either_way true b c = refl
-either_way false b c = refl
 
 or_none : (a : Bool) → (a || false) ≡ a
 or_none true = refl
@@ -133,11 +131,6 @@ pub any_over : {A : Type 0} (f : A → Bool) (xs : List A) (i : ℕ) → length 
 any_over f xs i l = ap (list_any f) (drop_all i xs l)
 
 -- ---- tests that tell equal trees
-told : (a b : Bool) → (a ≡ true → b ≡ true) → (b ≡ true → a ≡ true) → a ≡ b
-told true b f g = sym (f refl)
-told false true f g = g refl
-told false false f g = refl
-
 pub tree_told : (r : Bool) (x y : Tree) → IsTrue r ↔ (x ≡ y) → r ≡ same_tree x y
 tree_told r x y h =
     told r (same_tree x y) (λ t. subst (λ z. same_tree x z ≡ true) (h.0 t) (same_itself (equality_at x))) (λ e. h.1 (ap (λ (o : Occurrence). o.types) (same_occurrence (equality_at x) (equality_at y) e)))

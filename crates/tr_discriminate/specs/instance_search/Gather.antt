@@ -42,14 +42,17 @@ in_parts w (Three h a b c) = gathered w a ++ (gathered w b ++ gathered w c)
 -- all that is sought in these trees is there
 abbrev pub TreesAreIn : List Tree → Sought → List Occurrence → List ℕ → Type 0
 TreesAreIn s w os [] = Unit {0}
-TreesAreIn s w os (id ∷ ids) = AreIn os (gathered w (get_or s id (Leaf HEnd))) × TreesAreIn s w os ids
+TreesAreIn s w os (id ∷ ids) =
+    AreIn os (gathered w (get_or s id (Leaf HEnd))) × TreesAreIn s w os ids
 
 -- what a walk has gathered, and the trees that it has done
-pub record IsGathering (s : List Tree) (w : Sought) (keys : List (ℕ × ℕ)) (ids : List ℕ) : Type 0 where
+pub record IsGathering (s : List Tree) (w : Sought) (keys : List (ℕ × ℕ))
+    (ids : List ℕ) : Type 0 where
   pub held : KeysHeld s keys
   pub done : TreesAreIn s w (seen_occurrences s keys) ids
 
 -- a walk has gained these
-pub record WalkGains (s : List Tree) (w : Sought) (old : List (ℕ × ℕ)) (ps : List Occurrence) (new : List (ℕ × ℕ)) (ids : List ℕ) : Type 0 where
+pub record WalkGains (s : List Tree) (w : Sought) (old : List (ℕ × ℕ)) (ps : List Occurrence)
+    (new : List (ℕ × ℕ)) (ids : List ℕ) : Type 0 where
   pub walk : IsGathering s w new ids
   pub is : seen_occurrences s new ≡ with_all (seen_occurrences s old) ps

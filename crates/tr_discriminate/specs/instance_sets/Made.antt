@@ -29,11 +29,13 @@ IsTypeTree ty = sort_of ty ≡ Kind
 abbrev pub AreTypeLists : List Tree → List (List TermId) → Type 0
 AreTypeLists s yss = All (HoldTypes s) yss
 
--- a proposition's wanted assignments are of types for all of its type variables, so its instances have none
+-- a proposition's wanted assignments are of types for all of its type variables, so its instances
+-- have none
 pub record IsSearchable (s : List Occurrence) (vars : ℕ) (a : Tree) : Type 0 where
   pub above : above_ty_vars a ≤ vars
   pub kinds : All (All IsTypeTree) (wanted_types s (proposition_of vars a))
-  pub closed : All (λ (e : Tree). is_monomorphic e ≡ true) (wanted_formulas s (proposition_of vars a))
+  pub closed : All (λ (e : Tree). is_monomorphic e ≡ true)
+      (wanted_formulas s (proposition_of vars a))
 
 abbrev pub IsSearchableBody : List Occurrence → ℕ → BodyTree → Type 0
 IsSearchableBody s vars (Says a) = IsSearchable s vars a
@@ -51,8 +53,10 @@ monomorphic_formula _ = None
 abbrev pub instances_of : DeclarationTree → Tree → List (List Tree) → List DeclarationTree
 instances_of d a yss = map (said_at d) (map (inst_types a) yss)
 
--- These declarations were put after others. Of the nodes that were allowed so many are left, no fewer than the new ones take.
-pub record PutsDeclarations (s : List Tree) (old : List Decl) (allowed : ℕ) (ds : List DeclarationTree) (s1 : List Tree) (new : List Decl) (left : ℕ) : Type 0 where
+-- These declarations were put after others. Of the nodes that were allowed so many are left, no
+-- fewer than the new ones take.
+pub record PutsDeclarations (s : List Tree) (old : List Decl) (allowed : ℕ)
+    (ds : List DeclarationTree) (s1 : List Tree) (new : List Decl) (left : ℕ) : Type 0 where
   pub held : All (DeclHeld s1) new
   pub are : declarations_at s1 new ≡ declarations_at s old ++ ds
   pub few : left ≤ allowed
@@ -70,4 +74,5 @@ option_instances None = []
 option_instances (Some a) = inner_instances a
 
 abbrev pub said_instances : List DeclarationTree → List Occurrence
-said_instances ds = flat_map (λ (d : DeclarationTree). option_instances (monomorphic_formula d.body)) ds
+said_instances ds =
+    flat_map (λ (d : DeclarationTree). option_instances (monomorphic_formula d.body)) ds

@@ -7,7 +7,8 @@ use Rattle.tasks.specs.trees.Binding.{inst_types}
 use Rattle.name_tables.specs.Occurrences.{Occurrence, occurrence}
 use Rattle.name_tables.specs.Seen.{with_all}
 
--- The instance of `=` at a type. Entry 0 of a signature is the type `int`, so it is no symbol of a term.
+-- The instance of `=` at a type. Entry 0 of a signature is the type `int`, so it is no symbol of a
+-- term.
 abbrev pub equality_at : Tree → Occurrence
 equality_at type = occurrence 0 type
 
@@ -31,7 +32,8 @@ abbrev pub inner_instances : Tree → List Occurrence
 inner_instances (Leaf h) = []
 inner_instances (One h a) = inner_instances a
 inner_instances (Two h a b) = two_instance h a ++ (inner_instances a ++ inner_instances b)
-inner_instances (Three h a b c) = three_instance h a ++ (inner_instances a ++ (inner_instances b ++ inner_instances c))
+inner_instances (Three h a b c) =
+    three_instance h a ++ (inner_instances a ++ (inner_instances b ++ inner_instances c))
 
 abbrev pub at_types : List Tree → Occurrence → Occurrence
 at_types ys o = occurrence o.symbol (inst_types o.types ys)

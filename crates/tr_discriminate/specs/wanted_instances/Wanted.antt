@@ -33,7 +33,8 @@ of_symbols a = filter is_of_symbol (occurring a)
 abbrev pub named_suffice : Tree → Bool
 named_suffice a = mention_all (above_ty_vars a) a (of_symbols a)
 
--- Those that ask for instances of the formula: those of symbols, if they mention all its type variables, else all.
+-- Those that ask for instances of the formula: those of symbols, if they mention all its type
+-- variables, else all.
 abbrev pub driving : Tree → List Occurrence
 driving a = if named_suffice a then of_symbols a else occurring a
 
@@ -41,16 +42,19 @@ driving a = if named_suffice a then of_symbols a else occurring a
 abbrev pub is_wanted : List Occurrence → Tree → List Tree → Bool
 is_wanted s a ys = mention_all (above_ty_vars a) a (filter (λ o. has s (at_types ys o)) (driving a))
 
--- Types for type variables from a number on: each that is in the formula has one of these, in their order, the first variable first.
--- Others, which a declaration counts without need, have `int`.
+-- Types for type variables from a number on: each that is in the formula has one of these, in their
+-- order, the first variable first. Others, which a declaration counts without need, have `int`.
 abbrev pub type_choices : List Tree → Tree → ℕ → List Tree
 type_choices types a j = if has_variable j a then types else int_type ∷ []
 
 abbrev pub assignments : List Tree → Tree → ℕ → ℕ → List (List Tree)
 assignments types a from zero = [] ∷ []
-assignments types a from (suc n) = flat_map (λ ty. map (λ ys. ty ∷ ys) (assignments types a (from + 1) n)) (type_choices types a from)
+assignments types a from (suc n) =
+    flat_map (λ ty. map (λ ys. ty ∷ ys) (assignments types a (from + 1) n))
+    (type_choices types a from)
 
--- the wanted ones of all assignments of the types of these instances to a proposition's type variables
+-- the wanted ones of all assignments of the types of these instances to a proposition's type
+-- variables
 abbrev pub wanted_types : List Occurrence → PropositionTree → List (List Tree)
 wanted_types s p = filter (is_wanted s p.formula) (assignments (types_of s) p.formula 0 p.vars)
 

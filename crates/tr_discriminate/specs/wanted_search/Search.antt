@@ -26,14 +26,18 @@ pub record IsSearchResult (s : List Tree) (most : ℕ) (yss : List (List TermId)
   pub few : length yss ≤ most + 1
 
 -- the first ones of what was found and of these, one more than so many
-pub record FindsUpTo (s : List Tree) (most : ℕ) (old : List (List TermId)) (found : List (List Tree)) (new : List (List TermId)) : Type 0 where
+pub record FindsUpTo (s : List Tree) (most : ℕ) (old : List (List TermId))
+    (found : List (List Tree)) (new : List (List TermId)) : Type 0 where
   pub is_found : IsSearchResult s most new
   pub are : assignments_at s new ≡ take (most + 1) (assignments_at s old ++ found)
 
 -- whether an instance in the formula asks, mentions a type variable, and may be in a set
 abbrev pub may_ask : List Occurrence → Bool → List Tree → ℕ → Occurrence → Bool
-may_ask s named_only known j o = (not named_only || is_of_symbol o) && (mentions j o && list_any (matches known o) s)
+may_ask s named_only known j o =
+    (not named_only || is_of_symbol o) && (mentions j o && list_any (matches known o) s)
 
 -- what is found with each of these types next
-abbrev pub found_each : List Occurrence → List Tree → Tree → List Tree → ℕ → List Tree → List (List Tree)
-found_each s types a known n choices = flat_map (λ ty. found_from s types a (known ++ ty ∷ []) n) choices
+abbrev pub found_each : List Occurrence → List Tree → Tree → List Tree → ℕ → List Tree
+    → List (List Tree)
+found_each s types a known n choices =
+    flat_map (λ ty. found_from s types a (known ++ ty ∷ []) n) choices

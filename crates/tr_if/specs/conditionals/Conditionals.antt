@@ -1,5 +1,6 @@
--- Conditionals brought out of formulas (Why3 manual, "eliminate_if"): a conditional formula becomes two implications, and an atom with
--- conditional terms becomes implications under their conditions, one conditional at a time, the first in preorder first.
+-- Conditionals brought out of formulas (Why3 manual, "eliminate_if"): a conditional formula becomes
+-- two implications, and an atom with conditional terms becomes implications under their conditions,
+-- one conditional at a time, the first in preorder first.
 use Rattle.std.specs.Prelude.{Bool, true, false, ◌||◌, Option, Some, None}
 use Rattle.trees.specs.declared.Op.TheVariants.{And, Imp}
 use Rattle.trees.specs.declared.Sort.{Sort}
@@ -18,7 +19,8 @@ abbrev pub earlier : Option Tree → Option Tree → Option Tree
 earlier (Some e) other = Some e
 earlier None other = other
 
--- the first conditional term of an atom, a term or a list of terms, in preorder; what stands within its condition comes after it
+-- the first conditional term of an atom, a term or a list of terms, in preorder; what stands within
+-- its condition comes after it
 abbrev pub first_if : Tree → Option Tree
 first_if (Three HIf c a b) = Some (Three HIf c a b)
 first_if (Three (HFun f) types args ty) = first_if args
@@ -37,15 +39,19 @@ abbrev pub replace_first : Tree → Tree → Tree
 replace_first (Three HIf c a b) x = x
 replace_first (Three (HFun f) types args ty) x = Three (HFun f) types (replace_first args x) ty
 replace_first (Two (HPred p) types args) x = Two (HPred p) types (replace_first args x)
-replace_first (Two HEq a b) x = one_changed (first_if a) HEq a b (replace_first a x) (replace_first b x)
-replace_first (Two HCell a b) x = one_changed (first_if a) HCell a b (replace_first a x) (replace_first b x)
+replace_first (Two HEq a b) x =
+    one_changed (first_if a) HEq a b (replace_first a x) (replace_first b x)
+replace_first (Two HCell a b) x =
+    one_changed (first_if a) HCell a b (replace_first a x) (replace_first b x)
 replace_first e x = e
 
 -- ---- all of an atom
--- a formula over an atom, a term or a list of terms, by cases on each conditional term, the first one first
+-- a formula over an atom, a term or a list of terms, by cases on each conditional term, the first
+-- one first
 abbrev pub cases_over : Tree → (Tree → Tree) → Tree
 cases_over (Three HIf c a b) over = implications c (cases_over a over) (cases_over b over)
-cases_over (Three (HFun f) types args ty) over = cases_over args (λ xs. over (Three (HFun f) types xs ty))
+cases_over (Three (HFun f) types args ty) over =
+    cases_over args (λ xs. over (Three (HFun f) types xs ty))
 cases_over (Two (HPred p) types args) over = cases_over args (λ xs. over (Two (HPred p) types xs))
 cases_over (Two HEq a b) over = cases_over a (λ x. cases_over b (λ y. over (Two HEq x y)))
 cases_over (Two HCell a b) over = cases_over a (λ x. cases_over b (λ y. over (Two HCell x y)))

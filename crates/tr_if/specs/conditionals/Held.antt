@@ -23,7 +23,8 @@ pub record AreIfParts (s : List Tree) (w : Tree) (k : IfParts) : Type 0 where
   pub then_part : Holds s k.then_part
   pub else_part : Holds s k.else_part
   pub is : w ≡ Three HIf (tree_at s k.condition) (tree_at s k.then_part) (tree_at s k.else_part)
-  pub fits : Fits (Three HIf (tree_at s k.condition) (tree_at s k.then_part) (tree_at s k.else_part))
+  pub fits : Fits (Three HIf (tree_at s k.condition) (tree_at s k.then_part)
+      (tree_at s k.else_part))
 
 -- an expression of the sort of the first conditional, if there is one
 pub record CanPlace (s : List Tree) (e x : TermId) : Type 0 where

@@ -21,8 +21,10 @@ pub record HasFirstBelow (s : List Tree) (e child : TermId) : Type 0 where
   pub held : Holds s child
   pub below : child.0 < e.0
   pub first : first_if (tree_at s e) ≡ first_if (tree_at s child)
-  pub placed : (x : Tree) → replace_first (tree_at s e) x ≡ with_first (tree_at s e) (replace_first (tree_at s child) x)
-  pub fits : (m : Tree) → sort_of m ≡ sort_of (tree_at s child) → first_sort m ≡ first_sort (tree_at s child) → Fits (with_first (tree_at s e) m)
+  pub placed : (x : Tree) → replace_first (tree_at s e) x
+      ≡ with_first (tree_at s e) (replace_first (tree_at s child) x)
+  pub fits : (m : Tree) → sort_of m ≡ sort_of (tree_at s child)
+      → first_sort m ≡ first_sort (tree_at s child) → Fits (with_first (tree_at s e) m)
 
 abbrev pub IsFirstPlace : List Tree → TermId → FirstPlace → Type 0
 IsFirstPlace s e Here = (x : Tree) → replace_first (tree_at s e) x ≡ x

@@ -1,5 +1,5 @@
 -- The steps of inlining over a store, each after others.
-use Rattle.std.proofs.Common.{◌≡◌, ℕ, max, inl, inr, Bool, true, List, [], ◌∷◌, length, Option, Some, None, Result, Ok, Err, IfOk, IfErr, IsErrAnd, subst, refl, sym, ap, ◌∙◌}
+use Rattle.std.proofs.Common.{◌≡◌, ℕ, max, inl, inr, Bool, true, List, [], ◌∷◌, length, Option, Some, None, Result, Ok, Err, IfErr, IsErrAnd, subst, refl, sym, ap, ◌∙◌}
 use Rattle.indexmap.specs.IndexMap.{IndexMap}
 use Rattle.trees.specs.declared.TermId.{TermId}
 use Rattle.trees.specs.declared.Node.{Node}
@@ -8,7 +8,7 @@ use Rattle.trees.specs.declared.Sort.{Sort}
 use Rattle.trees.specs.declared.Sort.TheVariants.{Term}
 use Rattle.trees.specs.declared.Sort.TheVariants as sort
 use Rattle.trees.specs.Tree.{Tree, Leaf, One, Two, Three, Head, HBound, HCell}
-use Rattle.trees.specs.Sorts.{sort_of, first_sort, Fits, IsList, IsListOf}
+use Rattle.trees.specs.Sorts.{sort_of, IsList}
 use Rattle.trees.specs.Binding.{inst_types, inst_many}
 use Rattle.trees.specs.Node.{tree_at, node_tree, Holds, Grows, head_of_node}
 use Rattle.tasks.specs.Typing.{members}
@@ -31,6 +31,7 @@ use Rattle.tr_inline.specs.full_bodies.lemmas.Later.{ready_later, rule_later}
 use Rattle.tr_inline.proofs.full_bodies.Bodies.{rule_keeps}
 use Rattle.tr_inline.proofs.full_bodies.Arguments.{put_for, large_put}
 use Rattle.tr_inline.proofs.full_bodies.Least.{sum_joins, max_joins, larger, large_one, large_use, two_first, two_second, three_first, three_second, three_third}
+pub use Rattle.evidence.proofs.images.match_terms.Growing.{cell_fits}
 
 -- ---- as the store grows
 module _ (x : Inlining) (s t : List Tree) (w : Grows s t) (r : AreReady s x.task.now x.bodies.now) where
@@ -150,9 +151,6 @@ image_sort x s m e can q =
 
 pub typed_cell : (r : RuleOver) (e a b : Tree) → e ≡ Two HCell a b → IsTypedSomewhere r e → IsTypedSomewhere r a × IsTypedSomewhere r b
 typed_cell r e a b q y = two_parts r e y HCell a b q
-
-pub cell_fits : (a b : Tree) → sort_of a ≡ Term → IsList Term b → Fits (Two HCell a b)
-cell_fits a b q l = (((λ z. let k : Term ≡ sort.List = sym q ∙ z in absurd (cc)), subst (λ (t : Sort). IsListOf t (sort_of b) (first_sort b)) (sym q) l), tt)
 
 cell_list : (a b : Tree) → sort_of a ≡ Term → IsList Term (Two HCell a b)
 cell_list a b q = (refl, inr (ap Some q))

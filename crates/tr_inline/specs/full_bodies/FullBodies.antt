@@ -49,7 +49,9 @@ IsFull s e None = HasLargeInstances e
 abbrev pub AreFullBodies : List Tree → Vocabulary → (Tree → Tree) → List FullBody → Type 0
 AreFullBodies s v f [] = Unit {0}
 AreFullBodies s v f (b ∷ bs) =
-    (Holds s b.body × IsBody v b.symbol (tree_at s b.body) × IsFull s (image f (tree_at s b.body)) b.full) × AreFullBodies s v (use_rule b.symbol (image f (tree_at s b.body)) f) bs
+    (Holds s b.body × IsBody v b.symbol (tree_at s b.body)
+    × IsFull s (image f (tree_at s b.body)) b.full)
+    × AreFullBodies s v (use_rule b.symbol (image f (tree_at s b.body)) f) bs
 
 -- the task is valid, and the bodies are of it
 pub record AreReady (s : List Tree) (task : Task) (bodies : List FullBody) : Type 0 where
@@ -58,7 +60,8 @@ pub record AreReady (s : List Tree) (task : Task) (bodies : List FullBody) : Typ
   pub bodies_are : AreFullBodies s (of_task (task_at s task)) (λ e. e) bodies
 
 -- what was found for a symbol is its body, and the rule puts the full body for its uses
-pub record IsFoundBody (s : List Tree) (v : Vocabulary) (f : Tree → Tree) (k : ℕ) (b : FullBody) : Type 0 where
+pub record IsFoundBody (s : List Tree) (v : Vocabulary) (f : Tree → Tree) (k : ℕ)
+    (b : FullBody) : Type 0 where
   pub whole : Tree
   pub is_body : IsBody v k whole
   pub full : IsFull s whole b.full
@@ -83,8 +86,10 @@ pub record IsUseAt (s : List Tree) (r : RuleOver) (e : TermId) (at : SymbolUse) 
   pub args : IsList Term (tree_at s at.args)
   pub typed : IsTypedSomewhere r (tree_at s at.args)
   pub sorts : HasSorts (inst_types whole (members (tree_at s at.types)))
-  pub images : members (image r.rule (tree_at s at.args)) ≡ map (image r.rule) (members (tree_at s at.args))
-  pub becomes : image r.rule (tree_at s e) ≡ use_body whole (tree_at s at.types) (image r.rule (tree_at s at.args))
+  pub images : members (image r.rule (tree_at s at.args))
+      ≡ map (image r.rule) (members (tree_at s at.args))
+  pub becomes : image r.rule (tree_at s e)
+      ≡ use_body whole (tree_at s at.types) (image r.rule (tree_at s at.args))
 
 -- the use that a node is; else it becomes the node over the images of its parts
 abbrev pub IsUseOr : List Tree → RuleOver → TermId → Option SymbolUse → Type 0
@@ -93,14 +98,16 @@ IsUseOr s r e None = image r.rule (tree_at s e) ≡ over_parts r.rule (tree_at s
 
 -- ---- arguments
 -- the number of what is put in for one argument
-pub record IsArgument {S : Type 0} (r : RuleOver) (used : Bool) (e : Tree) (s : List Tree) (m : IndexMap ℕ TermId S) (id : TermId) : Type 0 where
+pub record IsArgument {S : Type 0} (r : RuleOver) (used : Bool) (e : Tree) (s : List Tree)
+    (m : IndexMap ℕ TermId S) (id : TermId) : Type 0 where
   pub held : Holds s id
   pub sort : sort_of (tree_at s id) ≡ Term
   pub is : used ≡ true → tree_at s id ≡ image r.rule e
   pub known : AreImages r s m
 
 -- the number of the list of what is put in for arguments
-pub record AreArguments {S : Type 0} (r : RuleOver) (body : Tree) (ms : List Tree) (s : List Tree) (m : IndexMap ℕ TermId S) (id : TermId) : Type 0 where
+pub record AreArguments {S : Type 0} (r : RuleOver) (body : Tree) (ms : List Tree) (s : List Tree)
+    (m : IndexMap ℕ TermId S) (id : TermId) : Type 0 where
   pub held : Holds s id
   pub list : IsList Term (tree_at s id)
   pub are : ArePutFor r.rule body ms (members (tree_at s id))

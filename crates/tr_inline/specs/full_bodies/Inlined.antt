@@ -1,4 +1,5 @@
--- What a tree in a store becomes by the rule of the full bodies, and what is asked for and promised where it is made.
+-- What a tree in a store becomes by the rule of the full bodies, and what is asked for and promised
+-- where it is made.
 use Rattle.std.specs.Prelude.{ℕ, List}
 use Rattle.indexmap.specs.IndexMap.{IndexMap}
 use Rattle.trees.specs.declared.TermId.{TermId}
@@ -18,5 +19,6 @@ inlined_at s x e = image (rule_of s x).rule (tree_at s e)
 abbrev pub CanInline : {S : Type 0} → List Tree → Inlining → IndexMap ℕ TermId S → TermId → Type 0
 CanInline s x m e = CanImage (rule_of s x) (AreReady s x.task.now x.bodies.now) s m e
 
-abbrev pub IsInlined : {S : Type 0} → List Tree → Inlining → TermId → List Tree → IndexMap ℕ TermId S → TermId → Type 0
+abbrev pub IsInlined : {S : Type 0} → List Tree → Inlining → TermId → List Tree
+    → IndexMap ℕ TermId S → TermId → Type 0
 IsInlined s x e t m id = IsImaged (rule_of s x) (tree_at s e) t m id

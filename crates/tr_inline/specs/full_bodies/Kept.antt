@@ -12,9 +12,16 @@ use Rattle.inlining.specs.images.typing_laws.HasTyping.{HasTyping, IsTypeAt, Kee
 use Rattle.inlining.proofs.Inlined.{task_keeps, inlined_defined}
 use Rattle.inlining.proofs.InlinedAtTypes.{inlined_at_types}
 
-pub formula_keeps : (m : InlineMode) (t : TaskTree) → IsValid t → (e : Tree) → HasTyping (of_task t) [] e → KeepsTyping (of_task t) [] e (inlined (inlined_definitions m t.decls) e)
+pub formula_keeps : (m : InlineMode) (t : TaskTree) → IsValid t → (e : Tree)
+    → HasTyping (of_task t) [] e
+    → KeepsTyping (of_task t) [] e (inlined (inlined_definitions m t.decls) e)
 formula_keeps m t valid e x = task_keeps t valid m [] e x
 
-pub formula_commutes : (m : InlineMode) (t : TaskTree) → IsValid t → (ys : List Tree) → ((j : ℕ) → IsTypeAt (of_task t) (get_or ys j (TyVar j))) → (e : Tree) → HasTyping (of_task t) [] e
-    → inlined (inlined_definitions m t.decls) (inst_types e ys) ≡ inst_types (inlined (inlined_definitions m t.decls) e) ys
-formula_commutes m t valid ys each e x = inlined_at_types (of_task t) (sound_task t valid) ys each (inlined_definitions m t.decls) (inlined_defined (of_task t) m t.decls valid.decls) [] e x
+pub formula_commutes : (m : InlineMode) (t : TaskTree) → IsValid t → (ys : List Tree)
+    → ((j : ℕ) → IsTypeAt (of_task t) (get_or ys j (TyVar j))) → (e : Tree)
+    → HasTyping (of_task t) [] e
+    → inlined (inlined_definitions m t.decls) (inst_types e ys)
+    ≡ inst_types (inlined (inlined_definitions m t.decls) e) ys
+formula_commutes m t valid ys each e x =
+    inlined_at_types (of_task t) (sound_task t valid) ys each (inlined_definitions m t.decls)
+    (inlined_defined (of_task t) m t.decls valid.decls) [] e x

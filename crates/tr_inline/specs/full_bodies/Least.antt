@@ -1,4 +1,5 @@
--- The least size and height of the instances of a tree: a variable may become a term of one node. And which variables are used.
+-- The least size and height of the instances of a tree: a variable may become a term of one node.
+-- And which variables are used.
 use Rattle.std.specs.Prelude.{ℕ, ◌+◌, ◌<◌, ◌==◌, max, Bool, false, ◌||◌, ◌⊎◌}
 use Rattle.trees.specs.Tree.{Tree, Leaf, One, Two, Three, Head, HBound, binders_over}
 

@@ -11,6 +11,7 @@ abbrev pub AreDefsHeld : List Tree → List Def → Type 0
 AreDefsHeld s ds = All (λ (d : Def). Holds s d.equation) ds
 
 -- these definitions more, after those of an older list
-pub record AreAppended (s : List Tree) (more : List DefinitionTree) (old new : List Def) : Type 0 where
+pub record AreAppended (s : List Tree) (more : List DefinitionTree)
+    (old new : List Def) : Type 0 where
   pub held : AreDefsHeld s new
   pub are : definitions_at s new ≡ definitions_at s old ++ more

@@ -1,4 +1,5 @@
--- The branches of a typed `match`, as a list: each takes the scrutinee's type and gives what one body gives.
+-- The branches of a typed `match`, as a list: each takes the scrutinee's type and gives what one
+-- body gives.
 use Rattle.std.specs.Prelude.{◌≡◌, List, [], ◌∷◌, ◌++◌, Option}
 use Rattle.trees.specs.declared.Sort.TheVariants.{Pattern}
 use Rattle.trees.specs.Tree.{Tree, Leaf, Two, HEnd, HCell, HArm}
@@ -16,7 +17,8 @@ abbrev pub arms_tree : List ArmTree → Tree
 arms_tree [] = Leaf HEnd
 arms_tree (b ∷ bs) = Two HCell (Two HArm b.pattern b.body) (arms_tree bs)
 
-pub record IsTypedBranch (v : Vocabulary) (types : List Tree) (ty : Option Tree) (first : Tree) (b : ArmTree) : Type 0 where
+pub record IsTypedBranch (v : Vocabulary) (types : List Tree) (ty : Option Tree) (first : Tree)
+    (b : ArmTree) : Type 0 where
   pub pattern : sort_of b.pattern ≡ Pattern
   pub pattern_typed : HasTyping v types b.pattern
   pub pattern_type : type_of b.pattern ≡ ty
@@ -27,7 +29,8 @@ pub record IsTypedBranch (v : Vocabulary) (types : List Tree) (ty : Option Tree)
 
 abbrev pub AreTypedBranches : Vocabulary → List Tree → Option Tree → Tree → List ArmTree → Type 0
 AreTypedBranches v types ty first [] = Unit {0}
-AreTypedBranches v types ty first (b ∷ bs) = IsTypedBranch v types ty first b × AreTypedBranches v types ty first bs
+AreTypedBranches v types ty first (b ∷ bs) =
+    IsTypedBranch v types ty first b × AreTypedBranches v types ty first bs
 
 -- the branches of a typed `match`, of which there is a first one
 pub record IsMatchOf (v : Vocabulary) (types : List Tree) (s e : Tree) : Type 0 where

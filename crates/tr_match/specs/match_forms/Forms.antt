@@ -1,5 +1,5 @@
--- The `if` form of a `match`: its branches' bodies at the terms for their patterns' variables, under the patterns' tests; the last
--- branch has no test (Why3 manual, "eliminate_match").
+-- The `if` form of a `match`: its branches' bodies at the terms for their patterns' variables,
+-- under the patterns' tests; the last branch has no test (Why3 manual, "eliminate_match").
 use Rattle.trees.specs.Tree.{Tree, Leaf, Two, Three, HEnd, HCell, HArm, HCase, HIf}
 use Rattle.trees.specs.Binding.{inst_many}
 use Rattle.tasks.specs.Task.{TaskTree}
@@ -13,7 +13,8 @@ branch_form c x others f = Three HIf c x f
 
 -- the form of a list of branches, asked of a term
 abbrev pub if_form : TaskTree → Tree → Tree → Tree
-if_form t s (Two HCell (Two HArm p a) others) = branch_form (test t p s) (inst_many a (bind t p s)) others (if_form t s others)
+if_form t s (Two HCell (Two HArm p a) others) =
+    branch_form (test t p s) (inst_many a (bind t p s)) others (if_form t s others)
 if_form t s _ = Leaf HEnd
 
 -- what a `match` becomes once the trees in it have none

@@ -1,4 +1,5 @@
--- What code has that makes forms: a `match` by its numbers in a store, and a branch with what it is asked of.
+-- What code has that makes forms: a `match` by its numbers in a store, and a branch with what it is
+-- asked of.
 use Rattle.std.specs.Prelude.{◌≡◌, List, ◌∷◌}
 use Rattle.trees.specs.declared.TermId.{TermId}
 use Rattle.trees.specs.declared.Sort.TheVariants.{Term}
@@ -33,10 +34,12 @@ pub record CanForm (s : List Tree) (look : Lookup) (scrutinee branches : TermId)
   pub first : ArmTree
   pub others : List ArmTree
   pub are : tree_at s branches ≡ arms_tree (first ∷ others)
-  pub typed : AreTypedBranches (of_task (look_task s look)) types (type_of (tree_at s scrutinee)) body (first ∷ others)
+  pub typed : AreTypedBranches (of_task (look_task s look)) types (type_of (tree_at s scrutinee))
+      body (first ∷ others)
 
 -- a valid task, a term, and a branch with a pattern of the task
-pub record CanOpenBranch (s : List Tree) (look : Lookup) (scrutinee : TermId) (branch : FirstBranch) : Type 0 where
+pub record CanOpenBranch (s : List Tree) (look : Lookup) (scrutinee : TermId)
+    (branch : FirstBranch) : Type 0 where
   pub look_held : LookupHeld s look
   pub valid : IsValid (look_task s look)
   pub scrutinee_held : Holds s scrutinee

@@ -10,15 +10,12 @@ use Rattle.tasks.specs.Equations.{cells, for_all}
 use Rattle.tr_inline.proofs.inlining.Equations.{equation_types}
 use Rattle.tr_inline.specs.inlining.branch_equations.Branches.{ConstructorBranch, is_plain_field, is_variable_field, field_type, bound_fields, below_quantifiers, parameters_before, parameters_after, variables_above, branch_types, branch_fields, built_term, branch_parameters, pattern_fields, branch_sides, branch_equation}
 use Rattle.tr_recursion.proofs.branch_instances.Arms.{changed_cells, fields_bound}
+use Rattle.tr_inline.proofs.inlining.branch_equations.AtTerms.{plain_append as joined_plain}
 
 -- ---- terms that are no patterns
 above_plain : (n : ℕ) (types : List Tree) → AreNoPatterns (variables_above n types)
 above_plain n [] = tt
 above_plain n (ty ∷ types) = (refl, above_plain n types)
-
-joined_plain : (ts us : List Tree) → AreNoPatterns ts → AreNoPatterns us → AreNoPatterns (ts ++ us)
-joined_plain [] us a c = c
-joined_plain (t ∷ ts) us a c = (a.0, joined_plain ts us a.1 c)
 
 bound_plain : (ps zs : List Tree) → AreNoPatterns zs → AreNoPatterns (bound_fields ps zs)
 bound_plain [] [] a = tt

@@ -55,7 +55,7 @@ closed_left : (xs ys : List Tree) → AreClosed (xs ++ ys) → AreClosed xs
 closed_left [] ys c = tt
 closed_left (x ∷ xs) ys c = (c.0, closed_left xs ys c.1)
 
-closed_right : (xs ys : List Tree) → AreClosed (xs ++ ys) → AreClosed ys
+pub closed_right : (xs ys : List Tree) → AreClosed (xs ++ ys) → AreClosed ys
 closed_right [] ys c = c
 closed_right (x ∷ xs) ys c = closed_right xs ys c.1
 

@@ -23,7 +23,8 @@ abbrev pub chosen_branch : ℕ → List ConstructorBranch → Option Constructor
 chosen_branch c [] = None
 chosen_branch c (b ∷ bs) = if b.symbol == c then Some b else chosen_branch c bs
 
--- The body of the constructor's branch, with the arguments of a constructor's application in the place of the pattern's variables.
+-- The body of the constructor's branch, with the arguments of a constructor's application in the
+-- place of the pattern's variables.
 pub record IsChosen (scrutinee arms right : Tree) : Type 0 where
   pub branches : List ConstructorBranch
   pub are : arms ≡ arms_of branches

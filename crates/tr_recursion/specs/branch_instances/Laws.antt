@@ -21,21 +21,36 @@ use Rattle.tr_recursion.specs.branch_instances.Chosen.{arms_of, has_plain_fields
 use Rattle.tr_recursion.specs.branch_instances.Instances.{SaysChosen}
 use Rattle.tr_recursion.specs.branch_instances.Origins.{IsOldFact}
 
--- The equation of a branch of a definition, at types and at closed terms for its variables, says of a use of the symbol what the body
--- gives there, a `match` of the branch's constructor on terms.
+-- The equation of a branch of a definition, at types and at closed terms for its variables, says of
+-- a use of the symbol what the body gives there, a `match` of the branch's constructor on terms.
 abbrev pub BranchesSayChosen : Type 0
 BranchesSayChosen =
-    (v : Vocabulary) (m : DefinitionTree) → IsDefinition v m → (i : ℕ) (bs : List ConstructorBranch) (type : Tree) → defining_body m.equation ≡ Two HCase (One (HBound i) type) (arms_of bs) → i < length (symbol_or v.symbols m.symbol).args
-    → list_all has_plain_fields bs ≡ true → are_different bs ≡ true → (place : ℕ) (b : ConstructorBranch) → slice_get bs place ≡ Some b → (ys : List Tree) → AreTypes ys → AreClosed ys → length ys ≡ (symbol_or v.symbols m.symbol).vars
-    → (ws : List Tree) → AreClosed ws → length ws ≡ quantifiers (inst_types (branch_equation (symbol_or v.symbols m.symbol).args m.equation i b) ys)
-    → SaysChosen m.symbol (defining_body m.equation) ys (for_all_at (inst_types (branch_equation (symbol_or v.symbols m.symbol).args m.equation i b) ys) ws)
+    (v : Vocabulary) (m : DefinitionTree) → IsDefinition v m
+    → (i : ℕ) (bs : List ConstructorBranch) (type : Tree)
+    → defining_body m.equation ≡ Two HCase (One (HBound i) type) (arms_of bs)
+    → i < length (symbol_or v.symbols m.symbol).args
+    → list_all has_plain_fields bs ≡ true → are_different bs ≡ true
+    → (place : ℕ) (b : ConstructorBranch) → slice_get bs place ≡ Some b → (ys : List Tree)
+    → AreTypes ys → AreClosed ys → length ys ≡ (symbol_or v.symbols m.symbol).vars
+    → (ws : List Tree) → AreClosed ws
+    → length ws ≡ quantifiers
+    (inst_types (branch_equation (symbol_or v.symbols m.symbol).args m.equation i b) ys)
+    → SaysChosen m.symbol (defining_body m.equation) ys
+    (for_all_at (inst_types
+    (branch_equation (symbol_or v.symbols m.symbol).args m.equation i b) ys) ws)
 
--- what the new task says follows, place by place, from the fact of the old one whose name is listed for it
+-- what the new task says follows, place by place, from the fact of the old one whose name is listed
+-- for it
 abbrev pub SaidFollowsFromFacts : Type 0
 SaidFollowsFromFacts =
-    (t : TaskTree) → IsValid t → (k : ℕ) (p : PropositionTree) (old : Fact) → fact_named (rewritten_task (spelling_rule recursion_facts) t) (fact.Proposition k) ≡ Some p
-    → slice_get (map fact_name (all_said (spelling_said recursion_facts) t)) k ≡ Some old → IsOldFact t old p
+    (t : TaskTree) → IsValid t → (k : ℕ) (p : PropositionTree) (old : Fact)
+    → fact_named (rewritten_task (spelling_rule recursion_facts) t)
+    (fact.Proposition k) ≡ Some p
+    → slice_get (map fact_name (all_said (spelling_said recursion_facts) t)) k ≡ Some old
+    → IsOldFact t old p
 
 -- each projection of a constructor of a valid task is made as the projection to its field
 abbrev pub ProjectionsAreMade : Type 0
-ProjectionsAreMade = (t : TaskTree) → IsValid t → (k p j : ℕ) (con : ConstructorTree) → role t k ≡ ConstructorRole con → slice_get con.projections j ≡ Some p → role t p ≡ ProjectionRole con j
+ProjectionsAreMade = (t : TaskTree) → IsValid t → (k p j : ℕ) (con : ConstructorTree)
+    → role t k ≡ ConstructorRole con → slice_get con.projections j ≡ Some p
+    → role t p ≡ ProjectionRole con j

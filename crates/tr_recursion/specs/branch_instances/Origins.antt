@@ -17,7 +17,8 @@ pub record IsBranchOf (v : Vocabulary) (x y : FactTree) : Type 0 where
   pub defined : IsDefinition v member
   pub index : ℕ
   pub branches : List ConstructorBranch
-  pub matched : matched_parameter (quantifiers member.equation) (defining_body member.equation) ≡ Some (index, branches)
+  pub matched : matched_parameter (quantifiers member.equation) (defining_body member.equation)
+      ≡ Some (index, branches)
   pub place : ℕ
   pub branch : ConstructorBranch
   pub there : slice_get branches place ≡ Some branch

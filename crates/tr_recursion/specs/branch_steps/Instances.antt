@@ -27,7 +27,8 @@ pub record HasTwoSides (e : Tree) : Type 0 where
 pub record AreSidesOf (s : List Tree) (e : TermId) (x : TwoSides) : Type 0 where
   pub left_held : Holds s x.left
   pub right_held : Holds s x.right
-  pub are : (h : Head) (l r : Tree) → tree_at s e ≡ Two h l r → (tree_at s x.left ≡ l) × (tree_at s x.right ≡ r)
+  pub are : (h : Head) (l r : Tree) → tree_at s e ≡ Two h l r
+      → (tree_at s x.left ≡ l) × (tree_at s x.right ≡ r)
 
 -- it says of a use of a symbol what the constructor's branch of the body there gives
 pub record IsBranchInstance (t : TaskTree) (k : ℕ) (e : Tree) : Type 0 where
@@ -39,16 +40,21 @@ pub record IsBranchInstance (t : TaskTree) (k : ℕ) (e : Tree) : Type 0 where
 
 -- so at closed terms for the variables that its quantifiers bind
 abbrev pub OpensToBranch : TaskTree → ℕ → Tree → Type 0
-OpensToBranch t k e = (ws : List Tree) → AreClosed ws → length ws ≡ quantifiers e → IsBranchInstance t k (for_all_at e ws)
+OpensToBranch t k e = (ws : List Tree) → AreClosed ws → length ws ≡ quantifiers e
+    → IsBranchInstance t k (for_all_at e ws)
 
--- the equation of a branch of a definition, at as many ground types as the symbol has type variables
-pub record IsBranchAt (t : TaskTree) (m : DefinitionTree) (types : List Tree) (e : Tree) : Type 0 where
+-- the equation of a branch of a definition, at as many ground types as the symbol has type
+-- variables
+pub record IsBranchAt (t : TaskTree) (m : DefinitionTree) (types : List Tree)
+    (e : Tree) : Type 0 where
   pub index : ℕ
   pub branches : List ConstructorBranch
-  pub matched : matched_parameter (quantifiers m.equation) (defining_body m.equation) ≡ Some (index, branches)
+  pub matched : matched_parameter (quantifiers m.equation) (defining_body m.equation)
+      ≡ Some (index, branches)
   pub place : ℕ
   pub branch : ConstructorBranch
   pub there : slice_get branches place ≡ Some branch
   pub as_many : length types ≡ (symbol_or t.symbols m.symbol).vars
   pub ground : All (IsTypeOver t 0) types
-  pub is : e ≡ inst_types (branch_equation (symbol_or t.symbols m.symbol).args m.equation index branch) types
+  pub is : e ≡ inst_types (branch_equation (symbol_or t.symbols m.symbol).args m.equation index
+      branch) types

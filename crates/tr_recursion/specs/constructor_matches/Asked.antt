@@ -28,7 +28,8 @@ pub record IsApplicationAt (s : List Tree) (id : TermId) (p : Application) : Typ
   pub args_held : Holds s p.args
   pub type_held : Holds s p.ty
   pub terms : IsList Term (tree_at s p.args)
-  pub is : tree_at s id ≡ Three (HFun p.function) (tree_at s p.types) (tree_at s p.args) (tree_at s p.ty)
+  pub is : tree_at s id ≡ Three (HFun p.function) (tree_at s p.types) (tree_at s p.args)
+      (tree_at s p.ty)
 
 -- the arguments of an application, or the parts of a constructor's pattern
 abbrev pub part_members : Tree → List Tree
@@ -49,27 +50,37 @@ pub record IsOwnApplication (d : DraftTree) (built scrutinee : TermId) : Type 0 
   pub fields : AreEach (IsClosedField d.task) projections args
 
 -- a closed `match`, with the numbers of its first branch's parts
-pub record IsFirstBranch (d : DraftTree) (whole scrutinee : TermId) (first : FirstBranch) : Type 0 where
+pub record IsFirstBranch (d : DraftTree) (whole scrutinee : TermId)
+    (first : FirstBranch) : Type 0 where
   pub closed : IsClosedAt d whole
-  pub is : tree_at d.trees whole ≡ Two HCase (tree_at d.trees scrutinee) (Two HCell (Two HArm (tree_at d.trees first.pattern) (tree_at d.trees first.body)) (tree_at d.trees first.others))
+  pub is : tree_at d.trees whole
+      ≡ Two HCase (tree_at d.trees scrutinee)
+      (Two HCell (Two HArm (tree_at d.trees first.pattern) (tree_at d.trees first.body))
+      (tree_at d.trees first.others))
   pub scrutinee_held : Holds d.trees scrutinee
   pub pattern_held : Holds d.trees first.pattern
   pub body_held : Holds d.trees first.body
   pub others_held : Holds d.trees first.others
 
 -- its pattern's test, and its body at the terms for the pattern's variables
-pub record IsFirstOpened (d : DraftTree) (whole scrutinee : TermId) (first : FirstBranch) (o : OpenedBranch) : Type 0 where
+pub record IsFirstOpened (d : DraftTree) (whole scrutinee : TermId) (first : FirstBranch)
+    (o : OpenedBranch) : Type 0 where
   pub asked : IsFirstBranch d whole scrutinee first
   pub test : IsFormulaAt d o.test
-  pub test_is : tree_at d.trees o.test ≡ match_test d.task (tree_at d.trees first.pattern) (tree_at d.trees scrutinee)
+  pub test_is : tree_at d.trees o.test
+      ≡ match_test d.task (tree_at d.trees first.pattern) (tree_at d.trees scrutinee)
   pub inner : ArePair d whole o.inner
-  pub inner_is : tree_at d.trees o.inner ≡ inst_many (tree_at d.trees first.body) (bind d.task (tree_at d.trees first.pattern) (tree_at d.trees scrutinee))
+  pub inner_is : tree_at d.trees o.inner
+      ≡ inst_many (tree_at d.trees first.body)
+      (bind d.task (tree_at d.trees first.pattern) (tree_at d.trees scrutinee))
 
 -- the branch is on the constructor of the application, and its body at the arguments is this
-pub record IsHere (d : DraftTree) (scrutinee : TermId) (first : FirstBranch) (right : Tree) : Type 0 where
+pub record IsHere (d : DraftTree) (scrutinee : TermId) (first : FirstBranch)
+    (right : Tree) : Type 0 where
   pub branch : ConstructorBranch
   pub args : List Tree
-  pub application : tree_at d.trees scrutinee ≡ Three (HFun branch.symbol) branch.types (cells args) branch.type
+  pub application : tree_at d.trees scrutinee
+      ≡ Three (HFun branch.symbol) branch.types (cells args) branch.type
   pub pattern : tree_at d.trees first.pattern ≡ branch_pattern branch
   pub body : tree_at d.trees first.body ≡ branch.body
   pub plain : has_plain_fields branch ≡ true
@@ -85,7 +96,8 @@ pub record AreOtherConstructors (t : TaskTree) (e : Tree) : Type 0 where
   pub two_types : Tree
   pub two_args : Tree
   pub two_type : Tree
-  pub is : e ≡ equal (Three (HFun one) one_types one_args one_type) (Three (HFun two) two_types two_args two_type)
+  pub is : e ≡ equal (Three (HFun one) one_types one_args one_type)
+      (Three (HFun two) two_types two_args two_type)
   pub one_made : IsTrue (is_constructor (role t one))
   pub two_made : IsTrue (is_constructor (role t two))
   pub differ : one ≢ two

@@ -21,7 +21,8 @@ pub record IsFieldOf (t : TaskTree) (p z : Tree) : Type 0 where
   pub con_types : Tree
   pub args : Tree
   pub con_type : Tree
-  pub is : p ≡ Three (HFun projection) types (Two HCell (Three (HFun con.symbol) con_types args con_type) (Leaf HEnd)) result
+  pub is : p ≡ Three (HFun projection) types
+      (Two HCell (Three (HFun con.symbol) con_types args con_type) (Leaf HEnd)) result
   pub role : role t projection ≡ ProjectionRole con place
   pub there : slice_get (members args) place ≡ Some z
 

@@ -48,19 +48,25 @@ IsAround d (Application f types ty) us = IsSymbolHeld d.trees (symbol.Function f
 IsAround d (Open e) us = IsOpenTree d e us
 
 -- terms there, one of which is of the sort and type of another term
-pub record CanReplaceOne (d : DraftTree) (around : Around) (before : List TermId) (left a b : TermId) (behind : List TermId) : Type 0 where
-  pub around_held : IsAround d around (trees_at d.trees before ++ tree_at d.trees a ∷ trees_at d.trees behind)
+pub record CanReplaceOne (d : DraftTree) (around : Around) (before : List TermId)
+    (left a b : TermId) (behind : List TermId) : Type 0 where
+  pub around_held : IsAround d around
+      (trees_at d.trees before ++ tree_at d.trees a ∷ trees_at d.trees behind)
   pub before_terms : AreClosedTerms d before
   pub behind_terms : AreClosedTerms d behind
   pub whole : IsClosedAt d left
   pub pair : ArePair d a b
   pub term : sort_of (tree_at d.trees a) ≡ Term
-  pub is : tree_at d.trees left ≡ with_terms d.trees around (trees_at d.trees before ++ tree_at d.trees a ∷ trees_at d.trees behind)
+  pub is : tree_at d.trees left
+      ≡ with_terms d.trees around
+      (trees_at d.trees before ++ tree_at d.trees a ∷ trees_at d.trees behind)
 
 -- terms there, the last of which are projections of a constructor's application
-pub record CanReplaceProjections (d : DraftTree) (around : Around) (before : List TermId) (left : TermId) (terms fields : List TermId) : Type 0 where
+pub record CanReplaceProjections (d : DraftTree) (around : Around) (before : List TermId)
+    (left : TermId) (terms fields : List TermId) : Type 0 where
   pub around_held : IsAround d around (trees_at d.trees before ++ trees_at d.trees terms)
   pub before_terms : AreClosedTerms d before
   pub whole : IsClosedAt d left
-  pub is : tree_at d.trees left ≡ with_terms d.trees around (trees_at d.trees before ++ trees_at d.trees terms)
+  pub is : tree_at d.trees left
+      ≡ with_terms d.trees around (trees_at d.trees before ++ trees_at d.trees terms)
   pub pairs : AreEach (IsFieldPair d) terms fields

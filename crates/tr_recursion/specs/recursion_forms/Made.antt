@@ -24,11 +24,14 @@ sides_with e body ps us = e
 
 -- each has at most so many nodes and loose variables together
 abbrev pub HaveRoom : ℕ → List Tree → Type 0
-HaveRoom n ts = (k : ℕ) (e : Tree) → k < length ts → size (get_or ts k e) + loose (get_or ts k e) ≤ n
+HaveRoom n ts =
+    (k : ℕ) (e : Tree) → k < length ts → size (get_or ts k e) + loose (get_or ts k e) ≤ n
 
 -- each branch by which an equation is told has a body of the sort of its sides
 abbrev pub AreSided : Tree → Type 0
-AreSided e = (p : ℕ × List ConstructorBranch) → matched_parameter (quantifiers e) (defining_body e) ≡ Some p → All (λ (b : ConstructorBranch). HasSides (sort_of b.body) (below_quantifiers e)) p.1
+AreSided e = (p : ℕ × List ConstructorBranch)
+    → matched_parameter (quantifiers e) (defining_body e) ≡ Some p
+    → All (λ (b : ConstructorBranch). HasSides (sort_of b.body) (below_quantifiers e)) p.1
 
 -- a definition whose entry has types as arguments, and of which what it says can be made
 pub record DefinitionIsFit (s : List Tree) (infos : List SymbolInfo) (d : Def) : Type 0 where

@@ -15,10 +15,16 @@ pub record MemberIsHeld (s : List Tree) (m : Member) : Type 0 where
   pub equation : Holds s m.equation
 
 abbrev pub member_branch_fact : List Tree → Member → ConstructorBranch → FactTree
-member_branch_fact s m b = record { name = Equation m.symbol; vars = m.vars; formula = branch_equation (trees_at s m.args.now) (tree_at s m.equation) m.index b }
+member_branch_fact s m b = record {
+  name = Equation m.symbol;
+  vars = m.vars;
+  formula =
+      branch_equation (trees_at s m.args.now) (tree_at s m.equation) m.index b;
+}
 
 -- the branches of a list, each with a body of the sort of the sides of the definition's equation
 pub record BranchesAreSided (s : List Tree) (m : Member) (arms : TermId) : Type 0 where
   pub branches : List ConstructorBranch
   pub are : constructor_branches (tree_at s arms) ≡ Some branches
-  pub sided : All (λ (b : ConstructorBranch). HasSides (sort_of b.body) (below_quantifiers (tree_at s m.equation))) branches
+  pub sided : All (λ (b : ConstructorBranch).
+      HasSides (sort_of b.body) (below_quantifiers (tree_at s m.equation))) branches

@@ -11,7 +11,14 @@ use Rattle.tr_recursion.specs.declared.recursion_forms.branches.Branch.{Branch}
 use Rattle.tr_recursion.specs.declared.recursion_forms.branches.Matched.{Matched}
 
 abbrev pub constructor_branch_at : List Tree → Branch → ConstructorBranch
-constructor_branch_at s b = record { symbol = b.symbol; types = tree_at s b.types; fields = members (tree_at s b.fields); type = tree_at s b.ty; body = tree_at s b.body }
+constructor_branch_at s b = record {
+  symbol = b.symbol;
+  types = tree_at s b.types;
+  fields =
+      members (tree_at s b.fields);
+  type = tree_at s b.ty;
+  body = tree_at s b.body;
+}
 
 -- the numbers are held: of a list of types, a list of variables and wildcards, a type, and the body
 pub record IsBranchHeld (s : List Tree) (b : Branch) : Type 0 where

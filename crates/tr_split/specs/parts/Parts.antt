@@ -14,7 +14,8 @@ abbrev pub IsSentence : Tree → Type 0
 IsSentence e = sort_of e ≡ Formula
 
 -- over the old trees it is `before`, over the new ones `after`, which has these formulas more
-pub record GainsFormulas (old new : List Tree) (before after : List TermId) (more : List Tree) : Type 0 where
+pub record GainsFormulas (old new : List Tree) (before after : List TermId)
+    (more : List Tree) : Type 0 where
   pub trees : trees_at new after ≡ trees_at old before ++ more
   pub held : All (Holds new) after
   pub sentences : All IsSentence more

@@ -29,11 +29,16 @@ abbrev pub predicate_letter : ℕ → Tree
 predicate_letter k = Two (HPred k) (Leaf HEnd) (Leaf HEnd)
 
 -- p /\ (q -> p) gives p, and q -> p
-pub splits_and : split (Two (HJoin And) (predicate_letter 1) (imp (predicate_letter 2) (predicate_letter 1))) ≡ predicate_letter 1 ∷ imp (predicate_letter 2) (predicate_letter 1) ∷ []
+pub splits_and : split (Two (HJoin And) (predicate_letter 1)
+    (imp (predicate_letter 2) (predicate_letter 1)))
+    ≡ predicate_letter 1 ∷ imp (predicate_letter 2) (predicate_letter 1) ∷ []
 splits_and = refl
 
 -- p && (q /\ r) gives p, then p -> q and p -> r
-pub splits_and_then : split (Two (HJoin AndThen) (predicate_letter 1) (Two (HJoin And) (predicate_letter 2) (predicate_letter 3))) ≡ predicate_letter 1 ∷ imp (predicate_letter 1) (predicate_letter 2) ∷ imp (predicate_letter 1) (predicate_letter 3) ∷ []
+pub splits_and_then : split (Two (HJoin AndThen) (predicate_letter 1)
+    (Two (HJoin And) (predicate_letter 2) (predicate_letter 3)))
+    ≡ predicate_letter 1 ∷ imp (predicate_letter 1) (predicate_letter 2)
+    ∷ imp (predicate_letter 1) (predicate_letter 3) ∷ []
 splits_and_then = refl
 
 -- true gives nothing, also under a quantifier
@@ -41,10 +46,16 @@ pub splits_true : split (Two HForall (predicate_letter 0) (Leaf HTrue)) ≡ []
 splits_true = refl
 
 -- if c then p else (q <-> r) gives c -> p, then not c -> q -> r and not c -> r -> q
-pub splits_if : split (Three HIf (predicate_letter 1) (predicate_letter 2) (Two (HJoin Iff) (predicate_letter 3) (predicate_letter 4))) ≡ imp (predicate_letter 1) (predicate_letter 2)
-    ∷ imp (neg (predicate_letter 1)) (imp (predicate_letter 3) (predicate_letter 4)) ∷ imp (neg (predicate_letter 1)) (imp (predicate_letter 4) (predicate_letter 3)) ∷ []
+pub splits_if : split (Three HIf (predicate_letter 1) (predicate_letter 2)
+    (Two (HJoin Iff) (predicate_letter 3) (predicate_letter 4)))
+    ≡ imp (predicate_letter 1) (predicate_letter 2)
+    ∷ imp (neg (predicate_letter 1)) (imp (predicate_letter 3) (predicate_letter 4))
+    ∷ imp (neg (predicate_letter 1)) (imp (predicate_letter 4) (predicate_letter 3)) ∷ []
 splits_if = refl
 
 -- p \/ (q /\ r) gives itself
-pub splits_or : split (Two (HJoin Or) (predicate_letter 1) (Two (HJoin And) (predicate_letter 2) (predicate_letter 3))) ≡ Two (HJoin Or) (predicate_letter 1) (Two (HJoin And) (predicate_letter 2) (predicate_letter 3)) ∷ []
+pub splits_or : split (Two (HJoin Or) (predicate_letter 1)
+    (Two (HJoin And) (predicate_letter 2) (predicate_letter 3)))
+    ≡ Two (HJoin Or) (predicate_letter 1)
+    (Two (HJoin And) (predicate_letter 2) (predicate_letter 3)) ∷ []
 splits_or = refl

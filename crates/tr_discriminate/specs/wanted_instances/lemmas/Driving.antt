@@ -9,9 +9,11 @@ use Rattle.name_tables.specs.Seen.{has, with_one, with_all}
 use Rattle.tr_discriminate.specs.wanted_instances.Instances.{type_or_end, two_instance, three_instance, inner_instances}
 use Rattle.tr_discriminate.specs.wanted_instances.Wanted.{is_of_symbol, occurring, of_symbols, named_suffice, driving}
 
-pub with_all_have : (P : Occurrence → Type 0) (s os : List Occurrence) → All P s → All P os → All P (with_all s os)
+pub with_all_have : (P : Occurrence → Type 0) (s os : List Occurrence) → All P s → All P os
+    → All P (with_all s os)
 with_all_have P s [] a b = a
-with_all_have P s (o ∷ os) a b = with_all_have P (with_one s o) os (one (has s o)) (λ k d l. b (suc k) d (omega arith))
+with_all_have P s (o ∷ os) a b =
+    with_all_have P (with_one s o) os (one (has s o)) (λ k d l. b (suc k) d (omega arith))
   where
     one : (c : Bool) → All P (if c then s else s ++ o ∷ [])
     one true = a
@@ -58,7 +60,10 @@ module _ (n : ℕ) where
 
   two_below : (h : Head) (a : Tree) → Below a → All InstanceBelow (two_instance h a)
   two_below (HPred p) a l = All-cons InstanceBelow _ [] l (All-nil InstanceBelow)
-  two_below HEq a l = All-cons InstanceBelow _ [] (option_below (type_of a) (λ ty q. type_below a ty l (some_top (head_of a) (yield_type a) ty q))) (All-nil InstanceBelow)
+  two_below HEq a l = All-cons InstanceBelow _ []
+      (option_below (type_of a)
+      (λ ty q. type_below a ty l (some_top (head_of a) (yield_type a) ty q)))
+      (All-nil InstanceBelow)
   two_below _ a l = All-nil InstanceBelow
 
   three_below : (h : Head) (a : Tree) → Below a → All InstanceBelow (three_instance h a)
@@ -70,18 +75,26 @@ module _ (n : ℕ) where
   instances_below (Leaf h) l = All-nil InstanceBelow
   instances_below (One h a) l = instances_below a l
   instances_below (Two h a b) l =
-      All-append InstanceBelow (two_instance h a) (inner_instances a ++ inner_instances b) (two_below h a (omega (arith, l)))
-      (All-append InstanceBelow (inner_instances a) (inner_instances b) (instances_below a (omega (arith, l))) (instances_below b (omega (arith, l))))
+      All-append InstanceBelow (two_instance h a) (inner_instances a ++ inner_instances b)
+      (two_below h a (omega (arith, l)))
+      (All-append InstanceBelow (inner_instances a) (inner_instances b)
+      (instances_below a (omega (arith, l))) (instances_below b (omega (arith, l))))
   instances_below (Three h a b c) l =
-      All-append InstanceBelow (three_instance h a) (inner_instances a ++ (inner_instances b ++ inner_instances c)) (three_below h a (omega (arith, l)))
-      (All-append InstanceBelow (inner_instances a) (inner_instances b ++ inner_instances c) (instances_below a (omega (arith, l)))
-      (All-append InstanceBelow (inner_instances b) (inner_instances c) (instances_below b (omega (arith, l))) (instances_below c (omega (arith, l)))))
+      All-append InstanceBelow (three_instance h a)
+      (inner_instances a ++ (inner_instances b ++ inner_instances c))
+      (three_below h a (omega (arith, l)))
+      (All-append InstanceBelow (inner_instances a) (inner_instances b ++ inner_instances c)
+      (instances_below a (omega (arith, l)))
+      (All-append InstanceBelow (inner_instances b) (inner_instances c)
+      (instances_below b (omega (arith, l))) (instances_below c (omega (arith, l)))))
 
-pub driving_below : (a : Tree) (n : ℕ) → above_ty_vars a ≤ n → All (λ (o : Occurrence). above_ty_vars o.types ≤ n) (driving a)
+pub driving_below : (a : Tree) (n : ℕ) → above_ty_vars a ≤ n
+    → All (λ (o : Occurrence). above_ty_vars o.types ≤ n) (driving a)
 driving_below a n l = by (named_suffice a)
   where
     all : All (InstanceBelow n) (occurring a)
-    all = with_all_have (InstanceBelow n) [] (inner_instances a) (All-nil (InstanceBelow n)) (instances_below n a l)
+    all = with_all_have (InstanceBelow n) [] (inner_instances a) (All-nil (InstanceBelow n))
+        (instances_below n a l)
 
     by : (b : Bool) → All (InstanceBelow n) (if b then of_symbols a else occurring a)
     by true = All-filter is_of_symbol (InstanceBelow n) (occurring a) all

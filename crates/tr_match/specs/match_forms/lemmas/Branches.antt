@@ -8,7 +8,8 @@ use Rattle.tasks.specs.Typing.{BranchesFit}
 use Rattle.images.specs.typing_laws.HasTyping.{HasTyping}
 use Rattle.tr_match.specs.match_forms.Branches.{ArmTree, arms_tree, AreTypedBranches}
 
-pub record HasBranches (v : Vocabulary) (types : List Tree) (ty : Option Tree) (first e : Tree) : Type 0 where
+pub record HasBranches (v : Vocabulary) (types : List Tree) (ty : Option Tree)
+    (first e : Tree) : Type 0 where
   pub list : List ArmTree
   pub is : e ≡ arms_tree list
   pub typed : AreTypedBranches v types ty first list
@@ -59,20 +60,36 @@ module _ (v : Vocabulary) (types : List Tree) where
 
 -- ---- the branches of a list
 module _ (v : Vocabulary) (types : List Tree) (ty : Option Tree) (first : Tree) where
-  ended : (e : Tree) → IsEndOrCell e → ((a b : Tree) → e ≡ Two HCell a b → ⊥) → HasBranches v types ty first e
+  ended : (e : Tree) → IsEndOrCell e → ((a b : Tree) → e ≡ Two HCell a b → ⊥)
+      → HasBranches v types ty first e
   ended e (inl q) n = record { list = []; is = q; typed = tt }
   ended e (inr q) n = absurd (n q.0 q.1.0 q.1.1)
 
-  pub branches_of : (e : Tree) → HasTyping v types e → sort_of e ≡ sort.List → BranchesFit ty first e → HasBranches v types ty first e
+  pub branches_of : (e : Tree) → HasTyping v types e → sort_of e ≡ sort.List
+      → BranchesFit ty first e → HasBranches v types ty first e
   branches_of (Two HCell (Two HArm p a) b) x k f =
       let r = branches_of b x.3 x.0.0.1.0 f.1 in
       record {
         list = record { pattern = p; body = a } ∷ r.list;
         is = ap (Two HCell (Two HArm p a)) r.is;
-        typed = (record { pattern = x.2.0.0.0; pattern_typed = x.2.2; pattern_type = f.0.0; body = x.2.0.0.1; body_typed = x.2.3; body_sort = f.0.1; body_type = f.0.2 }, r.typed);
+        typed = (
+          record {
+            pattern = x.2.0.0.0;
+            pattern_typed = x.2.2;
+            pattern_type = f.0.0;
+            body =
+                x.2.0.0.1;
+            body_typed = x.2.3;
+            body_sort = f.0.1;
+            body_type = f.0.2;
+          },
+          r.typed,
+        );
       }
   branches_of (Two HCell a b) x k f = absurd f.0
-  branches_of (Two h a b) x k f = ended (Two h a b) (end_or_cell v types (Two h a b) x k) (λ c d q. cc)
+  branches_of (Two h a b) x k f =
+      ended (Two h a b) (end_or_cell v types (Two h a b) x k) (λ c d q. cc)
   branches_of (Leaf h) x k f = ended (Leaf h) (end_or_cell v types (Leaf h) x k) (λ c d q. cc)
   branches_of (One h a) x k f = ended (One h a) (end_or_cell v types (One h a) x k) (λ c d q. cc)
-  branches_of (Three h a b c) x k f = ended (Three h a b c) (end_or_cell v types (Three h a b c) x k) (λ d g q. cc)
+  branches_of (Three h a b c) x k f =
+      ended (Three h a b c) (end_or_cell v types (Three h a b c) x k) (λ d g q. cc)
