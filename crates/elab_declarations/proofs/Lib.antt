@@ -4,3 +4,4 @@ pub mod Proposed
 pub mod TypesMade
 pub mod Rows
 pub mod Heads
+pub mod NewNames

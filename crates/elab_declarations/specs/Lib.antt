@@ -4,3 +4,4 @@ pub mod plain
 pub mod type_declarations
 pub mod Outcomes
 pub mod Heads
+pub mod NewNames

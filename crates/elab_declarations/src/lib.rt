@@ -7,6 +7,7 @@
 
 mod declarations;
 pub mod inductive_declarations;
+mod new_names;
 pub mod plain;
 mod propositions;
 pub mod type_declarations;

@@ -1,7 +1,6 @@
 -- Groups of inductive predicates: what each makes, and its first fault of names (Why3 manual, "inductive predicates"). The
 -- predicates of a group see each other, their clauses are closed formulas, and all type equations are one list.
-use Rattle.std.specs.Prelude.{◌≡◌, ℕ, suc, Bool, true, ◌||◌, List, [], ◌∷◌, ◌++◌, map, take, drop, length, Option, Some, None}
-use Rattle.std.specs.Option.{is_some}
+use Rattle.std.specs.Prelude.{◌≡◌, ℕ, suc, Bool, true, List, [], ◌∷◌, ◌++◌, map, take, drop, length, Option, Some, None}
 use Rattle.tasks.specs.trees.Tree.{Tree}
 use Rattle.tasks.specs.Task.{SymbolTree, InductiveTree, Induces, DeclarationTree}
 use Rattle.tasks.specs.declared.signature.Signature.{Signature}
@@ -9,9 +8,8 @@ use Rattle.name_resolution.specs.scopes.Names.{ScopeNames, with_entry}
 use Rattle.name_resolution.specs.scopes.declared.Table.TheVariants.{Symbols, Propositions}
 use Rattle.surface.specs.Lexeme.{Word}
 use Rattle.name_resolution.specs.declared.NamingFault.{NamingFault}
-use Rattle.name_resolution.specs.declared.NamingFault.TheVariants.{Duplicate}
-use Rattle.name_resolution.specs.Faults.{first_of, fault_if}
-use Rattle.name_resolution.specs.Where.{Where, place_of}
+use Rattle.name_resolution.specs.Faults.{first_of}
+use Rattle.name_resolution.specs.Where.{Where}
 use Rattle.name_resolution.specs.variables.Seen.{SeenTree, seen}
 use Rattle.open_types.specs.Patterns.{Notes}
 use Rattle.elab_groups.specs.declared.parts.ElabFault.{ElabFault}
@@ -21,6 +19,7 @@ use Rattle.elab_groups.specs.parts.Declarations.{TokenName, InductiveClause, Ind
 use Rattle.elab_groups.specs.parts.Outcomes.{Setting, Outcome, tuples_wanting, declared_in, IsRefusalFor, IsElaboratedAs}
 use Rattle.elab_groups.specs.members.Members.{SignatureTree, member_entries, member_made, inside_group}
 use Rattle.elab_groups.specs.Groups.{most_variables, bodies_pieces, pieces_notes, BodiesSolved}
+use Rattle.elab_declarations.specs.NewNames.{name_made}
 
 -- ---- what is seen: of each predicate its parameters, then its clauses
 abbrev pub clauses_seen : SeenTree → List InductiveClause → SeenTree
@@ -112,12 +111,9 @@ IsInductiveRefusal c ds f = IsRefusalFor c.decl (inductive_group_fault c ds) (mo
 
 -- ---- names that are made, told predicate by predicate: what each table of the scope declared, and the names of both tables that
 -- the group made before
-abbrev pub clause_made : (Word → Bool) → List Word → TokenName → Option NamingFault
-clause_made declared before c = fault_if (declared c.name || is_some (place_of c.name before)) (Duplicate c.at)
-
 abbrev pub clauses_made : (Word → Bool) → List Word → List InductiveClause → Option NamingFault
 clauses_made declared before [] = None
-clauses_made declared before (c ∷ cs) = first_of (clause_made declared before c.called) (clauses_made declared (before ++ c.called.name ∷ []) cs)
+clauses_made declared before (c ∷ cs) = first_of (name_made (declared c.called.name) before c.called) (clauses_made declared (before ++ c.called.name ∷ []) cs)
 
 abbrev pub clause_names : List InductiveClause → List Word
 clause_names cs = map (λ (c : InductiveClause). c.called.name) cs

@@ -1,7 +1,6 @@
 -- Algebraic types: what a group of them makes, and the first fault of its names (Why3 manual, "logical declarations"). The types
 -- of a group see each other.
-use Rattle.std.specs.Prelude.{◌≡◌, ℕ, ◌+◌, Bool, true, ◌||◌, List, [], ◌∷◌, ◌++◌, map, length, Option, None}
-use Rattle.std.specs.Option.{is_some}
+use Rattle.std.specs.Prelude.{◌≡◌, ℕ, ◌+◌, Bool, true, List, [], ◌∷◌, ◌++◌, map, length, Option, None}
 use Rattle.trees.specs.Tree.{Tree}
 use Rattle.tasks.specs.Task.{SymbolTree, ConstructorTree, AlgebraicTree, Constructs}
 use Rattle.tasks.specs.Valid.{own_type}
@@ -17,17 +16,17 @@ use Rattle.surface.specs.SurfaceDeclarations.{constructor_of, algebraic_of}
 use Rattle.surface.specs.Surface as surface
 use Rattle.name_resolution.specs.Abstract.{TypeExpressions, type_expressions, count_forms}
 use Rattle.name_resolution.specs.declared.NamingFault.{NamingFault}
-use Rattle.name_resolution.specs.declared.NamingFault.TheVariants.{Duplicate}
-use Rattle.name_resolution.specs.Faults.{first_of, fault_if}
-use Rattle.name_resolution.specs.Where.{Where, place_of}
+use Rattle.name_resolution.specs.Faults.{first_of}
+use Rattle.name_resolution.specs.Where.{Where}
 use Rattle.name_resolution.specs.variables.Seen.{SeenTree, forms_seen}
 use Rattle.open_types.specs.Patterns.{no_notes}
 use Rattle.open_types.specs.Pieces.{types_at}
 use Rattle.elab_groups.specs.declared.parts.ElabFault.{ElabFault}
 use Rattle.elab_groups.specs.declared.parts.made.Elaborated.{Elaborated}
 use Rattle.elab_groups.specs.parts.Elaborated.{unseen}
-use Rattle.elab_groups.specs.parts.Declarations.{TokenName, AlgebraicConstructor, AlgebraicType, constructor, algebraic_type, words, list_fault, made_type_names, made_fault, with_vars, types_fault}
+use Rattle.elab_groups.specs.parts.Declarations.{AlgebraicConstructor, AlgebraicType, constructor, algebraic_type, words, list_fault, made_type_names, made_fault, with_vars, types_fault}
 use Rattle.elab_groups.specs.parts.Entries.{type_entry, constructor_entries}
+use Rattle.elab_declarations.specs.NewNames.{name_made}
 use Rattle.elab_groups.specs.parts.Outcomes.{Setting, Outcome, over, tuples_wanting, declared_in, IsRefusalFor, IsElaboratedAs}
 
 -- ---- of the trees in code
@@ -151,9 +150,6 @@ abbrev pub IsTypesRefusal : Setting → List AlgebraicType → ElabFault → Typ
 IsTypesRefusal c ts f = IsRefusalFor c.decl (type_group_fault c ts) 0 no_notes f
 
 -- ---- the names that it makes, by those that it made before in each table
-abbrev pub name_made : Bool → List Word → TokenName → Option NamingFault
-name_made declared before c = fault_if (declared || is_some (place_of c.name before)) (Duplicate c.at)
-
 -- a constructor that the scope declared, or that the group made before
 abbrev pub constructors_made : (Word → Bool) → List Word → List AlgebraicConstructor → Option NamingFault
 constructors_made declared before [] = None

@@ -1,18 +1,17 @@
 // The names that inductive predicates and their clauses make, and the first fault of those that they use.
 ghost use Rattle.std.specs.Prelude.{◌≡◌, ◌++◌, ◌∷◌, [], true, List, OnOk};
 ghost use Rattle.tasks.specs.trees.Tree.{Tree};
-ghost use Rattle.name_resolution.specs.scopes.Names.{with_name};
 ghost use Rattle.name_resolution.specs.Naming.{where_at, Tells};
-ghost use Rattle.elab_groups.specs.parts.Declarations.{token_name, clauses_fault, inductives_fault, made_by_inductives, made_fault};
+ghost use Rattle.elab_groups.specs.parts.Declarations.{clauses_fault, inductives_fault, made_by_inductives, made_fault};
 ghost use Rattle.elab_groups.specs.parts.Outcomes.{declared_in};
-ghost use Rattle.elab_declarations.specs.inductive_declarations.Inductives.{with_clauses, with_inductives, clause_names, clause_made, clauses_made, inductive_made, inductives_made};
+ghost use Rattle.elab_declarations.specs.NewNames.{indexed_names};
+ghost use Rattle.elab_declarations.specs.inductive_declarations.Inductives.{with_clauses, with_inductives, clause_names, clauses_made, inductive_made, inductives_made};
 ghost use Rattle.elab_declarations.specs.inductive_declarations.Sources.{predicate_at, predicates_at, clauses_at};
 
+use crate::new_names::declare_new;
 use elab_groups::members::{MemberSource, check_params, declare_member};
-use elab_groups::parts::declare;
-use name_resolution::{
-    Names, NamingFault, Scope, Table, TypeName, World, check, own_name, variable_named,
-};
+use indexmap::IndexSet;
+use name_resolution::{Names, NamingFault, Scope, Table, World, check, own_name};
 use std::alloc::Global;
 use surface::{ClauseTree, IndTree, Style};
 use tasks::Text;
@@ -52,51 +51,25 @@ pub fn check_inductives(
     check_inductives(alloc, world, rest)
 }
 
-// The name of a clause, which neither the scope nor an earlier clause has; it stands for the declaration's number.
-fn declare_clause(
-    scope: &mut Scope,
-    named: &[Text],
-    own: &[u8],
-    token: usize,
-    decl: usize,
-) -> Result<(), NamingFault>
-    ensures ok { OnOk result (scope.new ≡ with_name Table.Propositions own.now (TypeName.Entry decl)
-        true scope.old) }
-    ensures told { Tells result (clause_made (declared_in scope.old Table.Propositions) named.now
-        (token_name token own.now)) }
-{
-    if variable_named(named, own).is_some() {
-        return Err(NamingFault::Duplicate { token });
-    }
-    declare(
-        scope,
-        Table::Propositions,
-        own,
-        TypeName::Entry(decl),
-        token,
-    )
-}
-
 // The names that clauses make; `named` has the names of those before them.
 fn declare_clauses(
     alloc: Global,
     scope: &mut Scope,
-    named: &mut Vec<Text>,
+    named: &mut IndexSet<Vec<u8>>,
     clauses: &[ClauseTree],
     decl: usize,
 ) -> Result<(), NamingFault>
     ensures ok { OnOk result (scope.new ≡ with_clauses decl (clauses_at clauses.now) scope.old) }
-    ensures named { OnOk result (named.new.items ≡ named.old.items ++ clause_names
+    ensures named { OnOk result (indexed_names named.new ≡ indexed_names named.old ++ clause_names
         (clauses_at clauses.now)) }
     ensures told { Tells result (clauses_made (declared_in scope.old Table.Propositions)
-        named.old.items (clauses_at clauses.now)) }
+        (indexed_names named.old) (clauses_at clauses.now)) }
 {
     let Some((first, rest)) = clauses.split_first() else {
         return Ok(());
     };
     let own = own_name(alloc, Style::Plain, first.name.text.as_slice())?;
-    declare_clause(scope, named.as_slice(), own.as_slice(), first.name.at, decl)?;
-    named.push(own)?;
+    declare_new(scope, Table::Propositions, named, own, first.name.at, decl)?;
     declare_clauses(alloc, scope, named, rest, decl)
 }
 
@@ -105,7 +78,7 @@ fn declare_inductive(
     alloc: Global,
     scope: &mut Scope,
     before: &mut Vec<Text>,
-    named: &mut Vec<Text>,
+    named: &mut IndexSet<Vec<u8>>,
     inductive: &IndTree,
     number: usize,
     decl: usize,
@@ -114,11 +87,11 @@ fn declare_inductive(
         (predicate_at inductive.now ∷ []) scope.old) }
     ensures before { OnOk result (before.new.items ≡ before.old.items ++
         (predicate_at inductive.now).called.name ∷ []) }
-    ensures named { OnOk result (named.new.items ≡ named.old.items ++ clause_names
+    ensures named { OnOk result (indexed_names named.new ≡ indexed_names named.old ++ clause_names
         (predicate_at inductive.now).clauses) }
     ensures told { Tells result (inductive_made (declared_in scope.old Table.Symbols)
-        (declared_in scope.old Table.Propositions) before.old.items named.old.items
-        (predicate_at inductive.now)) }
+        (declared_in scope.old Table.Propositions) before.old.items
+        (indexed_names named.old) (predicate_at inductive.now)) }
 {
     let own = own_name(alloc, inductive.name.style, inductive.name.text.as_slice())?;
     let params = inductive.params.as_slice();
@@ -140,7 +113,7 @@ fn declare_inductives(
     alloc: Global,
     scope: &mut Scope,
     before: &mut Vec<Text>,
-    named: &mut Vec<Text>,
+    named: &mut IndexSet<Vec<u8>>,
     inductives: &[IndTree],
     number: usize,
     decl: usize,
@@ -148,8 +121,8 @@ fn declare_inductives(
     ensures ok { OnOk result (scope.new ≡ with_inductives decl number
         (predicates_at inductives.now) scope.old) }
     ensures told { Tells result (inductives_made (declared_in scope.old Table.Symbols)
-        (declared_in scope.old Table.Propositions) before.old.items named.old.items
-        (predicates_at inductives.now)) }
+        (declared_in scope.old Table.Propositions) before.old.items
+        (indexed_names named.old) (predicates_at inductives.now)) }
 {
     let Some((first, rest)) = inductives.split_first() else {
         return Ok(());
@@ -175,7 +148,7 @@ pub fn declare_group(
         (predicates_at inductives.now))) }
 {
     let mut before = Vec::new(alloc);
-    let mut named = Vec::new(alloc);
+    let mut named = IndexSet::new(alloc);
     declare_inductives(
         alloc,
         scope,

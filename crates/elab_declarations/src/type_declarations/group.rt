@@ -16,6 +16,7 @@ use crate::type_declarations::fields::push_types;
 use crate::type_declarations::naming::{Before, declare_types};
 use crate::type_declarations::widths::group_seen;
 use elab_groups::parts::{ElabFault, Elaborated, Place, join_words, naming_fault, push_tuples};
+use indexmap::IndexSet;
 use name_resolution::NamingFault;
 use scopes::{Scope, Seq, Text};
 use std::alloc::{AllocError, Global};
@@ -71,8 +72,8 @@ fn declare_group(
     ensures told { Tells result (group_made scope.old (algebraics_of types.now)) }
 {
     let mut before = Before {
-        types: Vec::new(alloc),
-        constructors: Vec::new(alloc),
+        types: IndexSet::new(alloc),
+        constructors: IndexSet::new(alloc),
     };
     let mut next = number;
     declare_types(alloc, scope, &mut before, symbol, &mut next, types)?;

@@ -4,35 +4,33 @@ ghost use Rattle.scopes.specs.Names.{with_entry};
 ghost use Rattle.name_resolution.specs.Naming.{Tells};
 ghost use Rattle.elab_groups.specs.parts.Declarations.{word, list_fault};
 ghost use Rattle.elab_groups.specs.parts.Outcomes.{declared_in};
-ghost use Rattle.elab_declarations.specs.type_declarations.Algebraics.{constructors_of, algebraics_of, entry_count, group_count, with_constructors, with_types, name_made, constructor_words, constructors_made, types_made};
+ghost use Rattle.elab_declarations.specs.NewNames.{indexed_names, name_made};
+ghost use Rattle.elab_declarations.specs.type_declarations.Algebraics.{constructors_of, algebraics_of, entry_count, group_count, with_constructors, with_types, constructor_words, constructors_made, types_made};
 
-use elab_groups::parts::{declare, find_repeated, gather};
-use name_resolution::{NamingFault, variable_named};
-use scopes::{Scope, Table, Text, TypeName};
-use std::alloc::{AllocError, Global};
+use crate::new_names::declare_new;
+use elab_groups::parts::{find_repeated, gather};
+use indexmap::IndexSet;
+use name_resolution::NamingFault;
+use scopes::{Scope, Table};
+use std::alloc::Global;
 use surface::{AlgTree, ConTree, Name};
 
-// A name that neither the scope nor the group has in a table; `before` has those that the group made before.
+// The name of a type or of a constructor.
 fn declare_name(
-    alloc: Global,
     scope: &mut Scope,
     table: Table,
-    before: &mut Vec<Text>,
+    before: &mut IndexSet<Vec<u8>>,
     name: &Name,
     number: usize,
 ) -> Result<(), NamingFault>
     ensures scope { OnOk result (scope.new ≡ with_entry table name.now.text number true scope.old) }
-    ensures before { OnOk result (before.new.items ≡ before.old.items ++ name.now.text ∷ []) }
+    ensures before { OnOk result (indexed_names before.new ≡ indexed_names before.old
+        ++ name.now.text ∷ []) }
     ensures told { Tells result (name_made (declared_in scope.old table name.now.text)
-        before.old.items (word name.now)) }
+        (indexed_names before.old) (word name.now)) }
 {
-    if variable_named(before.as_slice(), name.text.as_slice()).is_some() {
-        return Err(NamingFault::Duplicate { token: name.at });
-    }
-    let text = Text::from_slice(alloc, name.text.as_slice())?;
-    before.push(text)?;
-    let thing = TypeName::Entry(number);
-    declare(scope, table, name.text.as_slice(), thing, name.at)
+    let own = name.text.clone()?;
+    declare_new(scope, table, before, own, name.at, number)
 }
 
 // The number after a constructor and its projections.
@@ -51,27 +49,26 @@ fn number_behind(number: usize, fields: usize) -> Result<usize, NamingFault>
 
 // The names of constructors, which stand for the entries from a number on.
 fn declare_constructors(
-    alloc: Global,
     scope: &mut Scope,
-    before: &mut Vec<Text>,
+    before: &mut IndexSet<Vec<u8>>,
     number: &mut usize,
     cons: &[ConTree],
 ) -> Result<(), NamingFault>
     ensures scope { OnOk result (scope.new ≡ with_constructors number.old (constructors_of cons.now)
         scope.old) }
-    ensures before { OnOk result (before.new.items ≡ before.old.items ++ constructor_words
-        (constructors_of cons.now)) }
+    ensures before { OnOk result (indexed_names before.new ≡ indexed_names before.old
+        ++ constructor_words (constructors_of cons.now)) }
     ensures number { OnOk result (number.new ≡ number.old + entry_count (constructors_of
         cons.now)) }
     ensures told { Tells result (constructors_made (declared_in scope.old Table.Symbols)
-        before.old.items (constructors_of cons.now)) }
+        (indexed_names before.old) (constructors_of cons.now)) }
 {
     let Some((first, rest)) = cons.split_first() else {
         return Ok(());
     };
-    declare_name(alloc, scope, Table::Symbols, before, &first.name, *number)?;
+    declare_name(scope, Table::Symbols, before, &first.name, *number)?;
     *number = number_behind(*number, first.fields.len())?;
-    declare_constructors(alloc, scope, before, number, rest)
+    declare_constructors(scope, before, number, rest)
 }
 
 // A type variable that occurs twice among those of a type.
@@ -89,8 +86,8 @@ fn check_variables(alloc: Global, vars: &[Name]) -> Result<(), NamingFault>
 /// The names that a group made before.
 #[derive(Drop)]
 pub struct Before {
-    pub types: Vec<Text>,
-    pub constructors: Vec<Text>,
+    pub types: IndexSet<Vec<u8>>,
+    pub constructors: IndexSet<Vec<u8>>,
 }
 
 /// The names of types and of their constructors: the types stand for the entries from a number on, the constructors for those
@@ -107,22 +104,15 @@ pub fn declare_types(
     ensures scope { OnOk result (scope.new ≡ with_types symbol number.old (algebraics_of types.now)
         scope.old) }
     ensures number { OnOk result (number.new ≡ number.old + group_count (algebraics_of types.now)) }
-    ensures told { Tells result (types_made (declared_in scope.old) before.old.types.items
-        before.old.constructors.items (algebraics_of types.now)) }
+    ensures told { Tells result (types_made (declared_in scope.old) (indexed_names before.old.types)
+        (indexed_names before.old.constructors) (algebraics_of types.now)) }
 {
     let Some((first, rest)) = types.split_first() else {
         return Ok(());
     };
-    declare_name(
-        alloc,
-        scope,
-        Table::Types,
-        &mut before.types,
-        &first.name,
-        symbol,
-    )?;
+    declare_name(scope, Table::Types, &mut before.types, &first.name, symbol)?;
     check_variables(alloc, first.vars.as_slice())?;
     let cons = first.cons.as_slice();
-    declare_constructors(alloc, scope, &mut before.constructors, number, cons)?;
+    declare_constructors(scope, &mut before.constructors, number, cons)?;
     declare_types(alloc, scope, before, symbol + 1, number, rest)
 }

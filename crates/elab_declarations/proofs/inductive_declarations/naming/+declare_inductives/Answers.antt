@@ -5,6 +5,7 @@ use Rattle.surface.specs.Lexeme.{Word}
 use Rattle.name_resolution.specs.Naming.{Tells}
 use Rattle.name_resolution.proofs.Told.{of_rest}
 use Rattle.elab_groups.specs.parts.Outcomes.{declared_in}
+use Rattle.elab_declarations.specs.NewNames.{indexed_names}
 use Rattle.elab_declarations.specs.inductive_declarations.Inductives.{with_inductives, clause_names, inductive_made, inductives_made}
 use Rattle.elab_declarations.specs.inductive_declarations.Sources.{predicate_at, predicates_at}
 use Rattle.elab_declarations.proofs.inductive_declarations.InductivesTold.{inductives_next}
@@ -16,10 +17,10 @@ returns-in-Some-checked_add-clause-told t c =
     let i = predicate_at c.in-Some.first.now in
     let is = predicates_at c.in-Some.rest.now in
     let ws = c.args.before.now.items in
-    let vs = c.args.named.now.items in
+    let vs = indexed_names c.args.named.now in
     let scope = c.declare_inductive.new.scope in
     let us = c.declare_inductive.new.before.items in
-    let zs = c.declare_inductive.new.named.items in
+    let zs = indexed_names c.declare_inductive.new.named in
     let after = with_inductives c.args.decl c.args.number (i ∷ []) names in
     let ws1 = ws ++ i.called.name ∷ [] in
     let vs1 = vs ++ clause_names i.clauses in

@@ -11,5 +11,5 @@ pub returns-clause-told : goal.returns-clause-told
 returns-clause-told c =
     let names = c.args.scope.now in
     let ds = predicates_at c.args.inductives.now in
-    let told : Tells c.declare_inductives.result (inductives_made (declared_in names Symbols) (declared_in names Propositions) [] [] ds) = rw (c.new-before.ensures.items, c.new-named.ensures.items) at c.declare_inductives.ensures.told in
+    let told : Tells c.declare_inductives.result (inductives_made (declared_in names Symbols) (declared_in names Propositions) [] [] ds) = rw (c.new-before.ensures.items, c.new-named.ensures.empty) at c.declare_inductives.ensures.told in
     subst (Tells c.declare_inductives.result) (sym (inductives_told names ds)) told

@@ -8,6 +8,7 @@ use Rattle.name_resolution.specs.Naming.{Tells}
 use Rattle.name_resolution.proofs.Told.{of_rest}
 use Rattle.elab_groups.specs.parts.Outcomes.{declared_in}
 use Rattle.elab_groups.specs.members.Members.{member_made}
+use Rattle.elab_declarations.specs.NewNames.{indexed_names}
 use Rattle.elab_declarations.specs.inductive_declarations.Inductives.{clauses_made}
 use Rattle.elab_declarations.specs.inductive_declarations.Sources.{predicate_at, clauses_at}
 use Rattle.elab_declarations.proofs.inductive_declarations.InductivesTold.{clauses_after}
@@ -18,7 +19,7 @@ returns-clause-told c =
     let names = c.args.scope.now in
     let i = predicate_at c.args.inductive.now in
     let ws = c.args.before.now.items in
-    let vs = c.args.named.now.items in
+    let vs = indexed_names c.args.named.now in
     let after = with_name Symbols i.called.name (stands.Entry c.args.number) true names in
     let own : c.in_ok-own.own ≡ i.called.name = rw c.as_slice.ensures at c.in_ok-own.ensures in
     let none : member_made (declared_in names Symbols) ws i.called i.params ≡ None = rw (c.as_slice-2.ensures.value, c.as_slice-3.ensures, c.as_slice-params.ensures, own) at c.in_ok-declare_member.ensures.told in

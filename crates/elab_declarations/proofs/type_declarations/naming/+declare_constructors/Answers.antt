@@ -9,7 +9,8 @@ use Rattle.name_resolution.specs.declared.NamingFault.{NamingFault}
 use Rattle.name_resolution.proofs.Told.{of_rest}
 use Rattle.elab_groups.specs.parts.Declarations.{word}
 use Rattle.elab_groups.specs.parts.Outcomes.{declared_in}
-use Rattle.elab_declarations.specs.type_declarations.Algebraics.{field_expressions, constructors_of, with_constructors, name_made, constructors_made}
+use Rattle.elab_declarations.specs.NewNames.{indexed_names, name_made}
+use Rattle.elab_declarations.specs.type_declarations.Algebraics.{field_expressions, constructors_of, with_constructors, constructors_made}
 use Rattle.elab_declarations.proofs.type_declarations.Counted.{counted_fields}
 use Rattle.elab_declarations.proofs.type_declarations.Declared.{symbol_entered, constructors_same}
 use Rattle.elab_declarations.proofs.type_declarations.naming.+declare_constructors.Goals as goal
@@ -38,10 +39,10 @@ returns-clause-told t c =
     let ks = constructors_of c.in-Some.rest.now in
     let n = c.args.number.now in
     let names = c.args.scope.now in
-    let before = c.args.before.now.items in
+    let before = indexed_names c.args.before.now in
     let named = with_entry Symbols x n true names in
-    let same : constructors_made (declared_in c.declare_name.new.scope Symbols) c.declare_name.new.before.items ks ≡ constructors_made (declared_in names Symbols) (before ++ x ∷ []) ks =
-    ap (λ (ns : ScopeNames). constructors_made (declared_in ns Symbols) c.declare_name.new.before.items ks) c.in_ok-declare_name.ensures.scope
+    let same : constructors_made (declared_in c.declare_name.new.scope Symbols) (indexed_names c.declare_name.new.before) ks ≡ constructors_made (declared_in names Symbols) (before ++ x ∷ []) ks =
+    ap (λ (ns : ScopeNames). constructors_made (declared_in ns Symbols) (indexed_names c.declare_name.new.before) ks) c.in_ok-declare_name.ensures.scope
     ∙ (ap (λ (ws : List Word). constructors_made (declared_in named Symbols) ws ks) c.in_ok-declare_name.ensures.before
     ∙ constructors_same (declared_in names Symbols) (declared_in named Symbols) (before ++ x ∷ []) ks (symbol_entered names x n before)) in
     let told = subst (λ (f : Option NamingFault). Tells c.declare_constructors.result f) same c.declare_constructors.ensures.told in

@@ -10,6 +10,7 @@ use Rattle.name_resolution.specs.declared.NamingFault.{NamingFault}
 use Rattle.name_resolution.proofs.Told.{of_first, of_rest, passed}
 use Rattle.elab_groups.specs.parts.Declarations.{word, algebraic_type, list_fault}
 use Rattle.elab_groups.specs.parts.Outcomes.{declared_in}
+use Rattle.elab_declarations.specs.NewNames.{indexed_names}
 use Rattle.elab_declarations.specs.type_declarations.Algebraics.{constructors_of, algebraics_of, with_constructors, constructors_made, constructor_words, types_made}
 use Rattle.elab_declarations.proofs.type_declarations.Declared.{first_constructors, rest_types}
 use Rattle.elab_declarations.proofs.type_declarations.naming.+declare_types.Goals as goal
@@ -19,8 +20,8 @@ returns-in_err-declare_constructors-clause-told t c =
     let f = c.in_err-declare_constructors.field-0.0 in
     let a = algebraic_type (algebraic_of c.in-Some.first.now) in
     let names = c.args.scope.now in
-    let us = c.args.before.now.types.items in
-    let vs = c.args.before.now.constructors.items in
+    let us = indexed_names c.args.before.now.types in
+    let vs = indexed_names c.args.before.now.constructors in
     let named = with_entry Types a.called.name c.args.symbol true names in
     let list : list_fault [] a.vars ≡ None = ap (λ (ns : List Name). list_fault [] (map word ns)) (sym c.as_slice.ensures) ∙ c.in_ok-check_variables.ensures in
     let same : constructors_made (declared_in c.declare_name.new.scope Symbols) vs (constructors_of c.as_slice-cons.result.now) ≡ constructors_made (declared_in names Symbols) vs a.constructors =
@@ -36,8 +37,8 @@ returns-clause-told t c =
     let names = c.args.scope.now in
     let i = c.args.symbol in
     let n = c.args.number.now in
-    let us = c.args.before.now.types.items in
-    let vs = c.args.before.now.constructors.items in
+    let us = indexed_names c.args.before.now.types in
+    let vs = indexed_names c.args.before.now.constructors in
     let us' = us ++ a.called.name ∷ [] in
     let vs' = vs ++ constructor_words a.constructors in
     let named = with_entry Types a.called.name i true names in
@@ -49,10 +50,10 @@ returns-clause-told t c =
     ∙ (ap (λ ks. constructors_made (declared_in named Symbols) vs ks) cons ∙ first_constructors names us vs a i n) in
     let made : constructors_made (declared_in names Symbols) vs a.constructors ≡ None = sym same ∙ c.in_ok-declare_constructors.ensures.told in
     let scope : c.declare_constructors.new.scope ≡ after = c.in_ok-declare_constructors.ensures.scope ∙ (ap (λ ks. with_constructors n ks c.declare_name.new.scope) cons ∙ ap (with_constructors n a.constructors) c.in_ok-declare_name.ensures.scope) in
-    let words : c.declare_constructors.new.before.items ≡ vs' = c.in_ok-declare_constructors.ensures.before ∙ ap (λ ks. vs ++ constructor_words ks) cons in
-    let rest : types_made (declared_in c.declare_constructors.new.scope) c.declare_name.new.before.items c.declare_constructors.new.before.items ts ≡ types_made (declared_in names) us' vs' ts =
-    ap (λ (ns : ScopeNames). types_made (declared_in ns) c.declare_name.new.before.items c.declare_constructors.new.before.items ts) scope
-    ∙ (ap (λ (ws : List Word). types_made (declared_in after) ws c.declare_constructors.new.before.items ts) c.in_ok-declare_name.ensures.before
+    let words : indexed_names c.declare_constructors.new.before ≡ vs' = c.in_ok-declare_constructors.ensures.before ∙ ap (λ ks. vs ++ constructor_words ks) cons in
+    let rest : types_made (declared_in c.declare_constructors.new.scope) (indexed_names c.declare_name.new.before) (indexed_names c.declare_constructors.new.before) ts ≡ types_made (declared_in names) us' vs' ts =
+    ap (λ (ns : ScopeNames). types_made (declared_in ns) (indexed_names c.declare_name.new.before) (indexed_names c.declare_constructors.new.before) ts) scope
+    ∙ (ap (λ (ws : List Word). types_made (declared_in after) ws (indexed_names c.declare_constructors.new.before) ts) c.in_ok-declare_name.ensures.before
     ∙ (ap (λ (ws : List Word). types_made (declared_in after) us' ws ts) words ∙ rest_types names us vs a i n ts)) in
     let told = subst (λ (g : Option NamingFault). Tells c.declare_types.result g) rest c.declare_types.ensures.told in
     rw c.in-Some.ensures.cases.0 (of_rest c.declare_types.result _ _ c.in_ok-declare_name.ensures.told (of_rest c.declare_types.result _ _ list (of_rest c.declare_types.result _ _ made told)))
