@@ -4,6 +4,6 @@ pub mod Exact
 pub mod Choosing
 pub mod Parameters
 pub mod Learning
-pub mod Members
 pub mod Forms
 pub mod Rows
+pub mod Nodes

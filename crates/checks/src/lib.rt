@@ -6,4 +6,5 @@
 
 pub mod decl_checks;
 pub mod match_cover;
+mod node_tests;
 pub mod recursive_groups;

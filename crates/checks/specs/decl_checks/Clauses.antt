@@ -3,7 +3,7 @@
 use Rattle.std.specs.Prelude.{◌≡◌, ℕ, List, Contains}
 use Rattle.trees.specs.Tree.{Tree, Leaf, One, Two, Three, HPred, HJoin, HForall, HExists}
 use Rattle.trees.specs.declared.Op.TheVariants.{And, AndThen, Or, OrElse, Imp}
-use Rattle.trees.specs.Facts.{TyVarsBelow}
+use Rattle.trees.specs.Facts.{TyVarsBelow, leaf_below}
 use Rattle.tasks.specs.Clauses.{TwoFree, IsFree}
 
 -- what comes after the quantifiers of a clause
@@ -32,6 +32,11 @@ StandAtTypes group types (Leaf h) = Unit {0}
 StandAtTypes group types (One h a) = StandAtTypes group types a
 StandAtTypes group types (Two h a b) = TopStandsAtTypes group types (Two h a b) × StandAtTypes group types a × StandAtTypes group types b
 StandAtTypes group types (Three h a b c) = StandAtTypes group types a × StandAtTypes group types b × StandAtTypes group types c
+
+-- a predicate of the group at the top of a tree is at these types, and a type variable there is below the number
+abbrev pub TopHasOwnTypes : List ℕ → Tree → ℕ → Tree → Type 0
+TopHasOwnTypes group types vars (Leaf h) = leaf_below h vars
+TopHasOwnTypes group types vars e = TopStandsAtTypes group types e
 
 -- The conclusion is of the clause's own predicate; this one and the others of the group are at its type variables in order, and
 -- no other type variable occurs.

@@ -1,5 +1,5 @@
 -- Recursive groups of definitions: a body of one of them uses a member.
-use Rattle.std.specs.Prelude.{ℕ, ◌==◌, Bool, false, ◌||◌, List}
+use Rattle.std.specs.Prelude.{◌≡◌, ℕ, ◌==◌, Bool, false, ◌||◌, List}
 use Rattle.std.specs.List.{list_any}
 use Rattle.trees.specs.Tree.{Tree, Leaf, One, Two, Three, HPred, HFun}
 use Rattle.tasks.specs.Task.{DefinitionTree}
@@ -10,6 +10,10 @@ abbrev pub top_uses : List ℕ → Tree → Bool
 top_uses group (Two (HPred p) a b) = list_any (λ j. j == p) group
 top_uses group (Three (HFun f) a b c) = list_any (λ j. j == f) group
 top_uses group _ = false
+
+-- none of them is used there
+abbrev pub TopLacks : List ℕ → Tree → Type 0
+TopLacks group e = top_uses group e ≡ false
 
 -- whether one of them is used in it
 abbrev pub uses : List ℕ → Tree → Bool

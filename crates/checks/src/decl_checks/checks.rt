@@ -10,8 +10,9 @@ ghost use Rattle.checks.specs.decl_checks.Meaning.{clause_at, own_clauses_at, Cl
 
 use crate::decl_checks::CheckFault;
 use crate::decl_checks::clauses::{has_form, is_positive_clause};
-use crate::decl_checks::structure::{choices, is_recursive, is_structural};
+use crate::decl_checks::structure::{choices, is_structural};
 use crate::decl_checks::values::are_inhabited;
+use crate::recursive_groups::is_recursive_by_number;
 use std::alloc::{AllocError, Global};
 use tasks::{Alg, Body, Decl, Def, Ind, Signature};
 use trees::TermId;
@@ -78,6 +79,7 @@ fn vars_of(store: &Store, sig: &Signature, symbol: usize) -> usize
 
 // Whether a clause of a predicate passes: its form, or where the group is in it.
 fn passes(
+    alloc: Global,
     store: &Store,
     sig: &Signature,
     group: &[usize],
@@ -90,14 +92,22 @@ fn passes(
         (clause_at store.now (symbol, clause)) }
 {
     if positive {
-        is_positive_clause(store, group, clause)
+        is_positive_clause(alloc, store, group, clause)
     } else {
-        has_form(store, group, symbol, vars_of(store, sig, symbol), clause)
+        has_form(
+            alloc,
+            store,
+            group,
+            symbol,
+            vars_of(store, sig, symbol),
+            clause,
+        )
     }
 }
 
 // The place of the first clause that does not pass.
 fn first_without(
+    alloc: Global,
     store: &Store,
     sig: &Signature,
     group: &[usize],
@@ -113,11 +123,11 @@ fn first_without(
 {
     match clauses.split_first() {
         Some((first, rest)) => {
-            if !passes(store, sig, group, positive, first.0, first.1) {
+            if !passes(alloc, store, sig, group, positive, first.0, first.1) {
                 return Some(0);
             }
             let count = clauses.len();
-            match first_without(store, sig, group, positive, rest) {
+            match first_without(alloc, store, sig, group, positive, rest) {
                 Some(place) => {
                     prove!(place < count);
                     Some(place + 1)
@@ -145,6 +155,7 @@ fn push_group(store: &Store, inductives: &[Ind], out: &mut Vec<usize>) -> Result
 
 // The check of the clauses of a group: all have their form, then all are positive.
 fn check_listed(
+    alloc: Global,
     store: &Store,
     sig: &Signature,
     group: &[usize],
@@ -154,10 +165,10 @@ fn check_listed(
     ensures { ClausesAnswer (symbols_at store.now sig.now.symbols) group.now
         (own_clauses_at store.now clauses.now) result }
 {
-    if let Some(clause) = first_without(store, sig, group, false, clauses) {
+    if let Some(clause) = first_without(alloc, store, sig, group, false, clauses) {
         return Err(CheckFault::BadClause { clause });
     }
-    if let Some(clause) = first_without(store, sig, group, true, clauses) {
+    if let Some(clause) = first_without(alloc, store, sig, group, true, clauses) {
         return Err(CheckFault::NotPositive { clause });
     }
     Ok(())
@@ -178,7 +189,7 @@ fn check_clauses(
     push_group(store, inductives, &mut group)?;
     let mut clauses = Vec::new(alloc);
     push_all(store, inductives, &mut clauses)?;
-    check_listed(store, sig, group.as_slice(), clauses.as_slice())
+    check_listed(alloc, store, sig, group.as_slice(), clauses.as_slice())
 }
 
 // The check of a group of definitions: not too many choices of arguments, then one at which it is structural.
@@ -192,7 +203,7 @@ fn check_definitions(
     ensures { IsAnswerTo (symbols_at store.now sig.now.symbols)
         (Defines (definitions_at store.now defs.now)) result }
 {
-    if !is_recursive(store, defs) {
+    if !is_recursive_by_number(alloc, store, defs) {
         return Ok(());
     }
     let count = choices(store, sig, defs);

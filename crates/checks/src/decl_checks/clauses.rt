@@ -1,16 +1,17 @@
 // The clauses of inductive predicates: their form, and where the predicates of their group stand.
 // They depend on the store; the checks of declarations depend on them.
-ghost use Rattle.std.specs.Prelude.{◌≡◌, ◌↔◌, IsTrue, Contains, length};
-ghost use Rattle.trees.specs.Node.{tree_at, node_tree, head_of_node, parts_of, Holds, AreBelow};
-ghost use Rattle.trees.specs.Facts.{leaf_below, TyVarsBelow};
+ghost use Rattle.std.specs.Prelude.{◌≡◌, ◌↔◌, IsTrue, Contains};
+ghost use Rattle.trees.specs.Node.{tree_at, Holds};
 ghost use Rattle.tasks.specs.Clauses.{IsFree};
 ghost use Rattle.tasks.specs.Equations.{cells, type_variables};
 ghost use Rattle.checks.specs.decl_checks.Values.{is_member};
-ghost use Rattle.checks.specs.decl_checks.Clauses.{rule, conclusion, IsOfPredicate, TopStandsAtTypes, StandAtTypes, HasClauseForm, TopIsFree, IsPositive, ArePositive, IsPositiveClause};
+ghost use Rattle.checks.specs.decl_checks.Clauses.{rule, conclusion, IsOfPredicate, TopHasOwnTypes, HasClauseForm, TopIsFree, IsPositive, ArePositive, IsPositiveClause};
 
 use crate::match_cover::are_own_variables;
+use crate::node_tests::{NodeTest, each_passes};
+use std::alloc::Global;
 use trees::store::Store;
-use trees::{Node, Op, Parts, TermId};
+use trees::{Node, Op, TermId};
 
 // Whether a number is in a list.
 #[tactic(auto, using(tasks::proofs::Declared::any_iff))]
@@ -21,97 +22,51 @@ pub(crate) fn is_among(numbers: &[usize], number: usize) -> bool
     numbers.iter().any(|n| *n == number)
 }
 
-// Whether a node without children, if it is a type variable, is below a number.
-fn leaf_is_below(node: Node, vars: usize) -> bool
-    ensures { IsTrue result ↔ leaf_below (head_of_node node) vars }
-{
-    match node {
-        Node::TyVar(number) => number < vars,
-        _ => true,
-    }
+// The predicates of a group stand at so many type variables, in order, and no other type variable occurs.
+#[derive(Drop)]
+struct OwnTypes<'a> {
+    group: &'a [usize],
+    vars: usize,
 }
 
-// Whether each schematic type variable is below a number.
-fn are_below(store: &Store, vars: usize, e: TermId) -> bool
-    requires { Holds store.now e }
-    ensures { IsTrue result ↔ TyVarsBelow vars (tree_at store.now e) }
-{
-    let node = store.node(e);
-    match node.parts() {
-        Parts::None => leaf_is_below(node, vars),
-        Parts::One(a) => are_below(store, vars, a),
-        Parts::Two(a, b) => are_below(store, vars, a) && are_below(store, vars, b),
-        Parts::Three(a, b, c) => {
-            are_below(store, vars, a) && are_below(store, vars, b) && are_below(store, vars, c)
+impl<'a> NodeTest for OwnTypes<'a> {
+    ghost Passes = { λ v s. TopHasOwnTypes v.group.now (cells (type_variables 0 v.vars)) v.vars };
+
+    fn passes(&self, store: &Store, node: Node) -> bool {
+        match node {
+            Node::TyVar(number) => number < self.vars,
+            Node::Pred(symbol, a, _) => {
+                !is_among(self.group, symbol) || are_own_variables(store, a, self.vars)
+            }
+            _ => true,
         }
     }
 }
 
-// Whether a predicate of a group at the top of a tree is at so many type variables, in order.
-fn top_stands(store: &Store, group: &[usize], vars: usize, node: Node) -> bool
-    requires { AreBelow (length store.now) (parts_of node) }
-    ensures { IsTrue result
-        ↔ TopStandsAtTypes group.now (cells (type_variables 0 vars)) (node_tree store.now node) }
-{
-    let Node::Pred(symbol, a, _) = node else {
-        return true;
-    };
-    if !is_among(group, symbol) {
-        return true;
-    }
-    are_own_variables(store, a, vars)
+// No predicate of a group.
+#[derive(Drop)]
+struct Free<'a> {
+    group: &'a [usize],
 }
 
-// Whether each predicate of a group is at so many type variables, in order.
-fn stands_at(store: &Store, group: &[usize], vars: usize, e: TermId) -> bool
-    requires { Holds store.now e }
-    ensures { IsTrue result
-        ↔ StandAtTypes group.now (cells (type_variables 0 vars)) (tree_at store.now e) }
-{
-    let node = store.node(e);
-    if !top_stands(store, group, vars, node) {
-        return false;
-    }
-    match node.parts() {
-        Parts::None => true,
-        Parts::One(a) => stands_at(store, group, vars, a),
-        Parts::Two(a, b) => stands_at(store, group, vars, a) && stands_at(store, group, vars, b),
-        Parts::Three(a, b, c) => {
-            stands_at(store, group, vars, a)
-                && stands_at(store, group, vars, b)
-                && stands_at(store, group, vars, c)
+impl<'a> NodeTest for Free<'a> {
+    ghost Passes = { λ v s. TopIsFree v.group.now };
+
+    fn passes(&self, store: &Store, node: Node) -> bool {
+        let _ = store;
+        match node {
+            Node::Pred(symbol, _, _) => !is_among(self.group, symbol),
+            _ => true,
         }
-    }
-}
-
-// Whether no predicate of a group is at the top of a tree.
-fn top_is_free(store: &Store, group: &[usize], node: Node) -> bool
-    ensures { IsTrue result ↔ TopIsFree group.now (node_tree store.now node) }
-{
-    let _ = store;
-    match node {
-        Node::Pred(symbol, _, _) => !is_among(group, symbol),
-        _ => true,
     }
 }
 
 // Whether no predicate of a group is in a tree.
-fn is_free(store: &Store, group: &[usize], e: TermId) -> bool
+fn is_free(alloc: Global, store: &Store, group: &[usize], e: TermId) -> bool
     requires { Holds store.now e }
     ensures { IsTrue result ↔ IsFree group.now (tree_at store.now e) }
 {
-    let node = store.node(e);
-    if !top_is_free(store, group, node) {
-        return false;
-    }
-    match node.parts() {
-        Parts::None => true,
-        Parts::One(a) => is_free(store, group, a),
-        Parts::Two(a, b) => is_free(store, group, a) && is_free(store, group, b),
-        Parts::Three(a, b, c) => {
-            is_free(store, group, a) && is_free(store, group, b) && is_free(store, group, c)
-        }
-    }
+    each_passes(alloc, store, &Free { group }, e)
 }
 
 // What comes after the quantifiers of a clause.
@@ -152,6 +107,7 @@ fn is_of_predicate(store: &Store, symbol: usize, vars: usize, e: TermId) -> bool
 
 /// Whether a clause of a predicate has its form and type variables.
 pub(crate) fn has_form(
+    alloc: Global,
     store: &Store,
     group: &[usize],
     symbol: usize,
@@ -164,47 +120,51 @@ pub(crate) fn has_form(
 {
     let last = conclusion(store, rule(store, clause));
     is_of_predicate(store, symbol, vars, last)
-        && stands_at(store, group, vars, clause)
-        && are_below(store, vars, clause)
+        && each_passes(alloc, store, &OwnTypes { group, vars }, clause)
 }
 
 // Whether the predicates of a group are in a formula in positive places only.
-fn is_positive(store: &Store, group: &[usize], e: TermId) -> bool
+fn is_positive(alloc: Global, store: &Store, group: &[usize], e: TermId) -> bool
     requires { Holds store.now e }
     ensures { IsTrue result ↔ IsPositive group.now (tree_at store.now e) }
 {
     match store.node(e) {
-        Node::Pred(_, _, b) => is_free(store, group, b),
+        Node::Pred(_, _, b) => is_free(alloc, store, group, b),
         Node::Join(op, a, b) => match op {
             Op::And | Op::AndThen | Op::Or | Op::OrElse => {
-                is_positive(store, group, a) && is_positive(store, group, b)
+                is_positive(alloc, store, group, a) && is_positive(alloc, store, group, b)
             }
-            Op::Imp => is_free(store, group, a) && is_positive(store, group, b),
-            Op::Iff => is_free(store, group, a) && is_free(store, group, b),
+            Op::Imp => is_free(alloc, store, group, a) && is_positive(alloc, store, group, b),
+            Op::Iff => is_free(alloc, store, group, a) && is_free(alloc, store, group, b),
         },
-        Node::Forall(_, b) | Node::Exists(_, b) => is_positive(store, group, b),
-        _ => is_free(store, group, e),
+        Node::Forall(_, b) | Node::Exists(_, b) => is_positive(alloc, store, group, b),
+        _ => is_free(alloc, store, group, e),
     }
 }
 
 // Whether the predicates of a group are in positive places of the premises, and not in the arguments of the conclusion.
-fn are_positive(store: &Store, group: &[usize], e: TermId) -> bool
+fn are_positive(alloc: Global, store: &Store, group: &[usize], e: TermId) -> bool
     requires { Holds store.now e }
     ensures { IsTrue result ↔ ArePositive group.now (tree_at store.now e) }
 {
     match store.node(e) {
         Node::Join(Op::Imp, a, b) => {
-            is_positive(store, group, a) && are_positive(store, group, b)
+            is_positive(alloc, store, group, a) && are_positive(alloc, store, group, b)
         }
-        Node::Pred(_, _, b) => is_free(store, group, b),
-        _ => is_free(store, group, e),
+        Node::Pred(_, _, b) => is_free(alloc, store, group, b),
+        _ => is_free(alloc, store, group, e),
     }
 }
 
 /// Whether the predicates of a group are in a clause where they may.
-pub(crate) fn is_positive_clause(store: &Store, group: &[usize], clause: TermId) -> bool
+pub(crate) fn is_positive_clause(
+    alloc: Global,
+    store: &Store,
+    group: &[usize],
+    clause: TermId,
+) -> bool
     requires { Holds store.now clause }
     ensures { IsTrue result ↔ IsPositiveClause group.now (tree_at store.now clause) }
 {
-    are_positive(store, group, rule(store, clause))
+    are_positive(alloc, store, group, rule(store, clause))
 }

@@ -3,14 +3,15 @@
 ghost use Rattle.std.specs.Prelude.{◌≡◌, ◌↔◌, ◌*◌, ◌<◌, ◌++◌, IsTrue, All, Contains, min, length, IfOk, OnOk};
 ghost use Rattle.trees.specs.Node.{tree_at, node_tree, parts_of, Holds, AreBelow};
 ghost use Rattle.tasks.specs.Meaning.{symbols_at, definition_at, definitions_at};
-ghost use Rattle.checks.specs.decl_checks.Structure.{PassesInside, UsePasses, TopPasses, UsesPassInside, defining_body, symbol_arity, OnePasses, AllPass, IsStructural, defined, TopUses, Uses, SomeUses, IsRecursive, choices, choice_of, PassesAt};
+ghost use Rattle.checks.specs.decl_checks.Structure.{PassesInside, UsePasses, TopPasses, UsesPassInside, symbol_arity, OnePasses, AllPass, IsStructural, choices, choice_of, PassesAt};
 ghost use Rattle.checks.specs.decl_checks.Meaning.{standings_at, StandingsHeld, DefinitionHeld};
 
 use crate::decl_checks::standing::{Known, Standing, standing_of};
+use crate::recursive_groups::defining_body;
 use std::alloc::{AllocError, Global};
 use tasks::{Def, Signature};
 use trees::store::Store;
-use trees::{Node, Op, Parts, TermId};
+use trees::{Node, Parts, TermId};
 
 // Whether the argument at a place of a list is strictly inside.
 fn passes_inside(
@@ -158,20 +159,6 @@ fn passes<'a>(
     }
 }
 
-// The body of an equation.
-fn defining_body(store: &Store, equation: TermId) -> TermId
-    requires { Holds store.now equation }
-    ensures tree { tree_at store.now result ≡ defining_body (tree_at store.now equation) }
-    ensures held { Holds store.now result }
-{
-    match store.node(equation) {
-        Node::Forall(_, b) => defining_body(store, b),
-        Node::Eq(_, b) => b,
-        Node::Join(Op::Iff, _, b) => b,
-        _ => equation,
-    }
-}
-
 // The number of a symbol's arguments.
 fn arity_of(store: &Store, sig: &Signature, symbol: usize) -> usize
     ensures { result ≡ symbol_arity (symbols_at store.now sig.now.symbols) symbol }
@@ -312,76 +299,4 @@ pub(crate) fn choices(store: &Store, sig: &Signature, defs: &[Def]) -> usize
         }
         None => 1,
     }
-}
-
-// Whether a symbol is defined in a group.
-#[tactic(auto, using(crate::proofs::decl_checks::Members::found_first))]
-fn defines(store: &Store, group: &[Def], symbol: usize) -> bool
-    ensures { IsTrue result ↔ Contains (defined (definitions_at store.now group.now)) symbol }
-{
-    match group.split_first() {
-        Some((first, rest)) => {
-            if first.symbol == symbol {
-                return true;
-            }
-            defines(store, rest, symbol)
-        }
-        None => false,
-    }
-}
-
-// Whether a member of a group is used at the top of a tree.
-fn top_uses(store: &Store, group: &[Def], node: Node) -> bool
-    ensures { IsTrue result
-        ↔ TopUses (defined (definitions_at store.now group.now)) (node_tree store.now node) }
-{
-    match node {
-        Node::Pred(symbol, _, _) => defines(store, group, symbol),
-        Node::Fun(symbol, _, _, _) => defines(store, group, symbol),
-        _ => false,
-    }
-}
-
-// Whether a member of a group is used in a tree.
-#[tactic(auto, using(crate::proofs::decl_checks::Members::top_used))]
-fn uses(store: &Store, group: &[Def], e: TermId) -> bool
-    requires { Holds store.now e }
-    ensures { IsTrue result
-        ↔ Uses (defined (definitions_at store.now group.now)) (tree_at store.now e) }
-{
-    let node = store.node(e);
-    if top_uses(store, group, node) {
-        return true;
-    }
-    match node.parts() {
-        Parts::None => false,
-        Parts::One(a) => uses(store, group, a),
-        Parts::Two(a, b) => uses(store, group, a) || uses(store, group, b),
-        Parts::Three(a, b, c) => {
-            uses(store, group, a) || uses(store, group, b) || uses(store, group, c)
-        }
-    }
-}
-
-// Whether some body uses a member of a group.
-fn some_uses(store: &Store, group: &[Def], defs: &[Def]) -> bool
-    requires { All (DefinitionHeld store.now) defs.now }
-    ensures { IsTrue result ↔ SomeUses (defined (definitions_at store.now group.now))
-        (definitions_at store.now defs.now) }
-{
-    match defs.split_first() {
-        Some((first, rest)) => {
-            uses(store, group, defining_body(store, first.equation))
-                || some_uses(store, group, rest)
-        }
-        None => false,
-    }
-}
-
-/// Whether some body of a group of definitions uses a member.
-pub(crate) fn is_recursive(store: &Store, defs: &[Def]) -> bool
-    requires { All (DefinitionHeld store.now) defs.now }
-    ensures { IsTrue result ↔ IsRecursive (definitions_at store.now defs.now) }
-{
-    some_uses(store, defs, defs)
 }
