@@ -2,8 +2,9 @@ pub mod Firsts
 pub mod Saturated
 pub mod Exact
 pub mod Choosing
-pub mod Parameters
 pub mod Learning
 pub mod Forms
 pub mod Rows
 pub mod Nodes
+pub mod Above
+pub mod Parameters

@@ -3,3 +3,4 @@ pub mod Structure
 pub mod Values
 pub mod Checks
 pub mod Meaning
+pub mod Kept

@@ -1,13 +1,10 @@
--- Entries that a signature lacks, tuples that are written out, and the variables of patterns.
-use Rattle.std.proofs.Common.{◌≡◌, ℕ, zero, suc, ◌+◌, ◌==◌, Bool, true, false, ◌&&◌, if◌then◌else◌, List, [], ◌∷◌, ◌++◌, length, map, slice_get, get_or, Some, None, refl, sym, ap, ◌∙◌, arith}
-use Rattle.std.proofs.lemmas.Bool.Decides.{nat_tests}
+-- Entries that a signature lacks, tuples that are written out, and the parts of patterns.
+use Rattle.std.proofs.Common.{◌≡◌, ℕ, zero, suc, ◌==◌, Bool, true, false, ◌&&◌, if◌then◌else◌, List, [], ◌∷◌, slice_get, Some, None, refl, ap}
 use Rattle.trees.specs.Tree.{Tree, Three, HFun, HPatCon}
 use Rattle.tasks.specs.Task.{SymbolTree, int_symbol, symbol_or}
 use Rattle.tasks.specs.Meaning.{symbol_at, symbols_at}
 use Rattle.tasks.specs.declared.signature.SymbolInfo.{SymbolInfo}
-use Rattle.checks.specs.declared.decl_checks.standing.Standing.{Standing}
-use Rattle.checks.specs.declared.decl_checks.standing.Standing.TheVariants.{Other}
-use Rattle.checks.specs.decl_checks.Structure.{bound_index, standing_by, standing, through, is_tuple_constructor, components, parts_bound, bound_to, stands}
+use Rattle.checks.specs.decl_checks.Structure.{is_tuple_constructor, components, parts_bound, bound_to}
 use Rattle.trees.specs.laws.Indices.{eqb_true as same_number, eqb_other as other_number}
 
 -- ---- an entry that isn't there
@@ -58,21 +55,3 @@ module _ (symbols : List SymbolTree) (inside : Bool) (e : Tree) (c : ℕ) (types
 
   pub by_constructor : components symbols inside c e ≡ None → bound_to symbols inside e (Three (HPatCon c) types parts type) ≡ bound_to symbols true e parts
   by_constructor q = ap (λ o. parts_bound o (λ under t. bound_to symbols under t parts) e) q
-
-module _ (known : List Standing) where
-  pub learned_found : (xs : List (Bool × Tree)) (ys : List Standing) (k : ℕ) (inside : Bool) (t : Tree) → slice_get xs k ≡ Some (inside, t)
-      → get_or (map (stands known) xs ++ ys) k Other ≡ through inside (standing known t)
-  learned_found [] ys k inside t e = absurd (cc)
-  learned_found (x ∷ xs) ys zero inside t e = let q : x ≡ (inside, t) = cc in ap (stands known) q
-  learned_found (x ∷ xs) ys (suc k) inside t e = learned_found xs ys k inside t e
-
-  pub learned_other : (xs : List (Bool × Tree)) (ys : List Standing) (k : ℕ) (inside : Bool) (t : Tree) → slice_get xs k ≡ Some (inside, t)
-      → bound_index t ≡ None → get_or (map (stands known) xs ++ ys) k Other ≡ Other
-  learned_other xs ys k true t e n = learned_found xs ys k true t e ∙ ap (λ o. through true (standing_by known o)) n
-  learned_other xs ys k false t e n = learned_found xs ys k false t e ∙ ap (standing_by known) n
-
-  pub learned_past : (xs : List (Bool × Tree)) (ys : List Standing) (k left : ℕ) → length xs + left ≡ k
-      → get_or (map (stands known) xs ++ ys) k Other ≡ get_or ys left Other
-  learned_past [] ys k left e = let q : left ≡ k = omega (arith, e) in ap (λ n. get_or ys n Other) (sym q)
-  learned_past (x ∷ xs) ys zero left e = absurd (omega (arith, e))
-  learned_past (x ∷ xs) ys (suc k) left e = learned_past xs ys k left (omega (arith, e))

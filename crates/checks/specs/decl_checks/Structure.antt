@@ -106,6 +106,11 @@ bound_standings symbols known e HLet a = Other ∷ []
 bound_standings symbols known e HArm a = learned symbols known e a
 bound_standings symbols known e _ a = []
 
+-- how variables stand in the second child of a tree, where the branches around are of a match on a term
+abbrev pub standings_in : List SymbolTree → List Standing → Tree → Tree → List Standing
+standings_in symbols known e (Two h a b) = bound_standings symbols known e h a ++ known
+standings_in symbols known e _ = known
+
 -- the term that the branches in an operator's second child are matched with
 abbrev pub matched_in : Tree → Head → Tree → Tree
 matched_in e HCase a = a

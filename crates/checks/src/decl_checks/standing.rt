@@ -1,14 +1,15 @@
-// How variables stand to the argument that a use has to make smaller, without memory.
+// How variables stand to the argument that a use has to make smaller.
 // They depend on tasks; structural recursion depends on them.
-ghost use Rattle.std.specs.Prelude.{◌≡◌, List, get_or, IfSome};
+ghost use Rattle.std.specs.Prelude.{◌≡◌, ◌==◌, if◌then◌else◌, ◌++◌, List, IsTrue, length, map, IfSome, IfOk, OnOk};
 ghost use Rattle.std.specs.Option.{option_map};
 ghost use Rattle.trees.specs.Tree.{Tree};
-ghost use Rattle.trees.specs.Node.{tree_at, Holds};
+ghost use Rattle.trees.specs.Node.{tree_at, node_tree, parts_of, Holds, AreBelow};
 ghost use Rattle.tasks.specs.Task.{symbol_or};
 ghost use Rattle.tasks.specs.Meaning.{symbol_at, symbols_at};
-ghost use Rattle.checks.specs.decl_checks.Structure.{parameter_standings, bound_index, standing, through, is_tuple_constructor, components, list_head, list_tail, bound_to};
-ghost use Rattle.checks.specs.decl_checks.Meaning.{standings_at, StandingsHeld, IsBoundAt};
+ghost use Rattle.checks.specs.decl_checks.Structure.{parameter_standings, bound_index, standing, through, is_tuple_constructor, components, list_head, list_tail, bound_to, stands, standings_in};
+ghost use Rattle.checks.specs.decl_checks.Kept.{IsAtLeast, IsAbove, lesser, lessers};
 
+use std::alloc::{AllocError, Global};
 use tasks::{Signature, SymbolInfo, SymbolKind};
 use trees::store::Store;
 use trees::{Node, TermId};
@@ -19,22 +20,6 @@ pub(crate) enum Standing {
     Other,
     Whole,
     Inside,
-}
-
-/// The variables around a tree, innermost first: the parameters of a definition, so many, of which one is the argument; a
-/// variable that is none of it; or those of a pattern that is matched with a term.
-#[derive(Clone, Copy)]
-pub(crate) enum Known<'a> {
-    Parameters(usize, usize),
-    Plain(&'a Known<'a>),
-    Matched(TermId, TermId, &'a Known<'a>),
-}
-
-// The term that a variable of a pattern is, or (true) inside of which it is; or how far a place is past the pattern's variables.
-#[derive(Clone, Copy)]
-enum BoundTo {
-    Found(bool, TermId),
-    Past(usize),
 }
 
 // Whether an entry is a constructor of tuples.
@@ -105,48 +90,6 @@ fn other_members(store: &Store, list: TermId) -> TermId
     }
 }
 
-// What the variable at a place of a pattern, counted from the last one, is bound to where the pattern is matched with a term.
-#[tactic(auto, using(crate::proofs::decl_checks::Learning::by_parts, crate::proofs::decl_checks::Learning::by_constructor))]
-fn bound_at(
-    store: &Store,
-    sig: &Signature,
-    inside: bool,
-    e: TermId,
-    pattern: TermId,
-    place: usize,
-) -> BoundTo
-    requires e_held { Holds store.now e }
-    requires held { Holds store.now pattern }
-    ensures { IsBoundAt store.now (bound_to (symbols_at store.now sig.now.symbols) inside
-        (tree_at store.now e) (tree_at store.now pattern)) place result }
-{
-    match store.node(pattern) {
-        Node::PatVar(_) => {
-            if place == 0 {
-                BoundTo::Found(inside, e)
-            } else {
-                BoundTo::Past(place - 1)
-            }
-        }
-        Node::PatAlias(a) => {
-            if place == 0 {
-                BoundTo::Found(inside, e)
-            } else {
-                bound_at(store, sig, inside, e, a, place - 1)
-            }
-        }
-        Node::Cell(a, b) => match bound_at(store, sig, inside, other_members(store, e), b, place) {
-            BoundTo::Found(under, t) => BoundTo::Found(under, t),
-            BoundTo::Past(left) => bound_at(store, sig, inside, first_member(store, e), a, left),
-        },
-        Node::PatCon(con, _, parts, _) => match components(store, sig, inside, con, e) {
-            Some(args) => bound_at(store, sig, false, args, parts, place),
-            None => bound_at(store, sig, true, e, parts, place),
-        },
-        _ => BoundTo::Past(place),
-    }
-}
-
 // The number of binders between a variable and its own.
 fn bound_index(store: &Store, e: TermId) -> Option<usize>
     requires { Holds store.now e }
@@ -156,20 +99,6 @@ fn bound_index(store: &Store, e: TermId) -> Option<usize>
         Node::Bound(index, _) => Some(index),
         _ => None,
     }
-}
-
-// How a parameter stands, counted from the last one.
-#[tactic(auto, using(crate::proofs::decl_checks::Parameters::parameter_is, crate::proofs::decl_checks::Parameters::parameter_other, crate::proofs::decl_checks::Parameters::parameter_past))]
-fn parameter_at(count: usize, place: usize, index: usize) -> Standing
-    ensures { result ≡ get_or (parameter_standings count place) index Standing.Other }
-{
-    if index >= count {
-        return Standing::Other;
-    }
-    if count - 1 - index == place {
-        return Standing::Whole;
-    }
-    Standing::Other
 }
 
 // How what is inside something stands, or (false) the thing itself.
@@ -185,44 +114,179 @@ fn standing_through(inside: bool, standing: Standing) -> Standing
     }
 }
 
-// How the variable of so many binders up stands.
-#[tactic(auto, using(crate::proofs::decl_checks::Learning::learned_found, crate::proofs::decl_checks::Learning::learned_other, crate::proofs::decl_checks::Learning::learned_past))]
-fn standing_at(store: &Store, sig: &Signature, known: &Known<'_>, index: usize) -> Standing
-    requires { StandingsHeld store.now known.now }
-    ensures { result ≡ get_or (standings_at (symbols_at store.now sig.now.symbols) store.now
-        known.now)
-        index Standing.Other }
+/// How a term stands, under variables that stand so, innermost first.
+pub(crate) fn standing_of(store: &Store, known: &[Standing], e: TermId) -> Standing
+    requires { Holds store.now e }
+    ensures { result ≡ standing known.now (tree_at store.now e) }
 {
-    match known {
-        Known::Parameters(count, place) => parameter_at(*count, *place, index),
-        Known::Plain(outer) => {
-            if index == 0 {
-                Standing::Other
-            } else {
-                standing_at(store, sig, outer, index - 1)
-            }
-        }
-        Known::Matched(e, pattern, outer) => match bound_at(
-            store, sig, false, *e, *pattern, index,
-        ) {
-            BoundTo::Found(inside, t) => match bound_index(store, t) {
-                Some(up) => standing_through(inside, standing_at(store, sig, outer, up)),
-                None => Standing::Other,
-            },
-            BoundTo::Past(left) => standing_at(store, sig, outer, left),
+    match bound_index(store, e) {
+        Some(index) => match known.get(index) {
+            Some(found) => *found,
+            None => Standing::Other,
         },
+        None => Standing::Other,
     }
 }
 
-/// How a term stands.
-pub(crate) fn standing_of(store: &Store, sig: &Signature, known: &Known<'_>, e: TermId) -> Standing
-    requires known_held { StandingsHeld store.now known.now }
-    requires held { Holds store.now e }
-    ensures { result ≡ standing (standings_at (symbols_at store.now sig.now.symbols)
-        store.now known.now) (tree_at store.now e) }
+// How the parameter of a number stands, where the one of a place is the argument.
+#[tactic(auto, using(crate::proofs::decl_checks::Parameters::is_whole, crate::proofs::decl_checks::Parameters::is_other))]
+fn parameter(number: usize, place: usize) -> Standing
+    ensures { result ≡ (if number == place then Standing.Whole else Standing.Other) }
 {
-    match bound_index(store, e) {
-        Some(index) => standing_at(store, sig, known, index),
-        None => Standing::Other,
+    if number == place {
+        return Standing::Whole;
     }
+    Standing::Other
+}
+
+// How the parameters of a definition stand, so many, of which one is the argument, the last one first, after others.
+fn push_parameters(count: usize, place: usize, out: &mut Vec<Standing>) -> Result<(), AllocError>
+    ensures { OnOk result (out.new.items ≡ out.old.items ++ parameter_standings count place) }
+{
+    if count == 0 {
+        return Ok(());
+    }
+    let last = count - 1;
+    let first = parameter(last, place);
+    out.push(first)?;
+    push_parameters(last, place, out)
+}
+
+/// How the parameters of a definition stand, so many, of which one is the argument, the last one first.
+pub(crate) fn parameters(
+    alloc: Global,
+    count: usize,
+    place: usize,
+) -> Result<Vec<Standing>, AllocError>
+    ensures { IfOk result (λ v. v.items ≡ parameter_standings count place) }
+{
+    let mut out = Vec::new(alloc);
+    push_parameters(count, place, &mut out)?;
+    Ok(out)
+}
+
+// How the variables of a pattern stand that is matched with a term, or with what is inside one, after others.
+#[tactic(auto, using(crate::proofs::decl_checks::Learning::by_parts, crate::proofs::decl_checks::Learning::by_constructor))]
+fn push_learned(
+    store: &Store,
+    sig: &Signature,
+    known: &[Standing],
+    inside: bool,
+    e: TermId,
+    pattern: TermId,
+    out: &mut Vec<Standing>,
+) -> Result<(), AllocError>
+    requires e_held { Holds store.now e }
+    requires held { Holds store.now pattern }
+    ensures { OnOk result (out.new.items ≡ out.old.items ++ map (stands known.now)
+        (bound_to (symbols_at store.now sig.now.symbols) inside (tree_at store.now e)
+        (tree_at store.now pattern))) }
+{
+    match store.node(pattern) {
+        Node::PatVar(_) => {
+            out.push(standing_through(inside, standing_of(store, known, e)))?;
+            Ok(())
+        }
+        Node::PatAlias(a) => {
+            out.push(standing_through(inside, standing_of(store, known, e)))?;
+            push_learned(store, sig, known, inside, e, a, out)
+        }
+        Node::Cell(a, b) => {
+            push_learned(store, sig, known, inside, other_members(store, e), b, out)?;
+            push_learned(store, sig, known, inside, first_member(store, e), a, out)
+        }
+        Node::PatCon(con, _, parts, _) => match components(store, sig, inside, con, e) {
+            Some(args) => push_learned(store, sig, known, false, args, parts, out),
+            None => push_learned(store, sig, known, true, e, parts, out),
+        },
+        _ => Ok(()),
+    }
+}
+
+/// How the variables stand in what an operator binds variables in, where the branches around are of a match on a term.
+pub(crate) fn standings_under(
+    alloc: Global,
+    store: &Store,
+    sig: &Signature,
+    known: &[Standing],
+    matched: TermId,
+    node: Node,
+) -> Result<Vec<Standing>, AllocError>
+    requires matched_held { Holds store.now matched }
+    requires held { AreBelow (length store.now) (parts_of node) }
+    ensures { IfOk result (λ v. v.items
+        ≡ standings_in (symbols_at store.now sig.now.symbols) known.now (tree_at store.now matched)
+        (node_tree store.now node)) }
+{
+    let mut out = Vec::new(alloc);
+    match node {
+        Node::Forall(_, _) | Node::Exists(_, _) | Node::Let(_, _) => out.push(Standing::Other)?,
+        Node::Arm(a, _) => push_learned(store, sig, known, false, matched, a, &mut out)?,
+        _ => (),
+    }
+    out.extend_from_slice(known)?;
+    Ok(out)
+}
+
+// Whether a standing is at least another one: nothing is less than a variable that is none of the argument, nor more than one
+// inside it.
+fn is_at_least(least: Standing, found: Standing) -> bool
+    ensures { IsTrue result → IsAtLeast least found }
+{
+    match (least, found) {
+        (Standing::Other, _) => true,
+        (_, Standing::Inside) => true,
+        (Standing::Whole, Standing::Whole) => true,
+        _ => false,
+    }
+}
+
+/// Whether each variable of a list stands at least as in another list, which isn't longer.
+pub(crate) fn is_above(low: &[Standing], known: &[Standing]) -> bool
+    ensures { IsTrue result → IsAbove low.now known.now }
+{
+    match (low.split_first(), known.split_first()) {
+        (Some((least, others)), Some((found, rest))) => {
+            is_at_least(*least, *found) && is_above(others, rest)
+        }
+        (Some(_), None) => false,
+        _ => true,
+    }
+}
+
+// The lesser of two standings.
+fn lesser(a: Standing, b: Standing) -> Standing
+    ensures { result ≡ lesser a b }
+{
+    match (a, b) {
+        (Standing::Other, _) | (Standing::Whole, Standing::Other) => Standing::Other,
+        (Standing::Whole, _) => Standing::Whole,
+        (Standing::Inside, found) => found,
+    }
+}
+
+// The lesser standings of each place of two lists, after others.
+fn push_lessers(a: &[Standing], b: &[Standing], out: &mut Vec<Standing>) -> Result<(), AllocError>
+    ensures { OnOk result (out.new.items ≡ out.old.items ++ lessers a.now b.now) }
+{
+    match (a.split_first(), b.split_first()) {
+        (Some((x, xs)), Some((y, ys))) => {
+            out.push(lesser(*x, *y))?;
+            push_lessers(xs, ys, out)
+        }
+        _ => Ok(()),
+    }
+}
+
+/// The lesser standings of each place of two lists.
+pub(crate) fn lessers(
+    alloc: Global,
+    a: &[Standing],
+    b: &[Standing],
+) -> Result<Vec<Standing>, AllocError>
+    ensures { IfOk result (λ v. v.items ≡ lessers a.now b.now) }
+{
+    let mut out = Vec::new(alloc);
+    push_lessers(a, b, &mut out)?;
+    Ok(out)
 }

@@ -1,37 +1,36 @@
 // Structural recursion: a choice of one argument for each member of a group, at which each use of a member gets smaller.
 // It depends on how variables stand; the check of a declaration depends on it.
-ghost use Rattle.std.specs.Prelude.{◌≡◌, ◌↔◌, ◌*◌, ◌<◌, ◌++◌, IsTrue, All, Contains, min, length, IfOk, OnOk};
+ghost use Rattle.std.specs.Prelude.{ℕ, ◌≡◌, ◌↔◌, ◌*◌, ◌<◌, ◌++◌, List, IsTrue, All, min, length, IfOk, OnOk};
+ghost use Rattle.trees.specs.Tree.{Tree};
 ghost use Rattle.trees.specs.Node.{tree_at, node_tree, parts_of, Holds, AreBelow};
+ghost use Rattle.tasks.specs.Task.{SymbolTree};
 ghost use Rattle.tasks.specs.Meaning.{symbols_at, definition_at, definitions_at};
 ghost use Rattle.checks.specs.decl_checks.Structure.{PassesInside, UsePasses, TopPasses, UsesPassInside, symbol_arity, OnePasses, AllPass, IsStructural, choices, choice_of, PassesAt};
-ghost use Rattle.checks.specs.decl_checks.Meaning.{standings_at, StandingsHeld, DefinitionHeld};
+ghost use Rattle.checks.specs.decl_checks.Meaning.{DefinitionHeld};
+ghost use Rattle.checks.specs.decl_checks.Kept.{AreKept, CanPass, IsPassed};
 
-use crate::decl_checks::standing::{Known, Standing, standing_of};
+use crate::decl_checks::standing::{
+    Standing, is_above, lessers, parameters, standing_of, standings_under,
+};
 use crate::recursive_groups::defining_body;
+use indexmap::IndexMap;
+use outside::Seq;
 use std::alloc::{AllocError, Global};
 use tasks::{Def, Signature};
 use trees::store::Store;
 use trees::{Node, Parts, TermId};
 
 // Whether the argument at a place of a list is strictly inside.
-fn passes_inside(
-    store: &Store,
-    sig: &Signature,
-    known: &Known<'_>,
-    args: TermId,
-    place: usize,
-) -> bool
-    requires known_held { StandingsHeld store.now known.now }
+fn passes_inside(store: &Store, known: &[Standing], args: TermId, place: usize) -> bool
     requires held { Holds store.now args }
-    ensures { IsTrue result ↔ PassesInside (standings_at (symbols_at store.now sig.now.symbols)
-        store.now known.now) (tree_at store.now args) place }
+    ensures { IsTrue result ↔ PassesInside known.now (tree_at store.now args) place }
 {
     match store.node(args) {
         Node::Cell(first, rest) => {
             if place == 0 {
-                matches!(standing_of(store, sig, known, first), Standing::Inside)
+                matches!(standing_of(store, known, first), Standing::Inside)
             } else {
-                passes_inside(store, sig, known, rest, place - 1)
+                passes_inside(store, known, rest, place - 1)
             }
         }
         _ => false,
@@ -41,122 +40,186 @@ fn passes_inside(
 // Whether a use of a symbol passes something inside at the place of a member, if it is the one that is used.
 fn member_passes(
     store: &Store,
-    sig: &Signature,
     member: (usize, usize),
-    known: &Known<'_>,
+    known: &[Standing],
     symbol: usize,
     args: TermId,
 ) -> bool
-    requires known_held { StandingsHeld store.now known.now }
     requires held { Holds store.now args }
     ensures { IsTrue result ↔ (member.0 ≡ symbol
-        → PassesInside (standings_at (symbols_at store.now sig.now.symbols) store.now known.now)
-        (tree_at store.now args) member.1) }
+        → PassesInside known.now (tree_at store.now args) member.1) }
 {
     if member.0 != symbol {
         return true;
     }
-    passes_inside(store, sig, known, args, member.1)
+    passes_inside(store, known, args, member.1)
 }
 
 // Whether a use of a symbol passes something inside at the place of each member that it is.
 fn use_passes(
     store: &Store,
-    sig: &Signature,
     chosen: &[(usize, usize)],
-    known: &Known<'_>,
+    known: &[Standing],
     symbol: usize,
     args: TermId,
 ) -> bool
-    requires known_held { StandingsHeld store.now known.now }
     requires held { Holds store.now args }
-    ensures { IsTrue result ↔ UsePasses chosen.now
-        (standings_at (symbols_at store.now sig.now.symbols)
-        store.now known.now) symbol (tree_at store.now args) }
+    ensures { IsTrue result ↔ UsePasses chosen.now known.now symbol (tree_at store.now args) }
 {
     match chosen.split_first() {
         Some((first, rest)) => {
-            member_passes(store, sig, *first, known, symbol, args)
-                && use_passes(store, sig, rest, known, symbol, args)
+            member_passes(store, *first, known, symbol, args)
+                && use_passes(store, rest, known, symbol, args)
         }
         None => true,
     }
 }
 
 // Whether the use at the top of a tree, if it is one, passes something inside.
-fn top_passes(
-    store: &Store,
-    sig: &Signature,
-    chosen: &[(usize, usize)],
-    known: &Known<'_>,
-    node: Node,
-) -> bool
-    requires known_held { StandingsHeld store.now known.now }
+fn top_passes(store: &Store, chosen: &[(usize, usize)], known: &[Standing], node: Node) -> bool
     requires held { AreBelow (length store.now) (parts_of node) }
-    ensures { IsTrue result ↔ TopPasses chosen.now
-        (standings_at (symbols_at store.now sig.now.symbols)
-        store.now known.now) (node_tree store.now node) }
+    ensures { IsTrue result ↔ TopPasses chosen.now known.now (node_tree store.now node) }
 {
     match node {
-        Node::Pred(symbol, _, args) => use_passes(store, sig, chosen, known, symbol, args),
-        Node::Fun(symbol, _, args, _) => use_passes(store, sig, chosen, known, symbol, args),
+        Node::Pred(symbol, _, args) => use_passes(store, chosen, known, symbol, args),
+        Node::Fun(symbol, _, args, _) => use_passes(store, chosen, known, symbol, args),
         _ => true,
     }
 }
 
-// Whether each use of a member in a tree passes something inside, where the branches around are of a match on a term.
-fn passes<'a>(
+// Standings with which a match passes, each the least so far, by the number of the match and of the term around it.
+type Kept = IndexMap<(usize, usize), Seq<Standing>>;
+
+// Whether it is kept that a tree passes.
+fn has_passed(kept: &Kept, known: &[Standing], matched: TermId, e: TermId) -> bool
+    ensures { (symbols : List SymbolTree) (chosen : List (ℕ × ℕ)) (s : List Tree)
+        → AreKept symbols chosen s kept.now → IsTrue result
+        → UsesPassInside symbols chosen known.now (tree_at s matched) (tree_at s e) }
+{
+    match kept.get(&(e.0, matched.0)) {
+        Some(low) => is_above(low.as_slice(), known),
+        None => false,
+    }
+}
+
+// The standings to be kept of a tree that passes.
+fn to_keep(
+    kept: &Kept,
+    known: &[Standing],
+    matched: TermId,
+    e: TermId,
+) -> Result<Seq<Standing>, AllocError>
+    ensures { (symbols : List SymbolTree) (chosen : List (ℕ × ℕ)) (s : List Tree)
+        → AreKept symbols chosen s kept.now
+        → UsesPassInside symbols chosen known.now (tree_at s matched) (tree_at s e)
+        → IfOk result (λ v. UsesPassInside symbols chosen v (tree_at s matched) (tree_at s e)) }
+{
+    let alloc = *kept.allocator();
+    match kept.get(&(e.0, matched.0)) {
+        Some(low) => Ok(Seq::from_vec(lessers(alloc, low.as_slice(), known)?)),
+        None => {
+            let mut all = Vec::new(alloc);
+            all.extend_from_slice(known)?;
+            Ok(Seq::from_vec(all))
+        }
+    }
+}
+
+// Whether each use of a member in a tree passes something inside, where the branches around are of a match on a term. A match
+// that passed isn't visited again where no variable stands lower.
+#[cycle(passes)]
+fn passes(
     store: &Store,
     sig: &Signature,
     chosen: &[(usize, usize)],
-    known: &'a Known<'a>,
+    kept: &mut Kept,
+    known: &[Standing],
     matched: TermId,
     e: TermId,
-) -> bool
-    requires known_held { StandingsHeld store.now known.now }
-    requires matched_held { Holds store.now matched }
-    requires held { Holds store.now e }
-    ensures { IsTrue result ↔ UsesPassInside (symbols_at store.now sig.now.symbols) chosen.now
-        (standings_at (symbols_at store.now sig.now.symbols) store.now known.now)
-        (tree_at store.now matched) (tree_at store.now e) }
+) -> Result<bool, AllocError>
+    requires { CanPass (symbols_at store.now sig.now.symbols) chosen.now store.now kept.old matched
+        e }
+    ensures { IfOk result (IsPassed (symbols_at store.now sig.now.symbols) chosen.now store.now
+        known.now matched e kept.new) }
+{
+    if has_passed(kept, known, matched, e) {
+        return Ok(true);
+    }
+    let passed = parts_pass(store, sig, chosen, kept, known, matched, e)?;
+    if passed && matches!(store.node(e), Node::Case(_, _)) {
+        let low = to_keep(kept, known, matched, e)?;
+        kept.insert((e.0, matched.0), low)?;
+    }
+    Ok(passed)
+}
+
+// The same, of a tree of which nothing is kept. A type has no use.
+#[cycle(passes)]
+fn parts_pass(
+    store: &Store,
+    sig: &Signature,
+    chosen: &[(usize, usize)],
+    kept: &mut Kept,
+    known: &[Standing],
+    matched: TermId,
+    e: TermId,
+) -> Result<bool, AllocError>
+    requires { CanPass (symbols_at store.now sig.now.symbols) chosen.now store.now kept.old matched
+        e }
+    ensures { IfOk result (IsPassed (symbols_at store.now sig.now.symbols) chosen.now store.now
+        known.now matched e kept.new) }
 {
     let node = store.node(e);
-    if !top_passes(store, sig, chosen, known, node) {
-        return false;
+    if !top_passes(store, chosen, known, node) {
+        return Ok(false);
     }
     match node {
-        Node::Forall(a, b) | Node::Exists(a, b) | Node::Let(a, b) => {
-            passes(store, sig, chosen, known, matched, a)
-                && passes(store, sig, chosen, &Known::Plain(known), matched, b)
-        }
-        Node::Arm(a, b) => {
-            passes(store, sig, chosen, known, matched, a)
-                && passes(
-                    store,
-                    sig,
-                    chosen,
-                    &Known::Matched(matched, a, known),
-                    matched,
-                    b,
-                )
-        }
+        Node::TyApp(_, _) => Ok(true),
         Node::Case(a, b) => {
-            passes(store, sig, chosen, known, matched, a) && passes(store, sig, chosen, known, a, b)
+            if !passes(store, sig, chosen, kept, known, matched, a)? {
+                return Ok(false);
+            }
+            passes(store, sig, chosen, kept, known, a, b)
         }
-        Node::Cell(a, b) | Node::Pred(_, a, b) | Node::Eq(a, b) | Node::Join(_, a, b) => {
-            passes(store, sig, chosen, known, matched, a)
-                && passes(store, sig, chosen, known, matched, b)
+        Node::Forall(a, b) | Node::Exists(a, b) | Node::Let(a, b) | Node::Arm(a, b) => {
+            if !passes(store, sig, chosen, kept, known, matched, a)? {
+                return Ok(false);
+            }
+            let under = standings_under(*kept.allocator(), store, sig, known, matched, node)?;
+            passes(store, sig, chosen, kept, under.as_slice(), matched, b)
         }
         node => match node.parts() {
-            Parts::None | Parts::Two(_, _) => true,
-            Parts::One(a) => passes(store, sig, chosen, known, matched, a),
-            Parts::Three(a, b, c) => {
-                passes(store, sig, chosen, known, matched, a)
-                    && passes(store, sig, chosen, known, matched, b)
-                    && passes(store, sig, chosen, known, matched, c)
-            }
+            Parts::None => Ok(true),
+            Parts::One(a) => passes(store, sig, chosen, kept, known, matched, a),
+            Parts::Two(a, b) => Ok(
+                passes(store, sig, chosen, kept, known, matched, a)?
+                    && passes(store, sig, chosen, kept, known, matched, b)?,
+            ),
+            Parts::Three(a, b, c) => Ok(
+                passes(store, sig, chosen, kept, known, matched, a)?
+                    && passes(store, sig, chosen, kept, known, matched, b)?
+                    && passes(store, sig, chosen, kept, known, matched, c)?,
+            ),
         },
     }
+}
+
+// Whether the body of a definition passes at the place of one of its arguments.
+fn body_passes(
+    alloc: Global,
+    store: &Store,
+    sig: &Signature,
+    chosen: &[(usize, usize)],
+    known: &[Standing],
+    body: TermId,
+) -> Result<bool, AllocError>
+    requires { Holds store.now body }
+    ensures { IfOk result (λ b. IsTrue b ↔ UsesPassInside (symbols_at store.now sig.now.symbols)
+        chosen.now known.now (tree_at store.now body) (tree_at store.now body)) }
+{
+    let mut kept = IndexMap::new(alloc);
+    let passed = passes(store, sig, chosen, &mut kept, known, body, body)?;
+    Ok(passed)
 }
 
 // The number of a symbol's arguments.
@@ -172,49 +235,48 @@ fn arity_of(store: &Store, sig: &Signature, symbol: usize) -> usize
 
 // Whether a definition has its member, with the place of one of its arguments, and its body passes.
 fn one_passes(
+    alloc: Global,
     store: &Store,
     sig: &Signature,
     chosen: &[(usize, usize)],
     def: Def,
     member: (usize, usize),
-) -> bool
+) -> Result<bool, AllocError>
     requires { DefinitionHeld store.now def }
-    ensures { IsTrue result ↔ OnePasses (symbols_at store.now sig.now.symbols) chosen.now
-        (definition_at store.now def) member }
+    ensures { IfOk result (λ b. IsTrue b ↔ OnePasses (symbols_at store.now sig.now.symbols)
+        chosen.now (definition_at store.now def) member) }
 {
     let count = arity_of(store, sig, def.symbol);
+    if member.0 != def.symbol || member.1 >= count {
+        return Ok(false);
+    }
     let body = defining_body(store, def.equation);
-    member.0 == def.symbol
-        && member.1 < count
-        && passes(
-            store,
-            sig,
-            chosen,
-            &Known::Parameters(count, member.1),
-            body,
-            body,
-        )
+    let known = parameters(alloc, count, member.1)?;
+    body_passes(alloc, store, sig, chosen, known.as_slice(), body)
 }
 
 // Whether each definition has its member, with the place of one of its arguments, and its body passes.
 fn all_pass(
+    alloc: Global,
     store: &Store,
     sig: &Signature,
     chosen: &[(usize, usize)],
     defs: &[Def],
     own: &[(usize, usize)],
-) -> bool
+) -> Result<bool, AllocError>
     requires { All (DefinitionHeld store.now) defs.now }
-    ensures { IsTrue result ↔ AllPass (symbols_at store.now sig.now.symbols) chosen.now
-        (definitions_at store.now defs.now) own.now }
+    ensures { IfOk result (λ b. IsTrue b ↔ AllPass (symbols_at store.now sig.now.symbols)
+        chosen.now (definitions_at store.now defs.now) own.now) }
 {
     match (defs.split_first(), own.split_first()) {
         (Some((first, rest)), Some((member, others))) => {
-            one_passes(store, sig, chosen, *first, *member)
-                && all_pass(store, sig, chosen, rest, others)
+            if !one_passes(alloc, store, sig, chosen, *first, *member)? {
+                return Ok(false);
+            }
+            all_pass(alloc, store, sig, chosen, rest, others)
         }
-        (None, None) => true,
-        _ => false,
+        (None, None) => Ok(true),
+        _ => Ok(false),
     }
 }
 
@@ -261,7 +323,7 @@ fn passes_at(
     let mut chosen = Vec::new(alloc);
     push_choice(store, sig, defs, number, &mut chosen)?;
     let all = chosen.as_slice();
-    Ok(all_pass(store, sig, all, defs, all))
+    all_pass(alloc, store, sig, all, defs, all)
 }
 
 /// Whether a group of definitions, with so many choices, is structural. Only want of memory refuses.
