@@ -8,6 +8,7 @@ mod place;
 mod ready;
 mod rows;
 mod steps;
+mod sums;
 mod variables;
 
 pub use steps::is_right_step;

@@ -18,6 +18,15 @@ pub(crate) struct Place<'a> {
     pub premises: &'a [usize],
 }
 
+/// Whether there is no premise.
+pub(crate) fn adds_nothing(store: &Store, place: &Place<'_>) -> bool
+    ensures { IsTrue result ↔ Adds (sequent_here store.now place.now)
+        (premises_here store.now place.now) [] }
+{
+    let _ = store;
+    place.premises.is_empty()
+}
+
 /// Whether the one premise adds a formula, as it is or negated.
 pub(crate) fn adds_signed(store: &Store, place: &Place<'_>, formula: TermId, sign: bool) -> bool
     requires place { PlaceHeld store.now place.now }

@@ -1,4 +1,5 @@
-// The rows of rules that put a term in, told by an instance that is made in the store: `None` where the kernel's test makes none.
+// The rows of rules that put a term in, told by an instance that is made in the store, and the row of `linear`: `None` for the others,
+// and where the kernel's test makes no instance.
 // They depend on what a premise adds; the test of a step depends on them.
 ghost use Rattle.std.specs.Prelude.{◌≡◌, ◌↔◌, ◌≤◌, None, Some, slice_get, IsTrue, IfOk, IfSome};
 ghost use Rattle.std.specs.Option.{option_map};
@@ -18,6 +19,7 @@ ghost use Rattle.step_reading.specs.quick_steps.Places.{task_here, sequent_here,
 
 use crate::quick_steps::parameters::is_new;
 use crate::quick_steps::place::{Place, adds_alike, adds_signed};
+use crate::quick_steps::sums::linear;
 use crate::quick_steps::variables::variable_has_type;
 use rules::{Rule, equation_sides, existential_parts, has_type, negated_formula, universal_parts};
 use std::alloc::{AllocError, Global};
@@ -216,7 +218,7 @@ fn replace(
     }
 }
 
-/// Whether the row of a rule holds at a place, where the rule puts a term in.
+/// Whether the row of a rule holds at a place, where the rule puts a term in or is `linear`.
 pub(crate) fn told_row(
     alloc: Global,
     store: &mut Store,
@@ -256,6 +258,10 @@ pub(crate) fn told_row(
         Rule::Replace(i, j, e) => {
             let sides = equation_sides(store, formula_at(store, place, *i));
             replace(alloc, store, place, sides, formula_at(store, place, *j), *e)
+        }
+        Rule::Linear(uses) => {
+            let closed = linear(alloc, store, place, uses.as_slice())?;
+            Ok(Some(closed))
         }
         _ => Ok(None),
     }

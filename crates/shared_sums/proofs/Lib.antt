@@ -1,0 +1,5 @@
+pub mod Sums
+pub mod Steps
+pub mod Closed
+pub mod Differing
+pub mod Numbered

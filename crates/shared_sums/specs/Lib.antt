@@ -1,0 +1,4 @@
+pub mod Tops
+pub mod Known
+pub mod Pending
+pub mod Uses
