@@ -20,7 +20,8 @@ use Rattle.step_reading.specs.Lines.{Reading, reading_of, line_thing, IsGood, Fi
 
 -- what was read so far stands for
 abbrev pub reading_at : List Tree → Read → Reading
-reading_at s r = reading_of (trees_at s r.types.items) (trees_at s r.patterns.items) (trees_at s r.expressions.items) (steps_at s r.steps.items)
+reading_at s r = reading_of (trees_at s r.types.items) (trees_at s r.patterns.items)
+    (trees_at s r.expressions.items) (steps_at s r.steps.items)
 
 pub record ReadHeld (s : List Tree) (r : Read) : Type 0 where
   pub types : HoldTypes s r.types.items
@@ -28,14 +29,16 @@ pub record ReadHeld (s : List Tree) (r : Read) : Type 0 where
   pub expressions : All (Holds s) r.expressions.items
   pub steps : StepsHeld s r.steps.items
 
--- what lines are read with: a task whose numbers are held, with its index, and a table with its names
+-- what lines are read with: a task whose numbers are held, with its index, and a table with its
+-- names
 pub record ReaderHeld (s : List Tree) (x : Reader) : Type 0 where
   pub task : TaskHeld s x.task.now
   pub index : IsIndexOf x.index.now x.task.now
   pub names : IsNamesOf x.names.now x.table.now
 
 -- a line makes this thing, and it is good
-pub record MakesGood (t : TaskTree) (names : List NameEntry) (tallest : Option ℕ) (r : Reading) (line : List ℕ) (x : Thing) : Type 0 where
+pub record MakesGood (t : TaskTree) (names : List NameEntry) (tallest : Option ℕ) (r : Reading)
+    (line : List ℕ) (x : Thing) : Type 0 where
   pub made : line_thing t names r.earlier line ≡ Some x
   pub good : IsGood t tallest r.steps x
 
@@ -46,7 +49,15 @@ IsReadFault t names tallest bytes (WrongLine line) = FirstWrong t names tallest 
 
 -- a thing comes after those of its kind, and the others stay
 abbrev pub IsReadKept : MadeThing → Read → Read → Type 0
-IsReadKept (made.Type y) r r' = (r'.types.items ≡ r.types.items ++ y ∷ []) × (r'.patterns.items ≡ r.patterns.items) × (r'.expressions.items ≡ r.expressions.items) × (r'.steps.items ≡ r.steps.items)
-IsReadKept (made.Pattern p) r r' = (r'.types.items ≡ r.types.items) × (r'.patterns.items ≡ r.patterns.items ++ p ∷ []) × (r'.expressions.items ≡ r.expressions.items) × (r'.steps.items ≡ r.steps.items)
-IsReadKept (made.Expression e) r r' = (r'.types.items ≡ r.types.items) × (r'.patterns.items ≡ r.patterns.items) × (r'.expressions.items ≡ r.expressions.items ++ e ∷ []) × (r'.steps.items ≡ r.steps.items)
-IsReadKept (made.Derived st) r r' = (r'.types.items ≡ r.types.items) × (r'.patterns.items ≡ r.patterns.items) × (r'.expressions.items ≡ r.expressions.items) × (r'.steps.items ≡ r.steps.items ++ st ∷ [])
+IsReadKept (made.Type y) r r' =
+    (r'.types.items ≡ r.types.items ++ y ∷ []) × (r'.patterns.items ≡ r.patterns.items)
+    × (r'.expressions.items ≡ r.expressions.items) × (r'.steps.items ≡ r.steps.items)
+IsReadKept (made.Pattern p) r r' =
+    (r'.types.items ≡ r.types.items) × (r'.patterns.items ≡ r.patterns.items ++ p ∷ [])
+    × (r'.expressions.items ≡ r.expressions.items) × (r'.steps.items ≡ r.steps.items)
+IsReadKept (made.Expression e) r r' =
+    (r'.types.items ≡ r.types.items) × (r'.patterns.items ≡ r.patterns.items)
+    × (r'.expressions.items ≡ r.expressions.items ++ e ∷ []) × (r'.steps.items ≡ r.steps.items)
+IsReadKept (made.Derived st) r r' =
+    (r'.types.items ≡ r.types.items) × (r'.patterns.items ≡ r.patterns.items)
+    × (r'.expressions.items ≡ r.expressions.items) × (r'.steps.items ≡ r.steps.items ++ st ∷ [])

@@ -10,6 +10,7 @@ mod good;
 mod marks;
 pub mod quick_steps;
 mod read;
+pub mod shared_sums;
 mod words;
 
 pub use fault::ReadFault;

@@ -1,4 +1,5 @@
--- What is kept of matches of which each use of a member passes something inside: how low the variables may stand.
+-- What is kept of matches of which each use of a member passes something inside: how low the
+-- variables may stand.
 use Rattle.std.specs.Prelude.{◌≡◌, ◌↔◌, ℕ, ◌≤◌, Bool, IsTrue, List, [], ◌∷◌, get_or, Some}
 use Rattle.indexmap.specs.IndexMap.{IndexMap, get}
 use Rattle.trees.specs.declared.TermId.{TermId}
@@ -38,16 +39,21 @@ lessers (s ∷ ss) (t ∷ ts) = lesser s t ∷ lessers ss ts
 lessers _ _ = []
 
 -- under the variables that are kept for it, each use of a member in a tree passes something inside
-abbrev pub AreKept : {S : Type 0} → List SymbolTree → List (ℕ × ℕ) → List Tree → IndexMap (ℕ × ℕ) (List Standing) S → Type 0
-AreKept symbols chosen s m = (k j : ℕ) (low : List Standing) → get same_pair m (k, j) ≡ Some low → UsesPassInside symbols chosen low (get_or s j (Leaf HEnd)) (get_or s k (Leaf HEnd))
+abbrev pub AreKept : {S : Type 0} → List SymbolTree → List (ℕ × ℕ) → List Tree
+    → IndexMap (ℕ × ℕ) (List Standing) S → Type 0
+AreKept symbols chosen s m = (k j : ℕ) (low : List Standing) → get same_pair m (k, j) ≡ Some low
+    → UsesPassInside symbols chosen low (get_or s j (Leaf HEnd)) (get_or s k (Leaf HEnd))
 
 -- what the answer for a tree asks for, where the branches around are of a match on a term
-pub record CanPass {S : Type 0} (symbols : List SymbolTree) (chosen : List (ℕ × ℕ)) (s : List Tree) (m : IndexMap (ℕ × ℕ) (List Standing) S) (matched e : TermId) : Type 0 where
+pub record CanPass {S : Type 0} (symbols : List SymbolTree) (chosen : List (ℕ × ℕ)) (s : List Tree)
+    (m : IndexMap (ℕ × ℕ) (List Standing) S) (matched e : TermId) : Type 0 where
   pub held : Holds s e
   pub matched_held : Holds s matched
   pub kept : AreKept symbols chosen s m
 
 -- what it gives: the answer; and what is kept stays right
-pub record IsPassed {S : Type 0} (symbols : List SymbolTree) (chosen : List (ℕ × ℕ)) (s : List Tree) (known : List Standing) (matched e : TermId) (m : IndexMap (ℕ × ℕ) (List Standing) S) (answer : Bool) : Type 0 where
+pub record IsPassed {S : Type 0} (symbols : List SymbolTree) (chosen : List (ℕ × ℕ)) (s : List Tree)
+    (known : List Standing) (matched e : TermId) (m : IndexMap (ℕ × ℕ) (List Standing) S)
+    (answer : Bool) : Type 0 where
   pub is : IsTrue answer ↔ UsesPassInside symbols chosen known (tree_at s matched) (tree_at s e)
   pub kept : AreKept symbols chosen s m

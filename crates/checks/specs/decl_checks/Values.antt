@@ -1,5 +1,6 @@
--- Finite values of algebraic types: the least set of types of a group that has each type with a constructor whose fields all have one
--- (least fixed points, any textbook on inductive definitions).
+-- Finite values of algebraic types: the least set of types of a group that has each type with a
+-- constructor whose fields all have one (least fixed points, any textbook on inductive
+-- definitions).
 use Rattle.std.specs.Prelude.{◌≡◌, ℕ, ◌==◌, Bool, IsTrue, List, [], ◌∷◌, map, All, Contains, ◌⊎◌}
 use Rattle.std.specs.List.{list_any}
 use Rattle.trees.specs.Tree.{Tree, One, HTyApp}
@@ -25,7 +26,8 @@ SomeHasValues group set (c ∷ cs) = HaveValues group set c.fields ⊎ SomeHasVa
 -- each type with such a constructor is in the set
 abbrev pub IsClosedOver : List ℕ → List AlgebraicTree → (ℕ → Bool) → Type 0
 IsClosedOver group [] set = Unit {0}
-IsClosedOver group (a ∷ ts) set = (SomeHasValues group set a.cons → IsTrue (set a.symbol)) × IsClosedOver group ts set
+IsClosedOver group (a ∷ ts) set =
+    (SomeHasValues group set a.cons → IsTrue (set a.symbol)) × IsClosedOver group ts set
 
 abbrev pub IsClosed : List AlgebraicTree → (ℕ → Bool) → Type 0
 IsClosed ts set = IsClosedOver (type_symbols ts) ts set
@@ -44,4 +46,6 @@ is_member ks k = list_any (λ j. j == k) ks
 -- a type of these with such a constructor, which the list of known ones lacks
 abbrev pub NextValued : List ℕ → List ℕ → List AlgebraicTree → ℕ → Type 0
 NextValued group known [] k = ⊥
-NextValued group known (a ∷ ts) k = ((a.symbol ≡ k) × SomeHasValues group (is_member known) a.cons × (Contains known k → ⊥)) ⊎ NextValued group known ts k
+NextValued group known (a ∷ ts) k =
+    ((a.symbol ≡ k) × SomeHasValues group (is_member known) a.cons × (Contains known k → ⊥))
+    ⊎ NextValued group known ts k

@@ -1,5 +1,6 @@
--- Tables of patterns: a row of patterns takes as many values at once, and a table is split by the constructors of its first
--- column (Maranget, "Warnings for pattern matching", specialized matrices).
+-- Tables of patterns: a row of patterns takes as many values at once, and a table is split by the
+-- constructors of its first column (Maranget, "Warnings for pattern matching", specialized
+-- matrices).
 use Rattle.std.specs.Prelude.{◌≡◌, ℕ, ◌+◌, ◌*◌, zero, suc, ◌==◌, Bool, true, false, List, [], ◌∷◌, ◌++◌, length, map, replicate, ◌⊎◌, Option, Some, None, MatchOption, Contains, ◌↔◌}
 use Rattle.trees.specs.Tree.{Tree, Leaf, One, Two, Three, Head, HTyApp, HCell, HPatAny, HPatVar, HPatCon, HPatAlias}
 use Rattle.tasks.specs.Task.{SymbolTree}
@@ -11,7 +12,8 @@ use Rattle.checks.specs.match_cover.Shapes.{unspecified, Shapes, no_shapes, more
 abbrev pub BareFits : List SymbolTree → Tree → Tree → Type 0
 BareFits symbols type (One HPatAny a) = Unit {0}
 BareFits symbols type (One HPatVar a) = Unit {0}
-BareFits symbols type (Three (HPatCon c) types parts t) = (t ≡ type) × TypedUnder (of_signature symbols) [] (Three (HPatCon c) types parts t)
+BareFits symbols type (Three (HPatCon c) types parts t) =
+    (t ≡ type) × TypedUnder (of_signature symbols) [] (Three (HPatCon c) types parts t)
 BareFits symbols type _ = ⊥
 
 -- patterns for values of as many types
@@ -25,7 +27,8 @@ TableFits symbols types [] = Unit {0}
 TableFits symbols types (r ∷ rs) = RowFits symbols types r × TableFits symbols types rs
 
 -- the rows are for values of some types, so many
-pub record IsTable (symbols : List SymbolTree) (columns : ℕ) (rows : List (List Tree)) : Type 0 where
+pub record IsTable (symbols : List SymbolTree) (columns : ℕ)
+    (rows : List (List Tree)) : Type 0 where
   pub types : List Tree
   pub long : length types ≡ columns
   pub fits : TableFits symbols types rows
@@ -44,13 +47,17 @@ abbrev pub Covers : List SymbolTree → List Tree → List (List Tree) → Type 
 Covers symbols types rows = (ss : Shapes) → AreShapes symbols ss types → AnyMet ss rows
 
 -- shapes of the types that no row meets
-pub record Misses (symbols : List SymbolTree) (types : List Tree) (rows : List (List Tree)) (ss : Shapes) : Type 0 where
+pub record Misses (symbols : List SymbolTree) (types : List Tree) (rows : List (List Tree))
+    (ss : Shapes) : Type 0 where
   pub are : AreShapes symbols ss types
   pub unmet : NoneMet ss rows
 
--- Shapes that no row meets, or none where each is met: whatever the types are, so many, for which the rows are.
+-- Shapes that no row meets, or none where each is met: whatever the types are, so many, for which
+-- the rows are.
 abbrev pub Answered : List SymbolTree → ℕ → List (List Tree) → Option Shapes → Type 0
-Answered symbols columns rows o = (types : List Tree) → length types ≡ columns → TableFits symbols types rows → MatchOption o (Covers symbols types rows) (Misses symbols types rows)
+Answered symbols columns rows o = (types : List Tree) → length types ≡ columns
+    → TableFits symbols types rows
+    → MatchOption o (Covers symbols types rows) (Misses symbols types rows)
 
 -- so many unspecified shapes
 abbrev pub unknowns : ℕ → Shapes
@@ -80,7 +87,8 @@ abbrev pub opened_by : ℕ → ℕ → Option (ℕ × Tree) → Tree → List Tr
 opened_by k n (Some q) p row = opened_if (q.0 == k) (members q.1 ++ row)
 opened_by k n None p row = (replicate n p ++ row) ∷ []
 
--- a row whose first pattern is taken apart at a constructor with so many fields: none where it is another constructor's
+-- a row whose first pattern is taken apart at a constructor with so many fields: none where it is
+-- another constructor's
 abbrev pub opened : ℕ → ℕ → Tree → List Tree → List (List Tree)
 opened k n p row = opened_by k n (apart p) p row
 
@@ -139,7 +147,8 @@ one_if false k = []
 
 -- by these constructors a table is split: all of the type that its first column tells
 abbrev pub Splits : List SymbolTree → List (List Tree) → List ℕ → Type 0
-Splits symbols rows ks = MatchOption (column_told rows) (ks ≡ []) (λ h. (k : ℕ) → Contains ks k ↔ IsConstructorEntryOf symbols h k)
+Splits symbols rows ks = MatchOption (column_told rows) (ks ≡ [])
+    (λ h. (k : ℕ) → Contains ks k ↔ IsConstructorEntryOf symbols h k)
 
 -- the constructors in a pattern or a list of patterns
 abbrev pub one_constructors : Head → ℕ → ℕ

@@ -20,7 +20,8 @@ abbrev pub uses : List ℕ → Tree → Bool
 uses group (Leaf h) = false
 uses group (One h a) = uses group a
 uses group (Two h a b) = top_uses group (Two h a b) || (uses group a || uses group b)
-uses group (Three h a b c) = top_uses group (Three h a b c) || (uses group a || (uses group b || uses group c))
+uses group (Three h a b c) =
+    top_uses group (Three h a b c) || (uses group a || (uses group b || uses group c))
 
 -- whether the body of one of these definitions uses one of the symbols
 abbrev pub some_uses : List ℕ → List DefinitionTree → Bool

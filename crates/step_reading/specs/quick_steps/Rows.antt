@@ -7,6 +7,8 @@ use Rattle.tasks.specs.Task.{TaskTree}
 use Rattle.rules.specs.Rows.{Adds, IsTemplate}
 
 -- one side of an equation in the place of the other in a formula, which is a template at that side
-abbrev pub ReplacesSide : TaskTree → Option (Tree × Tree) → Option Tree → List Tree → Tree → List (List Tree) → Type 0
+abbrev pub ReplacesSide : TaskTree → Option (Tree × Tree) → Option Tree → List Tree → Tree
+    → List (List Tree) → Type 0
 ReplacesSide t sides formula q e ps =
-    IsSomeAnd sides (λ p. IsSomeAnd (type_of p.0) (λ ty. IsTemplate t ty e) × (formula ≡ Some (inst e p.0)) × Adds q ps ((inst e p.1 ∷ []) ∷ []))
+    IsSomeAnd sides (λ p. IsSomeAnd (type_of p.0) (λ ty. IsTemplate t ty e)
+    × (formula ≡ Some (inst e p.0)) × Adds q ps ((inst e p.1 ∷ []) ∷ []))

@@ -18,9 +18,11 @@ abbrev pub BinderHeld : List Tree → Binder → Type 0
 BinderHeld s (Variable ty) = Holds s ty
 BinderHeld s (Pattern p) = Holds s p
 
--- the variables have their types in each tree whose number is in a set, under the number of binders that is beside it
+-- the variables have their types in each tree whose number is in a set, under the number of binders
+-- that is beside it
 abbrev pub AreSeen : {S : Type 0} → List Tree → List Tree → HashSet (ℕ × ℕ) S → Type 0
-AreSeen types s set = (k d : ℕ) → contains same_pair set (k, d) ≡ true → HaveAt d types (get_or s k (Leaf HEnd))
+AreSeen types s set =
+    (k d : ℕ) → contains same_pair set (k, d) ≡ true → HaveAt d types (get_or s k (Leaf HEnd))
 
 -- what is told of a tree, under so many binders as the code keeps them
 pub record ToldOfTree (depth : ℕ) (types : List Tree) (e : Tree) (b : Bool) : Type 0 where

@@ -6,7 +6,7 @@ ghost use Rattle.rules.specs.Rows.{DeclaresFour, DeclaresInts, IsRuleRow};
 ghost use Rattle.step_reading.specs.quick_steps.Places.{task_here, sequent_here, premises_here, PlaceHeld};
 
 use crate::quick_steps::place::{Place, adds_nothing};
-use shared_sums::is_closed_by;
+use crate::shared_sums::is_closed_by;
 use std::alloc::{AllocError, Global};
 use tasks::{Ints, Store};
 

@@ -1,5 +1,0 @@
-use Rattle.std.proofs.Common.{length}
-use Rattle.shared_sums.proofs.told.+weigh_all.Given as goal
-
-abbrev pub decreases-weigh_all : goal.decreases-weigh_all
-decreases-weigh_all l = length l.uses.now

@@ -1,5 +1,0 @@
-use Rattle.std.proofs.Common.{length}
-use Rattle.shared_sums.proofs.uses.+are_uses.Given as goal
-
-abbrev pub decreases-are_uses : goal.decreases-are_uses
-decreases-are_uses l = length l.uses.now
