@@ -5,7 +5,7 @@ use Rattle.std.proofs.Common.{inr, subst, arith}
 use Rattle.std.proofs.lemmas.Bool.Decides.{nat_tests}
 use Rattle.std.proofs.lemmas.List.Elements.{All-cons, All-nil}
 use Rattle.std.proofs.lemmas.List.Sums.{sum_by-cons}
-use Rattle.tasks.proofs.plain_laws.Bools.{and_first}
+use Rattle.plain_laws.proofs.Bools.{and_first}
 use Rattle.tasks.specs.Task.{TaskTree, DeclarationTree, BodyTree, MakesType, Makes, Defines, Induces, Constructs, Says, made, body_nodes, declaration_nodes, nodes}
 use Rattle.tasks.specs.Vocabulary.{of_task}
 use Rattle.tasks.specs.Valid.{IsValid}

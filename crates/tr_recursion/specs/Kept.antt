@@ -6,7 +6,7 @@ use Rattle.evidence.specs.Stages.{Gives, Keeps}
 use Rattle.declarations.specs.Equation.{rewrite_equation}
 use Rattle.tr_define.specs.declarations.spelled_groups.Spelled.{spelling_rule}
 use Rattle.tr_inline.specs.inlining.branch_equations.Branches.{recursion_facts}
-use Rattle.tr_inline.proofs.inlining.branch_equations.Formulas.{recursions_spelling}
+use Rattle.inlining.proofs.branch_equations.Formulas.{recursions_spelling}
 use Rattle.tr_define.specs.Kept.{spelled_keep}
 
 -- each recursive group becomes its symbols, and then the equations of its members, by branches

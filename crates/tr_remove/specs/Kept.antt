@@ -3,7 +3,7 @@ use Rattle.std.specs.Prelude.{◌≡◌, Bool, true, false, ◌==◌, if◌then�
 use Rattle.std.specs.List.{list_any}
 use Rattle.std.proofs.Common.{inr, sym, ap, ◌∙◌}
 use Rattle.std.proofs.lemmas.List.Elements.{All-cons, All-nil}
-use Rattle.tasks.proofs.plain_laws.Bools.{and_first}
+use Rattle.plain_laws.proofs.Bools.{and_first}
 use Rattle.tasks.specs.Task.{TaskTree, DeclarationTree, BodyTree, MakesType, Makes, Defines, Induces, Constructs, Says, made, made_by}
 use Rattle.tasks.specs.Roles.{maker, role_by, role_in, is_made_by, is_constructor}
 use Rattle.tasks.specs.Vocabulary.{Vocabulary}

@@ -6,7 +6,7 @@ use Rattle.std.proofs.Common.{inl, inr, sym, subst, ap, ◌∙◌, arith, append
 use Rattle.std.proofs.lemmas.List.{append-nil}
 use Rattle.std.proofs.lemmas.List.Folds.{list_any-append, find-append}
 use Rattle.std.proofs.lemmas.List.Elements.{All-nil, All-append, Contains-append_left, Contains-append_right}
-use Rattle.tasks.proofs.plain_laws.Lists.{All-left, All-right}
+use Rattle.plain_laws.proofs.Lists.{All-left, All-right}
 use Rattle.tasks.specs.Task.{SymbolTree, TaskTree, DeclarationTree, made, made_by}
 use Rattle.tasks.specs.Roles.{RoleTree, maker, role, role_by, role_in, is_made_by, is_constructor}
 use Rattle.tasks.specs.Vocabulary.{Vocabulary, of_task}

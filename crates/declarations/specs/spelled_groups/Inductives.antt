@@ -3,7 +3,7 @@
 use Rattle.std.specs.Prelude.{◌≡◌, ℕ, ◌+◌, ◌≤◌, suc, List, [], ◌∷◌, ◌++◌, map, All, Some, refl}
 use Rattle.std.proofs.Common.{sym, subst, arith, inr}
 use Rattle.std.proofs.lemmas.List.Elements.{All-cons, All-nil, All-append}
-use Rattle.tasks.proofs.plain_laws.Lists.{All-right}
+use Rattle.plain_laws.proofs.Lists.{All-right}
 use Rattle.trees.specs.Tree.{Tree, size}
 use Rattle.tasks.specs.Task.{SymbolTree, symbol_or, InductiveTree, BodyTree, MakesType, Makes, Defines, Induces, Constructs, Says, made_by}
 use Rattle.tasks.specs.Facts.{FactTree, inversion_fact, clause_facts, all_clause_facts}

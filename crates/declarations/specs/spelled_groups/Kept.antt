@@ -3,7 +3,7 @@
 use Rattle.std.specs.Prelude.{◌≡◌, Bool, true, false, ◌==◌, if◌then◌else◌, ℕ, suc, List, [], ◌∷◌, ◌++◌, map, All, Contains, Option, Some, None, refl}
 use Rattle.std.proofs.Common.{inl, inr, sym, subst, ap, ◌∙◌, arith}
 use Rattle.std.proofs.lemmas.List.Elements.{All-cons, All-nil, All-append}
-use Rattle.tasks.proofs.plain_laws.Lists.{All-right}
+use Rattle.plain_laws.proofs.Lists.{All-right}
 use Rattle.trees.specs.Tree.{Tree}
 use Rattle.tasks.specs.Task.{SymbolTree, DefinitionTree, InductiveTree, BodyTree, MakesType, Makes, Defines, Induces, Constructs, Says, DeclarationTree, PropositionTree, made, made_by, props_of}
 use Rattle.tasks.specs.Roles.{RoleTree, PlainRole, DefinedRole, InductiveRole, maker, role_by, role_in, is_made_by, is_constructor, defined_as, inductive_as}

@@ -6,7 +6,7 @@ use Rattle.std.proofs.Common.{inl, inr, sym, subst, ap, ◌∙◌, arith}
 use Rattle.std.proofs.lemmas.Bool.Decides.{nat_tests}
 use Rattle.std.proofs.lemmas.List.Elements.{All-cons, All-nil, All-append, All-weaker}
 use Rattle.std.proofs.lemmas.List.Sums.{sum_by-cons}
-use Rattle.tasks.proofs.plain_laws.Bools.{and_first, and_second}
+use Rattle.plain_laws.proofs.Bools.{and_first, and_second}
 use Rattle.tasks.specs.trees.Tree.{Tree, size}
 use Rattle.tasks.specs.Task.{SymbolTree, AlgebraicTree, BodyTree, MakesType, Makes, Defines, Induces, Constructs, Says, DeclarationTree, TaskTree, made_by_cons, body_nodes, declaration_nodes, nodes}
 use Rattle.tasks.specs.Vocabulary.{of_task}

@@ -7,10 +7,10 @@ use Rattle.trees.specs.Tree.{Tree, Leaf, One, Two, Three, HTyVar, HCell, HFun, H
 use Rattle.trees.specs.Sorts.{sort_of, IsExpression}
 use Rattle.trees.specs.Binding.{inst_types, TyVar}
 use Rattle.tasks.specs.Vocabulary.{Vocabulary}
-use Rattle.evidence.proofs.images.Images.{expression_sort}
+use Rattle.images.proofs.Images.{expression_sort}
 use Rattle.evidence.specs.images.typing_laws.HasTyping.{HasTyping, IsTypeAt}
-use Rattle.evidence.proofs.images.TypedImages.{image_at_types}
-use Rattle.evidence.proofs.images.typing_laws.TypeInstances.{at_one, sort_at}
+use Rattle.images.proofs.TypedImages.{image_at_types}
+use Rattle.images.proofs.typing_laws.TypeInstances.{at_one, sort_at}
 use Rattle.tr_if.specs.conditionals.Conditionals.{implications, first_if, cases_over, if_of_sort, if_rule, without_ifs}
 use Rattle.tr_if.specs.conditionals.lemmas.Cases.{no_first}
 use Rattle.tr_if.specs.conditionals.lemmas.Typed.{typed_rule}

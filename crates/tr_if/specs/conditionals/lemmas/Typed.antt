@@ -10,10 +10,10 @@ use Rattle.tasks.specs.Typing.{members, entry, IsUse}
 use Rattle.tasks.specs.Valid.{VariablesBelow, ParametersOf}
 use Rattle.tasks.proofs.TypeInstances.{some_kept}
 use Rattle.evidence.specs.images.Images.{IsOtherHead}
-use Rattle.evidence.proofs.images.Images.{expression_sort, expression_type, expression_first, expression_members}
+use Rattle.images.proofs.Images.{expression_sort, expression_type, expression_first, expression_members}
 use Rattle.evidence.specs.images.typing_laws.HasTyping.{HasTyping, KeepsTyping, IsTypedRule}
-use Rattle.evidence.proofs.images.typing_laws.Sorted.{formula_no_type}
-use Rattle.evidence.proofs.images.TypedImages.{image_keeps_typing}
+use Rattle.images.proofs.typing_laws.Sorted.{formula_no_type}
+use Rattle.images.proofs.TypedImages.{image_keeps_typing}
 use Rattle.tr_if.specs.conditionals.Conditionals.{implications, cases_over, if_of_sort, if_rule, without_ifs}
 use Rattle.tr_if.specs.conditionals.lemmas.Cases.{IsByParts, implications_keep, cases_keep}
 
