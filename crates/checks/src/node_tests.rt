@@ -5,7 +5,7 @@
 ghost use Rattle.std.specs.Prelude.{◌↔◌, IsTrue, List, length};
 ghost use Rattle.trees.specs.Tree.{Tree};
 ghost use Rattle.trees.specs.Node.{tree_at, node_tree, parts_of, Holds, AreBelow};
-ghost use Rattle.checks.specs.node_tests.Each.{EachNode, CanTell, IsTold};
+ghost use Rattle.checks.specs.node_tests.Each.{EachNode, CanTell, TellsEach};
 
 use indexmap::IndexMap;
 use std::alloc::Global;
@@ -30,7 +30,7 @@ type Known = IndexMap<usize, bool>;
 #[cycle(each_passes)]
 fn tree_passes<T: NodeTest>(store: &Store, test: &T, known: &mut Known, e: TermId) -> bool
     requires { CanTell (EachNode (T.Passes test.now store.now)) store.now known.old e }
-    ensures { IsTold (EachNode (T.Passes test.now store.now)) store.now e known.new result }
+    ensures { TellsEach (EachNode (T.Passes test.now store.now)) store.now e known.new result }
 {
     if let Some(answer) = known.get(&e.0) {
         return *answer;
@@ -44,7 +44,7 @@ fn tree_passes<T: NodeTest>(store: &Store, test: &T, known: &mut Known, e: TermI
 #[cycle(each_passes)]
 fn parts_pass<T: NodeTest>(store: &Store, test: &T, known: &mut Known, e: TermId) -> bool
     requires { CanTell (EachNode (T.Passes test.now store.now)) store.now known.old e }
-    ensures { IsTold (EachNode (T.Passes test.now store.now)) store.now e known.new result }
+    ensures { TellsEach (EachNode (T.Passes test.now store.now)) store.now e known.new result }
 {
     let node = store.node(e);
     if !test.passes(store, node) {

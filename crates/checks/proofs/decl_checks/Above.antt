@@ -14,13 +14,13 @@ use Rattle.tasks.specs.Typing.{members}
 use Rattle.checks.specs.declared.decl_checks.standing.Standing.{Standing}
 use Rattle.checks.specs.declared.decl_checks.standing.Standing.TheVariants.{Other, Whole, Inside}
 use Rattle.checks.specs.decl_checks.Structure.{bound_index, standing_by, standing, through, bound_to, stands, UsePasses, TopPasses, bound_standings, matched_in, UsesPassInside}
-use Rattle.checks.specs.decl_checks.Kept.{rank, IsAbove, lesser, lessers, AreKept}
+use Rattle.checks.specs.decl_checks.Kept.{standing_rank, AreAtLeast, lesser, lessers, AreKept}
 
 -- the third isn't below both others
 abbrev IsMet : Standing → Standing → Standing → Type 0
-IsMet s t u = min (rank s) (rank t) ≤ rank u
+IsMet s t u = min (standing_rank s) (standing_rank t) ≤ standing_rank u
 
-high : (s : Standing) → rank s ≤ 2
+high : (s : Standing) → standing_rank s ≤ 2
 high Other = omega arith
 high Whole = omega arith
 high Inside = omega arith
@@ -45,8 +45,8 @@ through_met true Inside Inside Inside m = omega arith
 
 inside_met : (s t u : Standing) → IsMet s t u → s ≡ Inside → t ≡ Inside → u ≡ Inside
 inside_met s t Inside m p q = refl
-inside_met s t Whole m p q = (let a : rank s ≡ 2 = ap rank p in let b : rank t ≡ 2 = ap rank q in absurd (omega (arith, m, a, b)))
-inside_met s t Other m p q = (let a : rank s ≡ 2 = ap rank p in let b : rank t ≡ 2 = ap rank q in absurd (omega (arith, m, a, b)))
+inside_met s t Whole m p q = (let a : standing_rank s ≡ 2 = ap standing_rank p in let b : standing_rank t ≡ 2 = ap standing_rank q in absurd (omega (arith, m, a, b)))
+inside_met s t Other m p q = (let a : standing_rank s ≡ 2 = ap standing_rank p in let b : standing_rank t ≡ 2 = ap standing_rank q in absurd (omega (arith, m, a, b)))
 
 -- so at each place of lists
 abbrev AreMet : List Standing → List Standing → List Standing → Type 0
@@ -102,7 +102,7 @@ module _ (symbols : List SymbolTree) (chosen : List (ℕ × ℕ)) where
       (top_met a b c r chosen (Three h x y z) p.0 q.0, uses_met a b c r m x p.1 q.1, uses_met a b c r m y p.2 q.2, uses_met a b c r m z p.3 q.3)
 
 -- ---- lists that stand above another one, and the lesser of two
-above_met : (low known : List Standing) → IsAbove low known → (i : ℕ) → IsMet (get_or low i Other) (get_or low i Other) (get_or known i Other)
+above_met : (low known : List Standing) → AreAtLeast low known → (i : ℕ) → IsMet (get_or low i Other) (get_or low i Other) (get_or known i Other)
 above_met [] known h i = omega arith
 above_met (s ∷ ss) [] h i = absurd h
 above_met (s ∷ ss) (t ∷ ts) h zero = omega (arith, h.0)
@@ -122,7 +122,7 @@ lessers_met (s ∷ ss) (t ∷ ts) zero = lesser_met s t
 lessers_met (s ∷ ss) (t ∷ ts) (suc i) = lessers_met ss ts i
 
 module _ (symbols : List SymbolTree) (chosen : List (ℕ × ℕ)) where
-  pub uses_above : (low known : List Standing) (m e : Tree) → IsAbove low known → UsesPassInside symbols chosen low m e → UsesPassInside symbols chosen known m e
+  pub uses_above : (low known : List Standing) (m e : Tree) → AreAtLeast low known → UsesPassInside symbols chosen low m e → UsesPassInside symbols chosen known m e
   uses_above low known m e h p = uses_met symbols chosen low low known (above_met low known h) m e p p
 
   pub uses_lessers : (a b : List Standing) (m e : Tree) → UsesPassInside symbols chosen a m e → UsesPassInside symbols chosen b m e → UsesPassInside symbols chosen (lessers a b) m e

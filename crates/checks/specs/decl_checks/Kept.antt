@@ -12,19 +12,19 @@ use Rattle.checks.specs.declared.decl_checks.standing.Standing.TheVariants.{Othe
 use Rattle.checks.specs.decl_checks.Structure.{UsesPassInside}
 
 -- standings by rank: a variable that is none of the argument stands lowest, one inside it highest
-abbrev pub rank : Standing → ℕ
-rank Other = 0
-rank Whole = 1
-rank Inside = 2
+abbrev pub standing_rank : Standing → ℕ
+standing_rank Other = 0
+standing_rank Whole = 1
+standing_rank Inside = 2
 
 abbrev pub IsAtLeast : Standing → Standing → Type 0
-IsAtLeast least found = rank least ≤ rank found
+IsAtLeast least found = standing_rank least ≤ standing_rank found
 
 -- each place of a list stands at least as the same place of another list, which isn't longer
-abbrev pub IsAbove : List Standing → List Standing → Type 0
-IsAbove [] ts = Unit {0}
-IsAbove (s ∷ ss) (t ∷ ts) = IsAtLeast s t × IsAbove ss ts
-IsAbove (s ∷ ss) [] = ⊥
+abbrev pub AreAtLeast : List Standing → List Standing → Type 0
+AreAtLeast [] ts = Unit {0}
+AreAtLeast (s ∷ ss) (t ∷ ts) = IsAtLeast s t × AreAtLeast ss ts
+AreAtLeast (s ∷ ss) [] = ⊥
 
 -- the lesser of two standings
 abbrev pub lesser : Standing → Standing → Standing
@@ -52,8 +52,8 @@ pub record CanPass {S : Type 0} (symbols : List SymbolTree) (chosen : List (ℕ 
   pub kept : AreKept symbols chosen s m
 
 -- what it gives: the answer; and what is kept stays right
-pub record IsPassed {S : Type 0} (symbols : List SymbolTree) (chosen : List (ℕ × ℕ)) (s : List Tree)
-    (known : List Standing) (matched e : TermId) (m : IndexMap (ℕ × ℕ) (List Standing) S)
-    (answer : Bool) : Type 0 where
+pub record TellsUses {S : Type 0} (symbols : List SymbolTree) (chosen : List (ℕ × ℕ))
+    (s : List Tree) (known : List Standing) (matched e : TermId)
+    (m : IndexMap (ℕ × ℕ) (List Standing) S) (answer : Bool) : Type 0 where
   pub is : IsTrue answer ↔ UsesPassInside symbols chosen known (tree_at s matched) (tree_at s e)
   pub kept : AreKept symbols chosen s m

@@ -7,7 +7,7 @@ ghost use Rattle.trees.specs.Node.{tree_at, node_tree, parts_of, Holds, AreBelow
 ghost use Rattle.tasks.specs.Task.{symbol_or};
 ghost use Rattle.tasks.specs.Meaning.{symbol_at, symbols_at};
 ghost use Rattle.checks.specs.decl_checks.Structure.{parameter_standings, bound_index, standing, through, is_tuple_constructor, components, list_head, list_tail, bound_to, stands, standings_in};
-ghost use Rattle.checks.specs.decl_checks.Kept.{IsAtLeast, IsAbove, lesser, lessers};
+ghost use Rattle.checks.specs.decl_checks.Kept.{IsAtLeast, AreAtLeast, lesser, lessers};
 
 use std::alloc::{AllocError, Global};
 use tasks::{Signature, SymbolInfo, SymbolKind};
@@ -243,7 +243,7 @@ fn is_at_least(least: Standing, found: Standing) -> bool
 
 /// Whether each variable of a list stands at least as in another list, which isn't longer.
 pub(crate) fn is_above(low: &[Standing], known: &[Standing]) -> bool
-    ensures { IsTrue result → IsAbove low.now known.now }
+    ensures { IsTrue result → AreAtLeast low.now known.now }
 {
     match (low.split_first(), known.split_first()) {
         (Some((least, others)), Some((found, rest))) => {

@@ -7,7 +7,7 @@ ghost use Rattle.tasks.specs.Task.{SymbolTree};
 ghost use Rattle.tasks.specs.Meaning.{symbols_at, definition_at, definitions_at};
 ghost use Rattle.checks.specs.decl_checks.Structure.{PassesInside, UsePasses, TopPasses, UsesPassInside, symbol_arity, OnePasses, AllPass, IsStructural, choices, choice_of, PassesAt};
 ghost use Rattle.checks.specs.decl_checks.Meaning.{DefinitionHeld};
-ghost use Rattle.checks.specs.decl_checks.Kept.{AreKept, CanPass, IsPassed};
+ghost use Rattle.checks.specs.decl_checks.Kept.{AreKept, CanPass, TellsUses};
 
 use crate::decl_checks::standing::{
     Standing, is_above, lessers, parameters, standing_of, standings_under,
@@ -139,7 +139,7 @@ fn passes(
 ) -> Result<bool, AllocError>
     requires { CanPass (symbols_at store.now sig.now.symbols) chosen.now store.now kept.old matched
         e }
-    ensures { IfOk result (IsPassed (symbols_at store.now sig.now.symbols) chosen.now store.now
+    ensures { IfOk result (TellsUses (symbols_at store.now sig.now.symbols) chosen.now store.now
         known.now matched e kept.new) }
 {
     if has_passed(kept, known, matched, e) {
@@ -166,7 +166,7 @@ fn parts_pass(
 ) -> Result<bool, AllocError>
     requires { CanPass (symbols_at store.now sig.now.symbols) chosen.now store.now kept.old matched
         e }
-    ensures { IfOk result (IsPassed (symbols_at store.now sig.now.symbols) chosen.now store.now
+    ensures { IfOk result (TellsUses (symbols_at store.now sig.now.symbols) chosen.now store.now
         known.now matched e kept.new) }
 {
     let node = store.node(e);
