@@ -9,7 +9,7 @@ use Rattle.name_tables.specs.Seen.{has, with_one, with_all}
 use Rattle.name_tables.proofs.Gathering.{same_occurrence, same_itself, has_push, with_one_there, with_one_new, with_all-append}
 
 -- whether one isn't there
-abbrev is_new : List Occurrence → Occurrence → Bool
+abbrev pub is_new : List Occurrence → Occurrence → Bool
 is_new os o = not (has os o)
 
 abbrev other : Occurrence → Occurrence → Bool

@@ -1,16 +1,18 @@
 -- The instances of each symbol, and what a problem's table has of them.
-use Rattle.std.proofs.Common.{◌≡◌, ◌≢◌, ℕ, ◌<◌, ◌+◌, ◌-◌, suc, zero, Bool, true, false, cond, ◌||◌, ◌&&◌, ◌==◌, if◌then◌else◌, List, [], ◌∷◌, ◌++◌, filter, map, length, get_or, set, take, min, refl, sym, ap, subst, ◌∙◌, arith, inl, inr, get_or-set_other, get_or-set_same}
+use Rattle.std.proofs.Common.{◌≡◌, ◌≢◌, ℕ, ◌<◌, ◌+◌, ◌-◌, suc, zero, Bool, true, false, cond, ◌||◌, ◌&&◌, ◌==◌, if◌then◌else◌, List, [], ◌∷◌, ◌++◌, filter, map, length, get_or, set, take, min, refl, sym, ap, subst, ◌∙◌, arith, inl, inr, Option, get_or-set_other, get_or-set_same}
 use Rattle.std.specs.List.{flat_map}
 use Rattle.std.proofs.lemmas.Bool.{cases_lt}
 use Rattle.std.proofs.lemmas.Bool.Decides.{nat_tests}
 use Rattle.std.proofs.lemmas.List.{append-nil, take_more, get_or_append_left, get_or-append_right, get_or_past}
 use Rattle.std.proofs.lemmas.List.Elements.{filter-append, All-push, All-set}
 use Rattle.trees.specs.Tree.{Tree, above_ty_vars}
+use Rattle.trees.specs.declared.ints.Ints.{Ints}
 use Rattle.tasks.specs.Task.{TaskTree, declared}
-use Rattle.name_tables.specs.Occurrences.{Occurrence, whole_occurrence, task_occurrences}
-use Rattle.name_tables.specs.Tables.{is_same, is_interpreted, is_instance_of, symbol_instances, problem_things, task_things}
+use Rattle.name_tables.specs.Occurrences.{Occurrence, whole_occurrence}
+use Rattle.name_tables.specs.Tables.{is_same, is_interpreted, is_instance_of, symbol_instances, task_things}
 use Rattle.name_tables.specs.Seen.{occurrence_at, seen_occurrences, has, with_one, with_all, AreIn, KeyHeld, KeysHeld, GainsKeys}
-use Rattle.name_tables.specs.Groups.{in_group, IsFilled, IsKeyPushed, AreGroups, AreGroupsOf, instances_in}
+use Rattle.name_tables.specs.Groups.{in_group, IsFilled, IsKeyPushed, AreGroups, instances_in}
+use Rattle.name_tables.specs.Fronts.{things_among}
 use Rattle.name_tables.proofs.Gathering.{same_occurrence, with_one_there, with_one_new, with_all-append, added_in}
 use Rattle.name_tables.proofs.Distinct.{distinct_is}
 
@@ -118,34 +120,43 @@ group_step s keys i key old new h a p = record {
       ∙ sym (ap (in_group s k) (take_more keys i key h) ∙ filter-append (λ (x : ℕ × ℕ). is_instance_of k (occurrence_at s x)) (take i keys) (get_or keys i key ∷ []));
 }
 
--- the groups of what occurs in a task
-pub groups_of_task : (s : List Tree) (t : TaskTree) (keys : List (ℕ × ℕ)) (groups : List (List (ℕ × ℕ))) → GainsKeys s [] (task_occurrences t) keys → AreGroups s keys groups → AreGroupsOf s t groups
-groups_of_task s t keys groups g a = record {
-  held = a.held;
-  each = λ k. ap (seen_occurrences s) (a.each k) ∙ filter_of_map (is_instance_of k) (occurrence_at s) keys ∙ ap (filter (is_instance_of k)) g.is;
-}
-
-module _ (s : List Tree) (t : TaskTree) (groups : List (List (ℕ × ℕ))) (a : AreGroupsOf s t groups) where
-  same_instances : (acc : List Occurrence) (k : ℕ) → with_all acc (instances_in s t.ints groups k) ≡ with_all acc (symbol_instances t.ints (task_occurrences t) k)
-  same_instances acc k = elim (is_interpreted t.ints k) as (λ b. with_all acc (if b then whole_occurrence k ∷ [] else seen_occurrences s (get_or groups k [])) ≡ with_all acc (if b then whole_occurrence k ∷ [] else filter (is_instance_of k) (task_occurrences t))) [
+-- what is added of a symbol is what a table has of it, where these are the occurrences
+module _ (s : List Tree) (ints : Option Ints) (keys : List (ℕ × ℕ)) (groups : List (List (ℕ × ℕ))) (a : AreGroups s keys groups) where
+  one_instances : (k : ℕ) → instances_in s ints groups k ≡ symbol_instances ints (seen_occurrences s keys) k
+  one_instances k = elim (is_interpreted ints k) as (λ b. (if b then whole_occurrence k ∷ [] else seen_occurrences s (get_or groups k [])) ≡ (if b then whole_occurrence k ∷ [] else filter (is_instance_of k) (seen_occurrences s keys))) [
     | true ↦ refl
-    | false ↦ ap (with_all acc) (a.each k) ∙ filter_gathered (is_instance_of k) acc [] (task_occurrences t)
+    | false ↦ ap (seen_occurrences s) (a.each k) ∙ filter_of_map (is_instance_of k) (occurrence_at s) keys
   ]
 
-  all_instances : (acc : List Occurrence) (ks : List ℕ) → with_all acc (flat_map (instances_in s t.ints groups) ks) ≡ with_all acc (flat_map (symbol_instances t.ints (task_occurrences t)) ks)
+  pub each_instances : (ks : List ℕ) → flat_map (instances_in s ints groups) ks ≡ flat_map (symbol_instances ints (seen_occurrences s keys)) ks
+  each_instances [] = refl
+  each_instances (k ∷ ks) = (λ i. one_instances k i ++ each_instances ks i)
+
+-- what a table has, where these occur
+pub among_gained : (s : List Tree) (t : TaskTree) (seen : List (ℕ × ℕ)) (groups : List (List (ℕ × ℕ))) (ks : List ℕ) (keys : List (ℕ × ℕ)) → AreGroups s seen groups → ks ≡ declared t
+    → GainsKeys s [] (flat_map (instances_in s t.ints groups) ks) keys → seen_occurrences s keys ≡ things_among t (seen_occurrences s seen)
+among_gained s t seen groups ks keys a e g =
+    g.is ∙ ap (λ z. with_all [] (flat_map (instances_in s t.ints groups) z)) e ∙ ap (with_all []) (each_instances s t.ints seen groups a (declared t))
+    ∙ distinct_is (flat_map (symbol_instances t.ints (seen_occurrences s seen)) (declared t))
+
+-- a table has the same of what is there once each
+module _ (ints : Option Ints) (os : List Occurrence) where
+  same_instances : (acc : List Occurrence) (k : ℕ) → with_all acc (symbol_instances ints (with_all [] os) k) ≡ with_all acc (symbol_instances ints os k)
+  same_instances acc k = elim (is_interpreted ints k) as (λ b. with_all acc (if b then whole_occurrence k ∷ [] else filter (is_instance_of k) (with_all [] os)) ≡ with_all acc (if b then whole_occurrence k ∷ [] else filter (is_instance_of k) os)) [
+    | true ↦ refl
+    | false ↦ filter_gathered (is_instance_of k) acc [] os
+  ]
+
+  all_instances : (acc : List Occurrence) (ks : List ℕ) → with_all acc (flat_map (symbol_instances ints (with_all [] os)) ks) ≡ with_all acc (flat_map (symbol_instances ints os) ks)
   all_instances acc [] = refl
   all_instances acc (k ∷ ks) =
-      with_all-append acc (instances_in s t.ints groups k) (flat_map (instances_in s t.ints groups) ks)
-      ∙ ap (λ z. with_all z (flat_map (instances_in s t.ints groups) ks)) (same_instances acc k)
-      ∙ all_instances (with_all acc (symbol_instances t.ints (task_occurrences t) k)) ks
-      ∙ sym (with_all-append acc (symbol_instances t.ints (task_occurrences t) k) (flat_map (symbol_instances t.ints (task_occurrences t)) ks))
+      with_all-append acc (symbol_instances ints (with_all [] os) k) (flat_map (symbol_instances ints (with_all [] os)) ks)
+      ∙ ap (λ z. with_all z (flat_map (symbol_instances ints (with_all [] os)) ks)) (same_instances acc k)
+      ∙ all_instances (with_all acc (symbol_instances ints os k)) ks
+      ∙ sym (with_all-append acc (symbol_instances ints os k) (flat_map (symbol_instances ints os) ks))
 
--- what a problem's table has
-pub problem_gained : (s : List Tree) (t : TaskTree) (groups : List (List (ℕ × ℕ))) (ks : List ℕ) (keys : List (ℕ × ℕ)) → AreGroupsOf s t groups → ks ≡ declared t
-    → GainsKeys s [] (flat_map (instances_in s t.ints groups) ks) keys → seen_occurrences s keys ≡ problem_things t
-problem_gained s t groups ks keys a e g =
-    g.is ∙ ap (λ z. with_all [] (flat_map (instances_in s t.ints groups) z)) e ∙ all_instances s t groups a [] (declared t)
-    ∙ distinct_is (flat_map (symbol_instances t.ints (task_occurrences t)) (declared t))
+pub gathered_among : (t : TaskTree) (os : List Occurrence) → things_among t (with_all [] os) ≡ things_among t os
+gathered_among t os = sym (distinct_is (flat_map (symbol_instances t.ints (with_all [] os)) (declared t))) ∙ all_instances t.ints os [] (declared t) ∙ distinct_is (flat_map (symbol_instances t.ints os) (declared t))
 
 -- what a task's table has
 pub task_gained : (s : List Tree) (t : TaskTree) (ks : List ℕ) (keys : List (ℕ × ℕ)) → ks ≡ declared t → GainsKeys s [] (map whole_occurrence ks) keys → seen_occurrences s keys ≡ task_things t

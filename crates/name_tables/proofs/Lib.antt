@@ -6,3 +6,4 @@ pub mod Grouped
 pub mod Entries
 pub mod Differ
 pub mod Loops
+pub mod Fronts

@@ -2,12 +2,12 @@
 use Rattle.std.specs.Prelude.{◌≡◌, ℕ, ◌<◌, if◌then◌else◌, List, [], ◌∷◌, ◌++◌, filter, length, get_or, All, Option}
 use Rattle.trees.specs.Tree.{Tree}
 use Rattle.trees.specs.declared.ints.Ints.{Ints}
-use Rattle.tasks.specs.Task.{TaskTree, declared}
+use Rattle.tasks.specs.Task.{declared}
 use Rattle.tasks.specs.Meaning.{task_at}
 use Rattle.tasks.specs.declared.task.Task.{Task}
-use Rattle.name_tables.specs.Occurrences.{Occurrence, whole_occurrence, task_occurrences}
+use Rattle.name_tables.specs.Occurrences.{Occurrence, whole_occurrence}
 use Rattle.name_tables.specs.Tables.{is_interpreted, is_instance_of}
-use Rattle.name_tables.specs.Seen.{occurrence_at, seen_occurrences, with_all, KeysHeld}
+use Rattle.name_tables.specs.Seen.{occurrence_at, seen_occurrences, KeysHeld}
 
 abbrev pub in_group : List Tree → ℕ → List (ℕ × ℕ) → List (ℕ × ℕ)
 in_group s k keys = filter (λ (key : ℕ × ℕ). is_instance_of k (occurrence_at s key)) keys
@@ -27,11 +27,6 @@ pub record IsKeyPushed (s : List Tree) (old new : List (List (ℕ × ℕ))) (key
 pub record AreGroups (s : List Tree) (keys : List (ℕ × ℕ)) (groups : List (List (ℕ × ℕ))) : Type 0 where
   pub held : All (KeysHeld s) groups
   pub each : (k : ℕ) → get_or groups k [] ≡ in_group s k keys
-
--- for each symbol its instances in a task, each once
-pub record AreGroupsOf (s : List Tree) (t : TaskTree) (groups : List (List (ℕ × ℕ))) : Type 0 where
-  pub held : All (KeysHeld s) groups
-  pub each : (k : ℕ) → seen_occurrences s (get_or groups k []) ≡ filter (is_instance_of k) (with_all [] (task_occurrences t))
 
 -- what is added of a symbol
 abbrev pub instances_in : List Tree → Option Ints → List (List (ℕ × ℕ)) → ℕ → List Occurrence

@@ -4,5 +4,6 @@ pub mod Tables
 pub mod Seen
 pub mod Own
 pub mod Groups
+pub mod Fronts
 pub mod Examples
 pub mod Named

@@ -7,7 +7,8 @@ ghost use Rattle.tasks.specs.Meaning.{task_at, TaskHeld};
 ghost use Rattle.name_tables.specs.Occurrences.{occurrence, whole_occurrence, in_type, occurrences};
 ghost use Rattle.name_tables.specs.Tables.{is_of_ints, is_interpreted, problem_things, task_things, thing_of, occurrence_place, distinct};
 ghost use Rattle.name_tables.specs.Seen.{occurrence_at, seen_occurrences, has, KeyHeld, KeysHeld, GainsKeys};
-ghost use Rattle.name_tables.specs.Groups.{AreGroups, AreGroupsOf, IsFilled, IsKeyPushed, instances_in, AreDeclaredSymbols};
+ghost use Rattle.name_tables.specs.Groups.{AreGroups, IsFilled, IsKeyPushed, instances_in, AreDeclaredSymbols};
+ghost use Rattle.name_tables.specs.Fronts.{things_among};
 
 use crate::walk::{Key, add_key, empty_list, has_key, seen_in, seen_in_term, seen_in_type};
 use indexmap::IndexSet;
@@ -178,15 +179,6 @@ fn add_wholes(store: &Store, keys: &mut IndexSet<Key>, symbols: &[usize]) -> Res
     Ok(())
 }
 
-// For each symbol of a task the instances that occur in it.
-fn groups_in(alloc: Global, store: &Store, task: &Task) -> Result<Vec<Seq<Key>>, AllocError>
-    requires { TaskHeld store.now task.now }
-    ensures { IfOk result (λ v. AreGroupsOf store.now (task_at store.now task.now) v.items) }
-{
-    let seen = seen_in(alloc, store, task)?;
-    groups_of(alloc, store, seen.as_slice())
-}
-
 impl Things {
     /// What is in the table of a task's problem. Only want of memory refuses.
     pub fn of_problem(alloc: Global, store: &Store, task: &Task) -> Result<Things, AllocError>
@@ -196,7 +188,23 @@ impl Things {
             ≡ problem_things (task_at store.now
             task.now)) }
     {
-        let groups = groups_in(alloc, store, task)?;
+        let seen = seen_in(alloc, store, task)?;
+        Things::of_seen(alloc, store, task, seen.as_slice())
+    }
+
+    /// What is in the table of a problem, where these occur in it and the task has its declarations.
+    pub(crate) fn of_seen(
+        alloc: Global,
+        store: &Store,
+        task: &Task,
+        seen: &[Key],
+    ) -> Result<Things, AllocError>
+        requires { KeysHeld store.now seen.now }
+        ensures held { IfOk result (KeysHeld store.now) }
+        ensures things { IfOk result (λ v. seen_occurrences store.now v
+            ≡ things_among (task_at store.now task.now) (seen_occurrences store.now seen.now)) }
+    {
+        let groups = groups_of(alloc, store, seen)?;
         let symbols = declared_in(alloc, task)?;
         let mut keys = IndexSet::new(alloc);
         add_all_instances(
@@ -206,6 +214,23 @@ impl Things {
             groups.as_slice(),
             symbols.as_slice(),
         )?;
+        Ok(Things { keys })
+    }
+
+    /// No things.
+    pub(crate) fn none(alloc: Global) -> Things
+        ensures { result ≡ [] }
+    {
+        Things {
+            keys: IndexSet::new(alloc),
+        }
+    }
+
+    /// The same things once more.
+    pub(crate) fn copied(&self) -> Result<Things, AllocError>
+        ensures { IfOk result (λ v. v ≡ self.now) }
+    {
+        let keys = self.keys.clone()?;
         Ok(Things { keys })
     }
 

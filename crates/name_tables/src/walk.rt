@@ -10,6 +10,7 @@ ghost use Rattle.tasks.specs.Meaning.{trees_at, body_at, declarations_at, task_a
 ghost use Rattle.name_tables.specs.Occurrences.{in_type, in_option, in_types_of, occurrences_at, in_proposition, occurrences, task_occurrences};
 ghost use Rattle.name_tables.specs.Seen.{occurrence_at, seen_occurrences, has, with_all, AreIn, KeyHeld, KeysHeld, IsSeen, Sees, IsWalk, WalksTerms, GainsKeys};
 ghost use Rattle.name_tables.specs.Own.{own, inner, said_occurrences};
+ghost use Rattle.name_tables.specs.Fronts.{said_in, rest_occurrences};
 
 use indexmap::IndexSet;
 use std::alloc::{AllocError, Global};
@@ -317,6 +318,40 @@ fn note_types(store: &Store, seen: &mut IndexSet<Key>, types: &[TermId]) -> Resu
     Ok(())
 }
 
+/// What occurs in what declarations say.
+pub(crate) fn seen_in_declarations(
+    alloc: Global,
+    store: &Store,
+    decls: &[Decl],
+) -> Result<IndexSet<Key>, AllocError>
+    requires { All (DeclHeld store.now) decls.now }
+    ensures { IfOk result (λ v. Sees store.now []
+        (said_in (declarations_at store.now decls.now)) v.keys) }
+{
+    let mut seen = IndexSet::new(alloc);
+    let mut done = IndexSet::new(alloc);
+    note_propositions(store, &mut seen, &mut done, decls)?;
+    Ok(seen)
+}
+
+/// Notes what occurs in the parameters, the locals and the goal of a task.
+pub(crate) fn note_rest(
+    alloc: Global,
+    store: &Store,
+    seen: &mut IndexSet<Key>,
+    task: &Task,
+) -> Result<(), AllocError>
+    requires seen { IsSeen store.now seen.old.keys }
+    requires held { TaskHeld store.now task.now }
+    ensures { OnOk result (Sees store.now seen.old.keys
+        (rest_occurrences (task_at store.now task.now)) seen.new.keys) }
+{
+    let mut done = IndexSet::new(alloc);
+    note_types(store, seen, task.params.as_slice())?;
+    note_formulas(store, seen, &mut done, task.locals.as_slice())?;
+    note_term(store, seen, &mut done, task.goal)
+}
+
 /// What occurs in a task.
 pub(crate) fn seen_in(
     alloc: Global,
@@ -328,12 +363,8 @@ pub(crate) fn seen_in(
         (task_occurrences (task_at store.now task.now))
         v.keys) }
 {
-    let mut seen = IndexSet::new(alloc);
-    let mut done = IndexSet::new(alloc);
-    note_propositions(store, &mut seen, &mut done, task.decls.as_slice())?;
-    note_types(store, &mut seen, task.params.as_slice())?;
-    note_formulas(store, &mut seen, &mut done, task.locals.as_slice())?;
-    note_term(store, &mut seen, &mut done, task.goal)?;
+    let mut seen = seen_in_declarations(alloc, store, task.decls.as_slice())?;
+    note_rest(alloc, store, &mut seen, task)?;
     Ok(seen)
 }
 

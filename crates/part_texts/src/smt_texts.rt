@@ -5,4 +5,4 @@
 mod lines;
 mod text;
 
-pub use text::smt_text;
+pub use text::{push_smt_problem, smt_text};

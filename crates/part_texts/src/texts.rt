@@ -2,61 +2,37 @@
 // They depend on both printers; the program writes them.
 ghost use Rattle.std.specs.Prelude.{◌≡◌, ◌++◌, length, IfOk, OnOk};
 ghost use Rattle.tasks.specs.Meaning.{task_at, tasks_at, TaskHeld, TasksHeld};
-ghost use Rattle.printed_problems.specs.Problems.{problem_of};
-ghost use Rattle.printed_problems.specs.Made.{IsProblem};
 ghost use Rattle.part_texts.specs.Problems.{AreProblems};
-ghost use Rattle.part_texts.specs.Texts.{part_text, part_texts};
+ghost use Rattle.part_texts.specs.Texts.{part_text, part_texts, PrintsTask};
 
-use crate::smt_texts::smt_text;
-use crate::tff_texts::tff_text;
+use crate::smt_texts::push_smt_problem;
+use crate::tff_texts::push_tff_problem;
 use drivers::driver_items::Printer;
 use drivers::driver_parts::Driver;
+use name_tables::Noted;
 use printed_problems::Problem;
+use printed_problems::printed_terms::TermPrinter;
 use std::alloc::{AllocError, Global};
 use tasks::{Store, Task};
 
-// The text of a part in the syntax of the driver's printer.
-fn part_text(
-    alloc: Global,
-    store: &Store,
-    driver: &Driver,
-    task: &Task,
-    problem: &Problem,
-    part: usize,
-    parts: usize,
-) -> Result<Vec<u8>, AllocError>
-    requires held { TaskHeld store.now task.now }
-    requires problem { IsProblem store.now (problem_of driver.now (task_at store.now task.now))
-        problem.now }
-    ensures { IfOk result (λ v. v.items ≡ part_text driver.now part parts (task_at store.now
-        task.now)) }
-{
-    match driver.printer {
-        Printer::Smt => smt_text(alloc, store, task, driver, problem, part, parts),
-        Printer::Tff => tff_text(alloc, store, task, driver, problem, part, parts),
-    }
-}
-
-// Appends the text of a part.
+// Appends the text of a part, in the syntax of the driver's printer.
 fn push_part(
-    alloc: Global,
-    store: &Store,
-    driver: &Driver,
+    c: &TermPrinter<'_>,
+    out: &mut Vec<u8>,
     task: &Task,
     problem: &Problem,
     part: usize,
     parts: usize,
-    out: &mut Vec<u8>,
 ) -> Result<(), AllocError>
-    requires held { TaskHeld store.now task.now }
-    requires problem { IsProblem store.now (problem_of driver.now (task_at store.now task.now))
-        problem.now }
-    ensures { OnOk result (out.new.items ≡ out.old.items ++ part_text driver.now part parts
-        (task_at store.now task.now)) }
+    requires printer { PrintsTask c.now task.now problem.now }
+    requires held { TaskHeld c.now.store.now task.now }
+    ensures { OnOk result (out.new.items ≡ out.old.items ++ part_text c.now.driver.now part parts
+        (task_at c.now.store.now task.now)) }
 {
-    let text = part_text(alloc, store, driver, task, problem, part, parts)?;
-    out.extend_from_slice(&text)?;
-    Ok(())
+    match c.driver.printer {
+        Printer::Smt => push_smt_problem(c, out, task, problem, part, parts),
+        Printer::Tff => push_tff_problem(c, out, task, problem, part, parts),
+    }
 }
 
 /// The texts of the parts of a goal, counted from 1, in the syntax of the driver's printer. Only want of memory refuses.
@@ -73,18 +49,20 @@ pub fn part_texts(
     ensures { IfOk result (λ v. v.items ≡ part_texts driver.now (tasks_at store.now tasks.now)) }
 {
     let mut out = Vec::new(alloc);
+    let mut noted = Noted::new(alloc);
     let parts = tasks.len();
     for place in 0..parts {
-        push_part(
+        let task = &tasks[place];
+        let problem = &problems[place];
+        let things = noted.things_of(alloc, store, task)?;
+        let c = TermPrinter {
             alloc,
             store,
             driver,
-            &tasks[place],
-            &problems[place],
-            place + 1,
-            parts,
-            &mut out,
-        )?;
+            things: &things,
+            names: problem.names.as_slice(),
+        };
+        push_part(&c, &mut out, task, problem, place + 1, parts)?;
     }
     Ok(out)
 }

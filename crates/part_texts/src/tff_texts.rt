@@ -5,4 +5,4 @@
 mod lines;
 mod text;
 
-pub use text::tff_text;
+pub use text::{push_tff_problem, tff_text};

@@ -73,7 +73,7 @@ bare_within c can =
     subst (λ (z : List ℕ). All (λ p. p < length c.things.now) z) (sym can.bare)
     (All-weaker (λ p. p < 0 + length (seen_occurrences s c.things.now)) (λ p. p < length c.things.now) (λ p l. omega (arith, n)) _ (places_within (is_bare d t) 0 (seen_occurrences s c.things.now)))
 
-found_bare : (c : Checker) → CanCheck c → (os : List Occurrence) → first_where (is_seen c.store.now c.things.now os) c.bare.now ≡ place_where (is_bare_in c.driver.now (the_task c) os) 0 (problem_things (the_task c))
+pub found_bare : (c : Checker) → CanCheck c → (os : List Occurrence) → first_where (is_seen c.store.now c.things.now os) c.bare.now ≡ place_where (is_bare_in c.driver.now (the_task c) os) 0 (problem_things (the_task c))
 found_bare c can os =
     let s = c.store.now in
     let keys = c.things.now in

@@ -8,7 +8,7 @@ use Rattle.trees.specs.Tree.{Tree, Leaf, One, Two, Three, Head, HEnd, head_of}
 use Rattle.trees.specs.Node.{tree_at, assemble}
 use Rattle.drivers.specs.declared.driver_items.kinds.Syntax.{Syntax}
 use Rattle.printed_problems.specs.Faults.{has_head, has_forms}
-use Rattle.printed_problems.specs.Checks.{HaveForms, parts_have_forms}
+use Rattle.printed_problems.specs.Checks.{Pass, parts_have_forms}
 use Rattle.tasks.proofs.outside.Bools.{and_true}
 
 -- the operator at the top, and the children
@@ -37,25 +37,26 @@ assembled_formed p s h (parts.Three a b c) = refl
 pub formed_parts : (p : Syntax) (s : List Tree) (e : Tree) (h : Head) (ps qs : Parts) → e ≡ assemble s h ps → qs ≡ ps → parts_formed p s qs ≡ parts_have_forms p e
 formed_parts p s e h ps qs is same = ap (parts_formed p s) same ∙ assembled_formed p s h ps ∙ sym (ap (parts_have_forms p) is)
 
-pub forms_there : (p : Syntax) (s : List Tree) (ids : List ℕ) (id : ℕ) → HaveForms p s ids → list_any (nat_eq id) ids ≡ true → has_forms p (get_or s id (Leaf HEnd)) ≡ true
-forms_there p s [] id h e = absurd (cc)
-forms_there p s (j ∷ ids) id h e = elim (nat_eq id j) as (λ b. nat_eq id j ≡ b → (b || list_any (nat_eq id) ids) ≡ true → has_forms p (get_or s id (Leaf HEnd)) ≡ true) [
-  | true ↦ λ q _. let same : j ≡ id = grind (arith, nat_tests) in subst (λ n. has_forms p (get_or s n (Leaf HEnd)) ≡ true) same h.0
-  | false ↦ λ q more. forms_there p s ids id h.1 more
-] refl e
+-- ---- terms that pass a test
+module _ (test : Tree → Bool) (s : List Tree) where
+  pub pass_there : (ids : List ℕ) (id : ℕ) → Pass test s ids → list_any (nat_eq id) ids ≡ true → test (get_or s id (Leaf HEnd)) ≡ true
+  pass_there [] id h e = absurd (cc)
+  pass_there (j ∷ ids) id h e = elim (nat_eq id j) as (λ b. nat_eq id j ≡ b → (b || list_any (nat_eq id) ids) ≡ true → test (get_or s id (Leaf HEnd)) ≡ true) [
+    | true ↦ λ q _. let same : j ≡ id = grind (arith, nat_tests) in subst (λ n. test (get_or s n (Leaf HEnd)) ≡ true) same h.0
+    | false ↦ λ q more. pass_there ids id h.1 more
+  ] refl e
 
-forms_push : (p : Syntax) (s : List Tree) (ids : List ℕ) (id : ℕ) → HaveForms p s ids → has_forms p (get_or s id (Leaf HEnd)) ≡ true → HaveForms p s (ids ++ id ∷ [])
-forms_push p s [] id h k = (k, tt)
-forms_push p s (j ∷ ids) id h k = (h.0, forms_push p s ids id h.1 k)
+  pass_push : (ids : List ℕ) (id : ℕ) → Pass test s ids → test (get_or s id (Leaf HEnd)) ≡ true → Pass test s (ids ++ id ∷ [])
+  pass_push [] id h k = (k, tt)
+  pass_push (j ∷ ids) id h k = (h.0, pass_push ids id h.1 k)
 
--- one more
-pub forms_marked : (p : Syntax) (s : List Tree) (ids new : List ℕ) (id : ℕ) → HaveForms p s ids → has_forms p (get_or s id (Leaf HEnd)) ≡ true → new ≡ (if list_any (nat_eq id) ids then ids else ids ++ id ∷ [])
-    → HaveForms p s new
-forms_marked p s ids new id h k e = rw e (by (list_any (nat_eq id) ids))
-  where
-    by : (b : Bool) → HaveForms p s (if b then ids else ids ++ id ∷ [])
-    by true = h
-    by false = forms_push p s ids id h k
+  -- one more
+  pub pass_marked : (ids new : List ℕ) (id : ℕ) → Pass test s ids → test (get_or s id (Leaf HEnd)) ≡ true → new ≡ (if list_any (nat_eq id) ids then ids else ids ++ id ∷ []) → Pass test s new
+  pass_marked ids new id h k e = rw e (by (list_any (nat_eq id) ids))
+    where
+      by : (b : Bool) → Pass test s (if b then ids else ids ++ id ∷ [])
+      by true = h
+      by false = pass_push ids id h k
 
 pub head_of_assembled : (s : List Tree) (h : Head) (ps : Parts) → head_of (assemble s h ps) ≡ h
 head_of_assembled s h parts.None = refl

@@ -4,3 +4,4 @@ pub mod First
 pub mod Forming
 pub mod Placing
 pub mod FactList
+pub mod Faultless

@@ -23,10 +23,14 @@ abbrev pub MeetsFault : {X : Type 0} → Result X PrintFault → Option PrintFau
 MeetsFault (Ok x) due = due ≡ None
 MeetsFault (Err f) due = IsDueFault f due
 
+-- these terms pass a test
+abbrev pub Pass : (Tree → Bool) → List Tree → List ℕ → Type 0
+Pass test s [] = Unit {0}
+Pass test s (id ∷ ids) = IsTrue (test (get_or s id (Leaf HEnd))) × Pass test s ids
+
 -- the syntax has all forms of these terms
 abbrev pub HaveForms : Syntax → List Tree → List ℕ → Type 0
-HaveForms p s [] = Unit {0}
-HaveForms p s (id ∷ ids) = IsTrue (has_forms p (get_or s id (Leaf HEnd))) × HaveForms p s ids
+HaveForms p = Pass (has_forms p)
 
 -- it is told whether there are all forms, and what was looked at has them
 pub record LooksAt (p : Syntax) (s : List Tree) (due told : Bool) (ids : List ℕ) : Type 0 where

@@ -6,4 +6,6 @@ pub mod Problems
 pub mod Faults
 pub mod Tests
 pub mod Checks
+pub mod Checked
+pub mod Shared
 pub mod Made

@@ -1,11 +1,14 @@
 // The first fault of a task, declaration by declaration.
 ghost use Rattle.std.specs.Prelude.{map, All, IfOk, OnOk};
 ghost use Rattle.trees.specs.Node.{tree_at, Holds};
+ghost use Rattle.drivers.specs.driver_items.Syntaxes.{syntax_of};
 ghost use Rattle.tasks.specs.Meaning.{trees_at, body_at, declarations_at, BodyHeld, DeclHeld};
 ghost use Rattle.name_tables.specs.Seen.{KeysHeld};
 ghost use Rattle.printed_problems.specs.Faults.{formula_fault, printed_body_fault, printed_type_fault, declaration_faults, first_print_fault, print_fault};
 ghost use Rattle.printed_problems.specs.Checks.{MeetsFault, AreFormed, CanCheck, MeetsSeen, bare_fault, the_task};
+ghost use Rattle.printed_problems.specs.Checked.{IsChecked, AreChecked};
 
+use crate::checked::Checked;
 use crate::fault::PrintFault;
 use crate::forms::has_forms;
 use drivers::driver_parts::Driver;
@@ -80,21 +83,44 @@ fn check_formula(
     check_seen(c, Things::of_term(alloc, c.store, e))
 }
 
+// The fault of a formula that is the declaration of a number, which is looked at unless it was found without one.
+fn check_once(
+    alloc: Global,
+    c: &Checker<'_>,
+    checked: &mut Checked,
+    number: usize,
+    e: TermId,
+) -> Result<(), PrintFault>
+    requires can { CanCheck c.now }
+    requires checked { AreChecked c.now checked.old }
+    requires held { Holds c.now.store.now e }
+    ensures due { MeetsFault result (formula_fault c.now.driver.now (the_task c.now) number (tree_at
+        c.now.store.now e)) }
+    ensures checked { OnOk result (AreChecked c.now checked.new) }
+{
+    if checked.faultless.contains(&e.0) {
+        return Ok(());
+    }
+    check_formula(alloc, c, &mut checked.formed, number, e)?;
+    checked.faultless.insert(e.0)?;
+    Ok(())
+}
+
 // The fault of the declaration of a number.
 fn check_body(
     alloc: Global,
     c: &Checker<'_>,
-    done: &mut IndexSet<usize>,
+    checked: &mut Checked,
     number: usize,
     body: &Body,
 ) -> Result<(), PrintFault>
     requires can { CanCheck c.now }
-    requires done { AreFormed c.now done.old.keys }
+    requires checked { AreChecked c.now checked.old }
     requires held { BodyHeld c.now.store.now body.now }
     ensures due { MeetsFault result (printed_body_fault c.now.driver.now (the_task c.now) number
         (body_at
         c.now.store.now body.now)) }
-    ensures done { OnOk result (AreFormed c.now done.new.keys) }
+    ensures checked { OnOk result (AreChecked c.now checked.new) }
 {
     match body {
         Body::TypeSymbol(_) => Ok(()),
@@ -102,7 +128,7 @@ fn check_body(
         Body::Defs(_) => Err(PrintFault::Unprintable { decl: number }),
         Body::Inductives(_) => Err(PrintFault::Unprintable { decl: number }),
         Body::Algebraics(_) => Err(PrintFault::Unprintable { decl: number }),
-        Body::Prop(formula) => check_formula(alloc, c, done, number, *formula),
+        Body::Prop(formula) => check_once(alloc, c, checked, number, *formula),
     }
 }
 
@@ -110,19 +136,19 @@ fn check_body(
 fn check_declarations(
     alloc: Global,
     c: &Checker<'_>,
-    done: &mut IndexSet<usize>,
+    checked: &mut Checked,
     decls: &[Decl],
 ) -> Result<(), PrintFault>
     requires can { CanCheck c.now }
-    requires done { AreFormed c.now done.old.keys }
+    requires checked { AreChecked c.now checked.old }
     requires held { All (DeclHeld c.now.store.now) decls.now }
     ensures due { MeetsFault result (first_print_fault
         (declaration_faults c.now.driver.now (the_task c.now) 0
         (declarations_at c.now.store.now decls.now))) }
-    ensures done { OnOk result (AreFormed c.now done.new.keys) }
+    ensures checked { OnOk result (AreChecked c.now checked.new) }
 {
     for number in 0..decls.len() {
-        check_body(alloc, c, done, number, &decls[number].body)?;
+        check_body(alloc, c, checked, number, &decls[number].body)?;
     }
     Ok(())
 }
@@ -148,42 +174,50 @@ fn check_types(alloc: Global, c: &Checker<'_>, types: &[TermId]) -> Result<(), P
 fn check_formulas(
     alloc: Global,
     c: &Checker<'_>,
-    done: &mut IndexSet<usize>,
+    checked: &mut Checked,
     number: usize,
     formulas: &[TermId],
 ) -> Result<(), PrintFault>
     requires can { CanCheck c.now }
-    requires done { AreFormed c.now done.old.keys }
+    requires checked { AreChecked c.now checked.old }
     requires held { All (Holds c.now.store.now) formulas.now }
     ensures due { MeetsFault result (first_print_fault
         (map (formula_fault c.now.driver.now (the_task c.now)
         number) (trees_at c.now.store.now formulas.now))) }
-    ensures done { OnOk result (AreFormed c.now done.new.keys) }
+    ensures checked { OnOk result (AreChecked c.now checked.new) }
 {
     for formula in formulas {
-        check_formula(alloc, c, done, number, *formula)?;
+        check_once(alloc, c, checked, number, *formula)?;
     }
     Ok(())
 }
 
-// The first fault of a task, given terms whose forms the printer has.
-fn check_parts(alloc: Global, c: &Checker<'_>, done: &mut IndexSet<usize>) -> Result<(), PrintFault>
+// The first fault of a task, given what was found without one.
+fn check_parts(alloc: Global, c: &Checker<'_>, checked: &mut Checked) -> Result<(), PrintFault>
     requires can { CanCheck c.now }
-    requires done { AreFormed c.now done.old.keys }
-    ensures { MeetsFault result (print_fault c.now.driver.now (the_task c.now)) }
+    requires checked { AreChecked c.now checked.old }
+    ensures due { MeetsFault result (print_fault c.now.driver.now (the_task c.now)) }
+    ensures checked { OnOk result (AreChecked c.now checked.new) }
 {
     let decls = c.task.decls.as_slice();
-    check_declarations(alloc, c, done, decls)?;
+    check_declarations(alloc, c, checked, decls)?;
     check_types(alloc, c, c.task.params.as_slice())?;
-    check_formulas(alloc, c, done, decls.len(), c.task.locals.as_slice())?;
-    check_formula(alloc, c, done, decls.len(), c.task.goal)
+    check_formulas(alloc, c, checked, decls.len(), c.task.locals.as_slice())?;
+    check_once(alloc, c, checked, decls.len(), c.task.goal)
 }
 
-/// The first fault of a task.
-pub(crate) fn check_task(alloc: Global, c: &Checker<'_>) -> Result<(), PrintFault>
-    requires { CanCheck c.now }
-    ensures { MeetsFault result (print_fault c.now.driver.now (the_task c.now)) }
+/// The first fault of a task, given what was found without one in others.
+pub(crate) fn check_task(
+    alloc: Global,
+    c: &Checker<'_>,
+    checked: &mut Checked,
+) -> Result<(), PrintFault>
+    requires can { CanCheck c.now }
+    requires checked { IsChecked (syntax_of c.now.driver.now.printer) c.now.store.now checked.old }
+    ensures due { MeetsFault result (print_fault c.now.driver.now (the_task c.now)) }
+    ensures checked { OnOk result (IsChecked (syntax_of c.now.driver.now.printer) c.now.store.now
+        checked.new) }
 {
-    let mut done = IndexSet::new(alloc);
-    check_parts(alloc, c, &mut done)
+    checked.turn_to(alloc, c.things, c.bare)?;
+    check_parts(alloc, c, checked)
 }

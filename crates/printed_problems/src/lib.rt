@@ -4,6 +4,7 @@
 //! Contract: exactly the problem, or exactly the first fault, declaration by declaration.
 #![tactic(auto)]
 
+mod checked;
 mod checks;
 mod fault;
 mod forms;
@@ -15,7 +16,7 @@ mod templates;
 
 pub use drivers::driver_parts::Driver;
 pub use fault::PrintFault;
-pub use making::problem;
+pub use making::{Shared, problem, problem_after};
 pub use name_tables::task_names;
 pub use printed::Problem;
 pub use templates::has_template;

@@ -1,20 +1,26 @@
 // The problem of a task under a driver.
-ghost use Rattle.std.specs.Prelude.{◌≡◌, ◌++◌, All, IfOk, OnOk, None};
+ghost use Rattle.std.specs.Prelude.{◌≡◌, ◌++◌, List, All, IfOk, OnOk, None};
+ghost use Rattle.trees.specs.Tree.{Tree};
 ghost use Rattle.trees.specs.Node.{Holds};
 ghost use Rattle.tasks.specs.Meaning.{trees_at, body_at, task_at, BodyHeld, DeclHeld, TaskHeld};
+ghost use Rattle.drivers.specs.driver_items.Syntaxes.{syntax_of};
+ghost use Rattle.drivers.specs.declared.driver_items.kinds.Syntax.{Syntax};
 ghost use Rattle.name_tables.specs.Tables.{problem_things};
 ghost use Rattle.name_tables.specs.Seen.{seen_occurrences, KeysHeld};
 ghost use Rattle.printed_problems.specs.Problems.{problem_of};
 ghost use Rattle.printed_problems.specs.Faults.{print_fault};
 ghost use Rattle.printed_problems.specs.Checks.{MeetsFault};
+ghost use Rattle.printed_problems.specs.Checked.{IsChecked};
+ghost use Rattle.printed_problems.specs.Shared.{IsShared};
 ghost use Rattle.printed_problems.specs.Made.{problem_at, ProblemHeld, HasTheory, text_if, IsPreludeTold, PushesTold, ArePreludes, AreNumberedFacts, said_formulas};
 
+use crate::checked::Checked;
 use crate::checks::{Checker, check_task};
 use crate::fault::PrintFault;
 use crate::places::{Question, places_of};
 use crate::printed::Problem;
 use drivers::driver_parts::Driver;
-use name_tables::{Things, names_of};
+use name_tables::{Noted, Things, names_of};
 use std::alloc::{AllocError, Global};
 use tasks::{Body, Decl, Seq, Task, Text};
 use trees::store::{Store, TermId};
@@ -157,14 +163,17 @@ fn problem_of_things(
     task: &Task,
     driver: &Driver,
     things: &Things,
+    checked: &mut Checked,
 ) -> Result<Problem, PrintFault>
     requires held { TaskHeld store.now task.now }
     requires things_held { KeysHeld store.now things.now }
     requires things { seen_occurrences store.now things.now
         ≡ problem_things (task_at store.now task.now) }
+    requires checked { IsChecked (syntax_of driver.now.printer) store.now checked.old }
     ensures problem { IfOk result (λ p. problem_at store.now p ≡ problem_of driver.now (task_at
         store.now task.now)) }
     ensures held { IfOk result (ProblemHeld store.now) }
+    ensures checked { OnOk result (IsChecked (syntax_of driver.now.printer) store.now checked.new) }
     ensures due { MeetsFault result (print_fault driver.now (task_at store.now task.now)) }
 {
     let bare = places_of(alloc, driver, task, things, Question::IsBare)?;
@@ -175,7 +184,7 @@ fn problem_of_things(
         things,
         bare: bare.as_slice(),
     };
-    check_task(alloc, &checker)?;
+    check_task(alloc, &checker, checked)?;
     problem_by(alloc, store, task, driver, things)
 }
 
@@ -195,7 +204,54 @@ pub fn problem(
     ensures due { MeetsFault result (print_fault driver.now (task_at store.now task.now)) }
 {
     match Things::of_problem(alloc, store, task) {
-        Ok(things) => problem_of_things(alloc, store, task, driver, &things),
+        Ok(things) => {
+            let mut checked = Checked::new(alloc);
+            problem_of_things(alloc, store, task, driver, &things, &mut checked)
+        }
+        Err(_) => Err(PrintFault::Memory),
+    }
+}
+
+/// What problems of tasks share: what was noted of declarations, and what was found without a fault.
+#[derive(Drop)]
+pub struct Shared<'a> {
+    pub noted: Noted<'a>,
+    pub checked: Checked,
+}
+
+impl<'a> Shared<'a> {
+    /// What no problems share.
+    pub fn new(alloc: Global) -> Shared<'a>
+        ensures { (p : Syntax) (s : List Tree) → IsShared p s result }
+    {
+        Shared {
+            noted: Noted::new(alloc),
+            checked: Checked::new(alloc),
+        }
+    }
+}
+
+/// The problem of a task under a driver, or its first fault, as `problem`: what was looked at in other tasks isn't looked at
+/// again.
+pub fn problem_after<'a>(
+    alloc: Global,
+    store: &Store,
+    task: &'a Task,
+    driver: &Driver,
+    shared: &mut Shared<'a>,
+) -> Result<Problem, PrintFault>
+    requires shared { IsShared (syntax_of driver.now.printer) store.now shared.old }
+    requires held { TaskHeld store.now task.now }
+    ensures problem { IfOk result (λ p. problem_at store.now p ≡ problem_of driver.now (task_at
+        store.now task.now)) }
+    ensures held { IfOk result (ProblemHeld store.now) }
+    ensures due { MeetsFault result (print_fault driver.now (task_at store.now task.now)) }
+    ensures shared { OnOk result (IsShared (syntax_of driver.now.printer) store.now shared.new) }
+{
+    match shared.noted.things_of(alloc, store, task) {
+        Ok(things) => {
+            problem_of_things(alloc, store, task, driver, &things, &mut shared.checked)
+        }
         Err(_) => Err(PrintFault::Memory),
     }
 }

@@ -16,8 +16,8 @@ use std::alloc::{AllocError, Global};
 use tasks::Task;
 use trees::store::Store;
 
-// Appends the text of a task's problem.
-fn push_problem(
+/// Appends the text of a task's problem, with what is in its table and its names. Only want of memory refuses.
+pub fn push_smt_problem(
     c: &TermPrinter<'_>,
     out: &mut Vec<u8>,
     task: &Task,
@@ -72,6 +72,6 @@ pub fn smt_text(
         names: problem.names.as_slice(),
     };
     let mut out = Vec::new(alloc);
-    push_problem(&c, &mut out, task, problem, part, parts)?;
+    push_smt_problem(&c, &mut out, task, problem, part, parts)?;
     Ok(out)
 }

@@ -34,8 +34,8 @@ fn push_premises(
     push_axioms(c, out, premises.as_slice())
 }
 
-// Appends the text of a task's problem.
-fn push_problem(
+/// Appends the text of a task's problem, with what is in its table and its names. Only want of memory refuses.
+pub fn push_tff_problem(
     c: &TermPrinter<'_>,
     out: &mut Vec<u8>,
     task: &Task,
@@ -88,6 +88,6 @@ pub fn tff_text(
         names: problem.names.as_slice(),
     };
     let mut out = Vec::new(alloc);
-    push_problem(&c, &mut out, task, problem, part, parts)?;
+    push_tff_problem(&c, &mut out, task, problem, part, parts)?;
     Ok(out)
 }

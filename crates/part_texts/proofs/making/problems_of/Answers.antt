@@ -31,5 +31,6 @@ loop-place-preserved c =
       held = subst (All (ProblemHeld s)) (sym items) (All-push (ProblemHeld s) made p c.loop-place.invariant.held c.in_ok-problem_at.ensures.problem.held);
       are = ap (λ (ps : List Problem). map (problem_at s) ps) items
           ∙ problems_more s d tasks i t made p c.index-tasks-place.is c.loop-place-test.true c.in_ok-problem_at.ensures.problem c.loop-place.invariant.are;
+      shared = c.in_ok-problem_at.ensures.shared;
       none = fault_step s d tasks i t (first_fault d 1 (tasks_at s tasks)) c.index-tasks-place.is c.loop-place-test.true c.in_ok-problem_at.ensures.none c.loop-place.invariant.none;
     }

@@ -5,14 +5,14 @@ use Rattle.trees.specs.Node.{tree_at, head_of_node, parts_of}
 use Rattle.drivers.specs.driver_items.Syntaxes.{syntax_of}
 use Rattle.printed_problems.specs.Faults.{has_head, has_forms}
 use Rattle.printed_problems.specs.Checks.{LooksAt, parts_have_forms}
-use Rattle.printed_problems.proofs.Forming.{head_of_assembled, forms_are, formed_parts, forms_there, forms_marked}
+use Rattle.printed_problems.proofs.Forming.{head_of_assembled, forms_are, formed_parts, pass_there, pass_marked}
 use Rattle.printed_problems.proofs.forms.+forms.Goals as goal
 use Rattle.tasks.proofs.outside.Passed.{no_value}
 
 pub has_forms-returns-then-contains : goal.has_forms-returns-then-contains
 has_forms-returns-then-contains t c =
     record {
-      is = sym (forms_there (syntax_of c.args.printer) c.args.store.now c.args.done.now.keys c.args.e.0 c.requires.done (sym c.contains.ensures ∙ c.if-contains.true));
+      is = sym (pass_there (has_forms (syntax_of c.args.printer)) c.args.store.now c.args.done.now.keys c.args.e.0 c.requires.done (sym c.contains.ensures ∙ c.if-contains.true));
       done = c.requires.done;
     }
 
@@ -53,7 +53,7 @@ has_forms-returns t c =
     ap (λ (z : Tree). has_head p (head_of z)) c.node.ensures.tree ∙ ap (has_head p) (head_of_assembled s (head_of_node node) (parts_of node)) ∙ sym c.has_head.ensures ∙ c.if-not-has_head.false in
     let looked = c.in_ok-parts_have_forms.ensures in
     let all = forms_are p e true true top (sym looked.is ∙ c.if-not-branch.false) in
-    record { is = all; done = forms_marked p s c.parts_have_forms.new.done.keys c.insert.new.self.keys c.args.e.0 looked.done (sym all) c.in_ok-insert.ensures.keys }
+    record { is = all; done = pass_marked (has_forms p) s c.parts_have_forms.new.done.keys c.insert.new.self.keys c.args.e.0 looked.done (sym all) c.in_ok-insert.ensures.keys }
 
 pub parts_have_forms-returns-in-None : goal.parts_have_forms-returns-in-None
 parts_have_forms-returns-in-None t c =

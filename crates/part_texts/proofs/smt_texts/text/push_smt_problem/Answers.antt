@@ -8,7 +8,7 @@ use Rattle.printed_problems.specs.printed_terms.Problems.{line}
 use Rattle.printed_problems.specs.printed_terms.Meaning.{printing}
 use Rattle.part_texts.specs.smt_texts.Text.{smt_head_line, smt_sort_line, smt_symbol_line, smt_parameter_lines, assertion, smt_goal_line}
 use Rattle.part_texts.proofs.smt_texts.Joins.{last_piece}
-use Rattle.part_texts.proofs.smt_texts.text.push_problem.Goals as goal
+use Rattle.part_texts.proofs.smt_texts.text.push_smt_problem.Goals as goal
 use Rattle.tasks.proofs.plain_laws.Lists.{then_piece}
 use Rattle.tasks.proofs.plain_laws.Results.{ok_items}
 use Rattle.tasks.proofs.outside.Passed.{no_ok}

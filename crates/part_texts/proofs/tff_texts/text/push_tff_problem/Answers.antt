@@ -8,7 +8,7 @@ use Rattle.printed_problems.specs.printed_terms.Problems.{line}
 use Rattle.printed_problems.specs.printed_terms.Meaning.{printing}
 use Rattle.part_texts.specs.tff_texts.Text.{tff_head_line, tff_sort_line, tff_symbol_line, tff_parameter_lines, axiom_lines, tff_goal_line}
 use Rattle.part_texts.proofs.tff_texts.Joins.{last_piece}
-use Rattle.part_texts.proofs.tff_texts.text.push_problem.Goals as goal
+use Rattle.part_texts.proofs.tff_texts.text.push_tff_problem.Goals as goal
 use Rattle.tasks.proofs.plain_laws.Lists.{then_piece}
 use Rattle.tasks.proofs.outside.Passed.{no_ok}
 
