@@ -1,18 +1,18 @@
 -- Tasks with the same declarations have the same notes of them.
-use Rattle.std.proofs.Common.{◌≡◌, ℕ, ◌+◌, List, [], ◌∷◌, ◌++◌, length, filter, map, take, get_or, ◌<◌, refl, sym, ap, subst, ◌∙◌, arith, length-append}
+use Rattle.std.proofs.Common.{◌≡◌, ℕ, ◌+◌, List, [], ◌∷◌, ◌++◌, length, filter, map, take, get_or, ◌<◌, refl, sym, ap, subst, ◌∙◌, arith, length-append, Option, Some, None, IfSome, IsSomeAnd, Bor}
 use Rattle.std.specs.List.{flat_map}
 use Rattle.std.proofs.lemmas.List.{append-nil, length-map, map_more, nil_from_length}
 use Rattle.trees.specs.Tree.{Tree}
 use Rattle.tasks.specs.declared.declaration.Decl.{Decl}
 use Rattle.tasks.specs.declared.task.Task.{Task}
 use Rattle.tasks.specs.Task.{BodyTree, TaskTree, declared, made, made_by, props_of}
-use Rattle.tasks.specs.Meaning.{body_at, declarations_at, task_at}
+use Rattle.tasks.specs.Meaning.{body_at, declaration_at, declarations_at, task_at}
 use Rattle.name_tables.specs.declared.noted.Noted.{Noted}
 use Rattle.name_tables.specs.Occurrences.{Occurrence, in_proposition, task_occurrences}
 use Rattle.name_tables.specs.Own.{said_occurrences}
 use Rattle.name_tables.specs.Tables.{distinct, symbol_instances, problem_things}
-use Rattle.name_tables.specs.Seen.{occurrence_at, seen_occurrences, with_all, Sees}
-use Rattle.name_tables.specs.Fronts.{said_in, rest_occurrences, things_among, bodies_at, HaveSameBodies, HaveSameFront, IsNotedFor}
+use Rattle.name_tables.specs.Seen.{occurrence_at, seen_occurrences, with_all, KeysHeld, Sees}
+use Rattle.name_tables.specs.Fronts.{said_in, rest_occurrences, things_among, bodies_at, HaveSameBodies, HaveSameFront, IsNotedFor, IsNoted}
 use Rattle.name_tables.proofs.Distinct.{is_new, gathered}
 use Rattle.name_tables.proofs.Grouped.{gathered_among}
 use Rattle.name_tables.proofs.Loops.{said_first}
@@ -22,7 +22,7 @@ use Rattle.name_tables.proofs.Steps.{sees_then}
 said_by_bodies : (s : List Tree) (ds : List Decl) → said_in (declarations_at s ds) ≡ flat_map said_occurrences (bodies_at s ds)
 said_by_bodies s [] = refl
 said_by_bodies s (d ∷ ds) =
-    said_first _ (body_at s d.body) (props_of (declarations_at s ds)) ∙ ap (λ z. said_occurrences (body_at s d.body) ++ z) (said_by_bodies s ds)
+    said_first (declaration_at s d) (body_at s d.body) (props_of (declarations_at s ds)) ∙ ap (λ z. said_occurrences (body_at s d.body) ++ z) (said_by_bodies s ds)
 
 made_by_bodies : (s : List Tree) (ds : List Decl) → made (declarations_at s ds) ≡ flat_map made_by (bodies_at s ds)
 made_by_bodies s [] = refl
@@ -69,3 +69,23 @@ module _ (s : List Tree) (t : TaskTree) (n : Noted) (b : List (ℕ × ℕ)) (h :
       let m : length (seen_occurrences s b) ≡ length old = length-map b (occurrence_at s) ∙ e ∙ sym (length-map n.seen.keys (occurrence_at s)) in
       let same : seen_occurrences s b ≡ old = k.is ∙ none_added old (rest_occurrences t) (sym (ap length k.is) ∙ m) in
       h.things ∙ sym (gathered_among t (said_in t.decls)) ∙ ap (things_among t) (sym h.seen.is ∙ sym same) ∙ things_with_rest
+
+-- what is noted of the declarations of a task
+pub noted_made : (s : List Tree) (t : Task) (n : Noted) (ds : List Decl) (keys : List (ℕ × ℕ)) → ds ≡ t.decls → keys ≡ n.seen.keys → Sees s [] (said_in (declarations_at s ds)) n.seen.keys → KeysHeld s n.things
+    → seen_occurrences s n.things ≡ things_among (task_at s t) (seen_occurrences s keys) → IsNotedFor s (task_at s t) n
+noted_made s t n ds keys d k h held things =
+    let u = task_at s t in
+    let seen : Sees s [] (said_in u.decls) n.seen.keys = subst (λ (z : List Decl). Sees s [] (said_in (declarations_at s z)) n.seen.keys) d h in
+    record {
+      seen = seen;
+      held = held;
+      things = things ∙ ap (λ (z : List (ℕ × ℕ)). things_among u (seen_occurrences s z)) k ∙ ap (things_among u) seen.is ∙ gathered_among u (said_in u.decls);
+    }
+
+-- notes that are those of a task
+noted_by : (s : List Tree) (n : Noted) (t : Task) (front : Option (Bor Task)) → IfSome front (λ f. IsNotedFor s (task_at s f.now) n) → IsSomeAnd front (λ f. HaveSameFront f.now t) → IsNotedFor s (task_at s t) n
+noted_by s n t None i h = absurd h
+noted_by s n t (Some f) i h = noted_same s f.now t n h i
+
+pub noted_for : (s : List Tree) (n : Noted) (t : Task) → IsNoted s n → IsSomeAnd n.front (λ f. HaveSameFront f.now t) → IsNotedFor s (task_at s t) n
+noted_for s n t i h = noted_by s n t n.front i h

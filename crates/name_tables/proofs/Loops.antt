@@ -5,7 +5,7 @@ use Rattle.std.proofs.lemmas.List.{append-nil, append_assoc, map_more, take_more
 use Rattle.std.proofs.lemmas.List.Concat.{flat_map-append}
 use Rattle.trees.specs.Tree.{Tree}
 use Rattle.tasks.specs.declared.declaration.Decl.{Decl}
-use Rattle.tasks.specs.Task.{BodyTree, MakesType, Makes, Defines, Induces, Constructs, Says, DeclarationTree, PropositionTree, props_of, said_by}
+use Rattle.tasks.specs.Task.{BodyTree, MakesType, Makes, Defines, Induces, Constructs, Says, DeclarationTree, PropositionTree, TaskTree, props_of, said_by}
 use Rattle.trees.specs.declared.TermId.{TermId}
 use Rattle.trees.specs.Node.{tree_at}
 use Rattle.tasks.specs.declared.task.Task.{Task}
@@ -14,7 +14,7 @@ use Rattle.name_tables.specs.Occurrences.{Occurrence, in_type, occurrences, in_p
 use Rattle.name_tables.specs.Own.{said_occurrences}
 use Rattle.name_tables.specs.Fronts.{said_in, rest_occurrences}
 use Rattle.name_tables.specs.Seen.{seen_occurrences, with_all, Sees, WalksTerms, GainsKeys}
-use Rattle.name_tables.proofs.Steps.{gains_then, sees_then, walks_then}
+use Rattle.name_tables.proofs.Steps.{gains_then, sees_then, walks_then, walks_sees}
 
 pub said_first : (d : DeclarationTree) (b : BodyTree) (more : List PropositionTree) → flat_map in_proposition (said_by d b ++ more) ≡ said_occurrences b ++ flat_map in_proposition more
 said_first d (Says e) more = refl
@@ -45,3 +45,12 @@ module _ (s : List Tree) where
 -- what was gathered from a task: from its declarations, and then from the rest
 pub task_gathered : (s : List Tree) (t : TaskTree) (a b : List (ℕ × ℕ)) → Sees s [] (said_in t.decls) a → Sees s a (rest_occurrences t) b → GainsKeys s [] (task_occurrences t) b
 task_gathered s t a b h k = let both = sees_then s [] a b (said_in t.decls) (rest_occurrences t) h k in record { held = both.seen.held; is = both.is }
+
+pub rest_gathered : (s : List Tree) (t : Task) (ps ls : List TermId) (a b c d : List (ℕ × ℕ)) (ids jds : List ℕ) → ps ≡ t.params → ls ≡ t.locals
+    → Sees s a (flat_map in_type (trees_at s ps)) b → WalksTerms s b (flat_map occurrences (trees_at s ls)) c ids → WalksTerms s c (occurrences (tree_at s t.goal)) d jds → Sees s a (rest_occurrences (task_at s t)) d
+rest_gathered s t ps ls a b c d ids jds p l h k g =
+    let all = sees_then s a b d _ _ h (sees_then s b c d _ _ (walks_sees s b c ids _ k) (walks_sees s c d jds _ g)) in
+    record {
+      seen = all.seen;
+      is = all.is ∙ (λ i. with_all (seen_occurrences s a) (flat_map in_type (trees_at s (p i)) ++ (flat_map occurrences (trees_at s (l i)) ++ occurrences (tree_at s t.goal))));
+    }

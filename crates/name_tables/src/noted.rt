@@ -8,7 +8,7 @@ ghost use Rattle.name_tables.specs.Seen.{seen_occurrences, KeysHeld};
 ghost use Rattle.name_tables.specs.Fronts.{AreSameBodies, HaveSameBodies, HaveSameFront, IsNoted, IsNotedFor};
 
 use crate::things::Things;
-use crate::walk::{Key, note_rest, seen_in_declarations};
+use crate::walk::{Key, copied_keys, note_rest, seen_in_declarations};
 use indexmap::IndexSet;
 use std::alloc::{AllocError, Global};
 use tasks::{Body, Decl, Task};
@@ -87,7 +87,9 @@ impl<'a> Noted<'a> {
     }
 
     // Whether it was noted of the declarations that this task has.
-    fn is_for(&self, task: &Task) -> bool {
+    fn is_for(&self, task: &Task) -> bool
+        ensures { IsTrue result → IsSomeAnd self.now.front (λ front. HaveSameFront front.now task.now) }
+    {
         match self.front {
             Some(front) => have_same_front(front, task),
             None => false,
@@ -95,7 +97,12 @@ impl<'a> Noted<'a> {
     }
 
     // Notes the declarations of a task, unless they are noted.
-    fn turn_to(&mut self, alloc: Global, store: &Store, task: &'a Task) -> Result<(), AllocError> {
+    fn turn_to(&mut self, alloc: Global, store: &Store, task: &'a Task) -> Result<(), AllocError>
+        requires noted { IsNoted store.now self.old }
+        requires held { TaskHeld store.now task.now }
+        ensures noted { OnOk result (IsNoted store.now self.new) }
+        ensures this { OnOk result (IsNotedFor store.now (task_at store.now task.now) self.new) }
+    {
         if self.is_for(task) {
             return Ok(());
         }
@@ -110,8 +117,14 @@ impl<'a> Noted<'a> {
     }
 
     // What is in the table of the problem of a task whose declarations are noted.
-    fn with_rest(&self, alloc: Global, store: &Store, task: &Task) -> Result<Things, AllocError> {
-        let mut seen = self.seen.clone()?;
+    fn with_rest(&self, alloc: Global, store: &Store, task: &Task) -> Result<Things, AllocError>
+        requires noted { IsNotedFor store.now (task_at store.now task.now) self.now }
+        requires held { TaskHeld store.now task.now }
+        ensures held { IfOk result (KeysHeld store.now) }
+        ensures things { IfOk result (λ v. seen_occurrences store.now v
+            ≡ problem_things (task_at store.now task.now)) }
+    {
+        let mut seen = copied_keys(&self.seen)?;
         note_rest(alloc, store, &mut seen, task)?;
         if seen.len() == self.seen.len() {
             return self.things.copied();

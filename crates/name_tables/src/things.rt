@@ -10,7 +10,9 @@ ghost use Rattle.name_tables.specs.Seen.{occurrence_at, seen_occurrences, has, K
 ghost use Rattle.name_tables.specs.Groups.{AreGroups, IsFilled, IsKeyPushed, instances_in, AreDeclaredSymbols};
 ghost use Rattle.name_tables.specs.Fronts.{things_among};
 
-use crate::walk::{Key, add_key, empty_list, has_key, seen_in, seen_in_term, seen_in_type};
+use crate::walk::{
+    Key, add_key, copied_keys, empty_list, has_key, seen_in, seen_in_term, seen_in_type,
+};
 use indexmap::IndexSet;
 use std::alloc::{AllocError, Global};
 use std::marker::Model;
@@ -230,7 +232,7 @@ impl Things {
     pub(crate) fn copied(&self) -> Result<Things, AllocError>
         ensures { IfOk result (λ v. v ≡ self.now) }
     {
-        let keys = self.keys.clone()?;
+        let keys = copied_keys(&self.keys)?;
         Ok(Things { keys })
     }
 

@@ -32,6 +32,13 @@ pub(crate) fn empty_list(store: &Store) -> TermId
     }
 }
 
+/// The same symbols at types once more.
+pub(crate) fn copied_keys(keys: &IndexSet<Key>) -> Result<IndexSet<Key>, AllocError>
+    ensures { IfOk result (λ v. v.keys ≡ keys.now.keys) }
+{
+    keys.clone()
+}
+
 /// Adds a symbol at types, unless it is there.
 pub(crate) fn add_key(store: &Store, keys: &mut IndexSet<Key>, key: Key) -> Result<(), AllocError>
     requires keys_held { KeysHeld store.now keys.old.keys }

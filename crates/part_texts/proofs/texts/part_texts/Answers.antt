@@ -13,6 +13,6 @@ push_part-requires-clause-printer c = record {
 pub loop-place-preserved : goal.loop-place-preserved
 loop-place-preserved c = (
   texts_step c.args.store.now c.args.driver.now c.args.tasks.now c.loop-place.place c.index-tasks-place.result c.loop-place.out.items c.push_part.new.out.items _ c.index-tasks-place.is c.loop-place-test.true
-  c.in_ok-push_part.ensures c.loop-place.invariant.0,
+      c.in_ok-push_part.ensures c.loop-place.invariant.0,
   c.in_ok-things.ensures.noted,
 )
