@@ -1,7 +1,10 @@
 -- A formula has no fault where it has all forms, no type variable, and no bare thing in it.
 use Rattle.std.proofs.Common.{◌≡◌, ℕ, Bool, true, false, not, ◌&&◌, ◌||◌, ◌==◌, if◌then◌else◌, List, [], ◌∷◌, ◌++◌, nat_eq, get_or, Option, Some, None, refl, sym, ap, subst, ◌∙◌, arith}
 use Rattle.std.specs.List.{list_any}
-use Rattle.std.proofs.lemmas.Bool.Decides.{nat_tests}
+use Rattle.std.specs.Bool.{Decides}
+use Rattle.std.specs.Cmp.Lexicographic.{pointwise}
+use Rattle.std.proofs.lemmas.Bool.Decides.{nat_tests, Decides-and, Decides-eqb}
+use Rattle.std.proofs.lemmas.Slice.Eq.{slice_eq-Decides}
 use Rattle.trees.specs.Tree.{Tree, Leaf, HEnd, above_ty_vars}
 use Rattle.drivers.specs.declared.driver_items.kinds.Syntax.{Syntax}
 use Rattle.drivers.specs.driver_items.Syntaxes.{syntax_of}
@@ -13,7 +16,7 @@ use Rattle.printed_problems.specs.declared.fault.PrintFault.{PrintFault}
 use Rattle.printed_problems.specs.declared.fault.PrintFault.TheVariants.{Unprintable, Polymorphic}
 use Rattle.printed_problems.specs.Faults.{has_forms, at_place, syntax_fault, formula_fault}
 use Rattle.printed_problems.specs.Checks.{Pass, CanCheck, is_seen, first_where, the_task}
-use Rattle.printed_problems.specs.Checked.{keys_at, has_any, is_faultless, IsChecked, AreChecked, IsEmptyChecked}
+use Rattle.printed_problems.specs.Checked.{keys_at, has_any, is_faultless, IsChecked, AreChecked, IsEmptyChecked, TurnsTo}
 use Rattle.printed_problems.proofs.Finding.{found_bare}
 use Rattle.printed_problems.proofs.First.{formula_rest}
 use Rattle.printed_problems.proofs.Forming.{pass_there, pass_marked}
@@ -86,3 +89,22 @@ module _ (c : Checker) (can : CanCheck c) (k : Checked) (a : AreChecked c k) (id
 -- nothing that was found has a fault
 pub empty_checked : (k : Checked) → IsEmptyChecked k → (p : Syntax) (s : List Tree) → IsChecked p s k
 empty_checked k e p s = record { formed = subst (Pass (has_forms p) s) (sym e.formed) tt; faultless = subst (Pass (is_faultless p s k.bare.items) s) (sym e.faultless) tt }
+
+-- where nothing is kept of the formulas
+pub turns_empty : (old new : Checked) (bare : List (ℕ × ℕ)) → new.formed ≡ old.formed → new.faultless.keys ≡ [] → new.bare.items ≡ bare → TurnsTo old bare new
+turns_empty old new bare f e b = record {
+  bare = b;
+  stays = λ p s h. record {
+    formed = subst (Pass (has_forms p) s) (sym (λ i. (f i).keys)) h.formed;
+    faultless = subst (Pass (is_faultless p s new.bare.items) s) (sym e) tt;
+  };
+}
+
+-- what `==` tells of two lists of things
+same_pair : (a b : ℕ × ℕ) → Decides (nat_eq a.0 b.0 && nat_eq a.1 b.1) (a ≡ b)
+same_pair a b =
+    let both = Decides-and (nat_eq a.0 b.0) (nat_eq a.1 b.1) (Decides-eqb a.0 b.0) (Decides-eqb a.1 b.1) in
+    (λ e. let h = both.0 e in (λ i. (h.0 i, h.1 i)), λ e. both.1 (ap (λ (z : ℕ × ℕ). z.0) e, ap (λ (z : ℕ × ℕ). z.1) e))
+
+pub same_things : (xs ys : List (ℕ × ℕ)) (told : Bool) → told ≡ pointwise (λ (a b : ℕ × ℕ). nat_eq a.0 b.0 && nat_eq a.1 b.1) xs ys → told ≡ true → xs ≡ ys
+same_things xs ys told e = (slice_eq-Decides same_pair xs ys told e).0

@@ -38,6 +38,6 @@ pub record IsEmptyChecked (k : Checked) : Type 0 where
   pub faultless : k.faultless.keys ≡ []
 
 -- it is for these bare things, and what was right stays so
-pub record TurnsTo (old : Checked) (bare : List (ℕ × ℕ)) (new : Checked) : Type 0 where
-  pub bare : new.bare.items ≡ bare
+pub record TurnsTo (old : Checked) (things : List (ℕ × ℕ)) (new : Checked) : Type 0 where
+  pub bare : new.bare.items ≡ things
   pub stays : (p : Syntax) (s : List Tree) → IsChecked p s old → IsChecked p s new
