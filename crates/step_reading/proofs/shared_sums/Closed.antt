@@ -8,7 +8,7 @@ use Rattle.trees.specs.declared.ints.Ints.{Ints}
 use Rattle.linear_leaf.specs.Linear.{Bounded, bounded_at, AreUses, weight, part, total, zeros, ClosesLinear}
 use Rattle.linear_leaf.proofs.Integers.{mul-add, mul-sub, mul-one}
 use Rattle.step_reading.specs.declared.shared_sums.pending.Pending.{Pending}
-use Rattle.step_reading.specs.shared_sums.Known.{Is}
+use Rattle.step_reading.specs.shared_sums.Known.{IsInteger}
 use Rattle.step_reading.specs.shared_sums.Pending.{weighed, value_at, IsSum, IsFlat, Differs}
 use Rattle.step_reading.proofs.shared_sums.Steps.{neg-times}
 
@@ -32,7 +32,7 @@ start_sum o es e h f = rw (e, h) refl
 module _ (z : Ints) (s ts : List Tree) (uses : List (ℕ × ℤ)) (p q : Pending) (sums : (v : Tree → ℤ) → IsSum (value_at z s v) p (pos 0 +ℤ total z ts v uses)) where
   flat_is : (c : ℤ) → q.constant ≡ Some c → IsFlat z s p q → (v : Tree → ℤ) → total z ts v uses ≡ c
   flat_is c e h v =
-      let i : Is (pos 0 +ℤ total z ts v uses) q.constant = h v (pos 0 +ℤ total z ts v uses) (sums v) in
+      let i : IsInteger (pos 0 +ℤ total z ts v uses) q.constant = h v (pos 0 +ℤ total z ts v uses) (sums v) in
       let g : c ≡ pos 0 +ℤ total z ts v uses = rw e at i in omega (arith, ints)
 
   pub closed_if : AreUses z ts uses → weight z ts uses ≤ 2 ^ 126 → (c : ℤ) → q.constant ≡ Some c → IsFlat z s p q → pos 0 <ℤ c → ClosesLinear z ts uses

@@ -8,7 +8,7 @@ use Rattle.linear_leaf.specs.Linear.{Sum, atom, product_by, both_have, has_any, 
 use Rattle.linear_leaf.proofs.Integers.{mul-add, mul-swap}
 use Rattle.linear_leaf.proofs.Same.{same}
 use Rattle.step_reading.specs.declared.shared_sums.pending.Pending.{Pending}
-use Rattle.step_reading.specs.shared_sums.Known.{Is}
+use Rattle.step_reading.specs.shared_sums.Known.{IsInteger}
 use Rattle.step_reading.specs.shared_sums.Pending.{weighed, value_at, IsSum, IsProduct, Carries, IsFlat, Differs}
 use Rattle.step_reading.proofs.shared_sums.Sums.{add-mul, weighed_last}
 
@@ -108,10 +108,10 @@ module _ (z : Ints) (s : List Tree) (p m : Pending) (e : ℕ × ℤ) (last : p.m
       let y : x +ℤ neg_ℤ (e.1 *ℤ value_at z s v e.0) ≡ x = omega (arith, ints) in sum_as (value_at z s v) m _ x y (without v x h)
 
 -- a constant added
-is_less : (o : Option ℤ) (w x : ℤ) → IfSome o (λ c. c +ℤ w ≡ x) → Is (x -ℤ w) o
+is_less : (o : Option ℤ) (w x : ℤ) → IfSome o (λ c. c +ℤ w ≡ x) → IsInteger (x -ℤ w) o
 is_less None w x h = tt
 is_less (Some c) w x h = omega (arith, ints)
 
-pub constant_more : (o r : Option ℤ) (w x y : ℤ) → ((m : ℤ) → Is m o → Is (m +ℤ y) r) → IfSome o (λ c. c +ℤ w ≡ x) → IfSome r (λ c. c +ℤ w ≡ x +ℤ y)
+pub constant_more : (o r : Option ℤ) (w x y : ℤ) → ((m : ℤ) → IsInteger m o → IsInteger (m +ℤ y) r) → IfSome o (λ c. c +ℤ w ≡ x) → IfSome r (λ c. c +ℤ w ≡ x +ℤ y)
 constant_more o None w x y g h = tt
 constant_more o (Some v) w x y g h = let e : v ≡ (x -ℤ w) +ℤ y = g (x -ℤ w) (is_less o w x h) in omega (arith, ints)

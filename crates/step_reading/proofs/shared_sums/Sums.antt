@@ -9,7 +9,7 @@ use Rattle.std.proofs.lemmas.Cmp.{ranked}
 use Rattle.trees.specs.Tree.{Tree}
 use Rattle.trees.specs.declared.ints.Ints.{Ints}
 use Rattle.linear_leaf.proofs.Integers.{mul-add}
-use Rattle.step_reading.specs.shared_sums.Pending.{weighed, top, IsTerm, AreTerms}
+use Rattle.step_reading.specs.shared_sums.Pending.{weighed, above_numbers, IsTerm, HaveTerms}
 
 pub add-mul : (a b k : ℤ) → (a +ℤ b) *ℤ k ≡ a *ℤ k +ℤ b *ℤ k
 add-mul a b k = let e = mul-add k a b in let x = *ℤ_comm (a +ℤ b) k in let y = *ℤ_comm a k in let w = *ℤ_comm b k in omega (arith, ints)
@@ -34,34 +34,34 @@ pub weighed_remove : (f : ℕ → ℤ) (k : ℕ) (es : List (ℕ × ℤ)) (n : �
 weighed_remove f k [] n h = absurd (cc h)
 weighed_remove f k (e ∷ es) n h = taken f (is_at (nat_cmp k) e.0) k e es (remove_entry (is_at (nat_cmp k)) es) n (lookup (is_at (nat_cmp k)) es) (found k e.0) h (weighed_remove f k es n)
 
-less_taken : (c : Bool) (e : ℕ × ℤ) (es rs : List (ℕ × ℤ)) → top rs ≤ top es → top (cond c es (e ∷ rs)) ≤ top (e ∷ es)
+less_taken : (c : Bool) (e : ℕ × ℤ) (es rs : List (ℕ × ℤ)) → above_numbers rs ≤ above_numbers es → above_numbers (cond c es (e ∷ rs)) ≤ above_numbers (e ∷ es)
 less_taken true e es rs h = omega arith
 less_taken false e es rs h = omega arith
 
-pub top_remove : (k : ℕ) (es : List (ℕ × ℤ)) → top (remove_entry (is_at (nat_cmp k)) es) ≤ top es
+pub top_remove : (k : ℕ) (es : List (ℕ × ℤ)) → above_numbers (remove_entry (is_at (nat_cmp k)) es) ≤ above_numbers es
 top_remove k [] = omega arith
 top_remove k (e ∷ es) = less_taken (is_at (nat_cmp k) e.0) e es (remove_entry (is_at (nat_cmp k)) es) (top_remove k es)
 
 module _ (z : Ints) (s : List Tree) where
-  terms_taken : (c : Bool) (e : ℕ × ℤ) (es rs : List (ℕ × ℤ)) → AreTerms z s (e ∷ es) → AreTerms z s rs → AreTerms z s (cond c es (e ∷ rs))
+  terms_taken : (c : Bool) (e : ℕ × ℤ) (es rs : List (ℕ × ℤ)) → HaveTerms z s (e ∷ es) → HaveTerms z s rs → HaveTerms z s (cond c es (e ∷ rs))
   terms_taken true e es rs h k = h.1
   terms_taken false e es rs h k = (h.0, k)
 
-  pub terms_remove : (k : ℕ) (es : List (ℕ × ℤ)) → AreTerms z s es → AreTerms z s (remove_entry (is_at (nat_cmp k)) es)
+  pub terms_remove : (k : ℕ) (es : List (ℕ × ℤ)) → HaveTerms z s es → HaveTerms z s (remove_entry (is_at (nat_cmp k)) es)
   terms_remove k [] h = tt
   terms_remove k (e ∷ es) h = terms_taken (is_at (nat_cmp k) e.0) e es (remove_entry (is_at (nat_cmp k)) es) h (terms_remove k es h.1)
 
-  terms_given : (o : Ordering) (k : ℕ) (n : ℤ) (e : ℕ × ℤ) (es rs : List (ℕ × ℤ)) → IsTerm z s k → AreTerms z s (e ∷ es) → o ≡ nat_cmp k e.0 → AreTerms z s rs
-      → AreTerms z s (match_ordering o ((k, n) ∷ e ∷ es) ((e.0, n) ∷ es) (e ∷ rs))
+  terms_given : (o : Ordering) (k : ℕ) (n : ℤ) (e : ℕ × ℤ) (es rs : List (ℕ × ℤ)) → IsTerm z s k → HaveTerms z s (e ∷ es) → o ≡ nat_cmp k e.0 → HaveTerms z s rs
+      → HaveTerms z s (match_ordering o ((k, n) ∷ e ∷ es) ((e.0, n) ∷ es) (e ∷ rs))
   terms_given Less k n e es rs t h o g = (t, h)
   terms_given Equal k n e es rs t h o g = h
   terms_given Greater k n e es rs t h o g = (h.0, g)
 
-  pub terms_insert : (k : ℕ) (n : ℤ) (es : List (ℕ × ℤ)) → IsTerm z s k → AreTerms z s es → AreTerms z s (insert_entry nat_cmp es k n)
+  pub terms_insert : (k : ℕ) (n : ℤ) (es : List (ℕ × ℤ)) → IsTerm z s k → HaveTerms z s es → HaveTerms z s (insert_entry nat_cmp es k n)
   terms_insert k n [] t h = (t, tt)
   terms_insert k n (e ∷ es) t h = terms_given (nat_cmp k e.0) k n e es (insert_entry nat_cmp es k n) t h refl (terms_insert k n es t h.1)
 
-  pub terms_last : (es : List (ℕ × ℤ)) (e : ℕ × ℤ) → AreTerms z s (es ++ e ∷ []) → AreTerms z s es × IsTerm z s e.0
+  pub terms_last : (es : List (ℕ × ℤ)) (e : ℕ × ℤ) → HaveTerms z s (es ++ e ∷ []) → HaveTerms z s es × IsTerm z s e.0
   terms_last [] e h = (tt, h.0)
   terms_last (x ∷ es) e h = let r = terms_last es e h.1 in ((h.0, r.0), r.1)
 
@@ -76,12 +76,12 @@ pub weighed_insert : (f : ℕ → ℤ) (k : ℕ) (n : ℤ) (es : List (ℕ × �
 weighed_insert f k n [] h = omega (arith, ints)
 weighed_insert f k n (e ∷ es) h = given f (nat_cmp k e.0) k n e es (insert_entry nat_cmp es k n) (lookup (is_at (nat_cmp k)) es) h (weighed_insert f k n es)
 
-less_given : (o : Ordering) (b k : ℕ) (n : ℤ) (e : ℕ × ℤ) (es rs : List (ℕ × ℤ)) → k < b → top (e ∷ es) ≤ b → top rs ≤ b → top (match_ordering o ((k, n) ∷ e ∷ es) ((e.0, n) ∷ es) (e ∷ rs)) ≤ b
+less_given : (o : Ordering) (b k : ℕ) (n : ℤ) (e : ℕ × ℤ) (es rs : List (ℕ × ℤ)) → k < b → above_numbers (e ∷ es) ≤ b → above_numbers rs ≤ b → above_numbers (match_ordering o ((k, n) ∷ e ∷ es) ((e.0, n) ∷ es) (e ∷ rs)) ≤ b
 less_given Less b k n e es rs l h g = omega arith
 less_given Equal b k n e es rs l h g = h
 less_given Greater b k n e es rs l h g = omega arith
 
-pub top_insert : (b k : ℕ) (n : ℤ) (es : List (ℕ × ℤ)) → k < b → top es ≤ b → top (insert_entry nat_cmp es k n) ≤ b
+pub top_insert : (b k : ℕ) (n : ℤ) (es : List (ℕ × ℤ)) → k < b → above_numbers es ≤ b → above_numbers (insert_entry nat_cmp es k n) ≤ b
 top_insert b k n [] l h = omega arith
 top_insert b k n (e ∷ es) l h = less_given (nat_cmp k e.0) b k n e es (insert_entry nat_cmp es k n) l h (top_insert b k n es l (omega arith))
 
@@ -90,11 +90,11 @@ pub weighed_last : (f : ℕ → ℤ) (es : List (ℕ × ℤ)) (e : ℕ × ℤ) �
 weighed_last f [] e = omega (arith, ints)
 weighed_last f (x ∷ es) e = let r = weighed_last f es e in omega (arith, ints)
 
-pub top_last : (es : List (ℕ × ℤ)) (e : ℕ × ℤ) → e.0 + 1 ≤ top (es ++ e ∷ [])
+pub top_last : (es : List (ℕ × ℤ)) (e : ℕ × ℤ) → e.0 + 1 ≤ above_numbers (es ++ e ∷ [])
 top_last [] e = omega arith
 top_last (x ∷ es) e = let r = top_last es e in omega arith
 
 -- numbers that are all below another
-pub below_top : (k : ℕ) (es : List (ℕ × ℤ)) → ((i d : ℕ) → i < length (keys_of es) → nat_cmp (get_or (keys_of es) i d) k ≡ Less) → top es ≤ k
+pub below_top : (k : ℕ) (es : List (ℕ × ℤ)) → ((i d : ℕ) → i < length (keys_of es) → nat_cmp (get_or (keys_of es) i d) k ≡ Less) → above_numbers es ≤ k
 below_top k [] h = omega arith
 below_top k (e ∷ es) h = let l = ranked e.0 k Less (sym (h 0 0 (omega arith))) in let r = below_top k es (λ i d b. h (suc i) d (omega (arith, b))) in omega arith

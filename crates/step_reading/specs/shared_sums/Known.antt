@@ -8,33 +8,33 @@ use Rattle.linear_leaf.specs.Linear.{Sum, has_any, reading, zeros}
 use Rattle.step_reading.specs.declared.shared_sums.known.Known.{Known}
 
 -- an integer, where it fits
-abbrev pub Is : ℤ → Option ℤ → Type 0
-Is n o = IfSome o (λ x. x ≡ n)
+abbrev pub IsInteger : ℤ → Option ℤ → Type 0
+IsInteger n o = IfSome o (λ x. x ≡ n)
 
 -- of a sum whose atoms are 0: its weight or the greatest number, whether it has an atom, and its
 -- value where it fits
-pub record Tells (a : Sum) (x : Known) : Type 0 where
+pub record TellsSum (a : Sum) (x : Known) : Type 0 where
   pub weight : x.weight ≡ min a.weight (2 ^ 128 - 1)
   pub has_atom : x.has_atom ≡ has_any a.atoms
-  pub value : Is a.value x.value
+  pub value : IsInteger a.value x.value
 
-abbrev pub term_at : List Tree → ℕ → Tree
-term_at s k = get_or s k (Leaf HEnd)
+abbrev pub numbered_term : List Tree → ℕ → Tree
+numbered_term s k = get_or s k (Leaf HEnd)
 
 -- a tree has a number up to another
 pub record HasNumber (s : List Tree) (k : ℕ) (t : Tree) : Type 0 where
   pub number : ℕ
   pub held : number < length s
   pub below : number ≤ k
-  pub is : term_at s number ≡ t
+  pub is : numbered_term s number ≡ t
 
 -- each atom of the term of a number has a number up to it
 abbrev pub AreNumbered : Ints → List Tree → ℕ → Type 0
-AreNumbered z s k = Each (HasNumber s k) (reading z zeros (term_at s k)).atoms
+AreNumbered z s k = Each (HasNumber s k) (reading z zeros (numbered_term s k)).atoms
 
 pub record IsKnown (z : Ints) (s : List Tree) (k : ℕ) (x : Known) : Type 0 where
-  pub told : Tells (reading z zeros (term_at s k)) x
+  pub told : TellsSum (reading z zeros (numbered_term s k)) x
   pub numbered : AreNumbered z s k
 
-abbrev pub AreKnown : {S : Type 0} → Ints → List Tree → HashMap ℕ Known S → Type 0
-AreKnown z s m = (k : ℕ) (x : Known) → get nat_eq m k ≡ Some x → IsKnown z s k x
+abbrev pub AreKnownTerms : {S : Type 0} → Ints → List Tree → HashMap ℕ Known S → Type 0
+AreKnownTerms z s m = (k : ℕ) (x : Known) → get nat_eq m k ≡ Some x → IsKnown z s k x

@@ -6,7 +6,7 @@ use Rattle.linear_leaf.specs.Linear.{reading, atom, with_two, Multiply}
 use Rattle.step_reading.specs.declared.shared_sums.pending.Pending.{Pending}
 use Rattle.step_reading.specs.declared.shared_sums.pending.Next.{Next}
 use Rattle.step_reading.specs.declared.shared_sums.pending.Next.TheVariants as next
-use Rattle.step_reading.specs.shared_sums.Known.{Is, term_at, AreNumbered}
+use Rattle.step_reading.specs.shared_sums.Known.{IsInteger, numbered_term, AreNumbered}
 
 -- the sum of multiples of what numbers stand for
 abbrev pub weighed : (ℕ → ℤ) → List (ℕ × ℤ) → ℤ
@@ -14,21 +14,21 @@ weighed f [] = pos 0
 weighed f (e ∷ es) = e.1 *ℤ f e.0 +ℤ weighed f es
 
 -- the least number above the numbers that are there
-abbrev pub top : List (ℕ × ℤ) → ℕ
-top [] = 0
-top (e ∷ es) = max (e.0 + 1) (top es)
+abbrev pub above_numbers : List (ℕ × ℤ) → ℕ
+above_numbers [] = 0
+above_numbers (e ∷ es) = max (e.0 + 1) (above_numbers es)
 
 -- the term of a number, whose atoms have numbers up to it
 abbrev pub IsTerm : Ints → List Tree → ℕ → Type 0
 IsTerm z s k = (k < length s) × AreNumbered z s k
 
-abbrev pub AreTerms : Ints → List Tree → List (ℕ × ℤ) → Type 0
-AreTerms z s [] = Unit {0}
-AreTerms z s (e ∷ es) = IsTerm z s e.0 × AreTerms z s es
+abbrev pub HaveTerms : Ints → List Tree → List (ℕ × ℤ) → Type 0
+HaveTerms z s [] = Unit {0}
+HaveTerms z s (e ∷ es) = IsTerm z s e.0 × HaveTerms z s es
 
 -- the value of the term of a number
 abbrev pub value_at : Ints → List Tree → (Tree → ℤ) → ℕ → ℤ
-value_at z s v k = (reading z v (term_at s k)).value
+value_at z s v k = (reading z v (numbered_term s k)).value
 
 -- what is pending is a number in all, where nothing was too great
 abbrev pub IsSum : (ℕ → ℤ) → Pending → ℤ → Type 0
@@ -51,7 +51,7 @@ Carries z s p q = (v : Tree → ℤ) (x : ℤ) → IsSum (value_at z s v) p x �
 
 -- whatever its atoms are, what was pending is the constant that is left
 abbrev pub IsFlat : Ints → List Tree → Pending → Pending → Type 0
-IsFlat z s p q = (v : Tree → ℤ) (n : ℤ) → IsSum (value_at z s v) p n → Is n q.constant
+IsFlat z s p q = (v : Tree → ℤ) (n : ℤ) → IsSum (value_at z s v) p n → IsInteger n q.constant
 
 -- at some values of the atoms what was pending isn't the same
 pub record Differs (z : Ints) (s : List Tree) (p q : Pending) : Type 0 where
@@ -65,5 +65,5 @@ pub record Differs (z : Ints) (s : List Tree) (p q : Pending) : Type 0 where
 abbrev pub IsNext : Ints → List Tree → Pending → Pending → Next → Type 0
 IsNext z s p q next.Done = IsFlat z s p q
 IsNext z s p q next.Atom = Differs z s p q
-IsNext z s p q next.More = Carries z s p q × AreTerms z s q.multiples.entries
-    × (top q.multiples.entries < top p.multiples.entries)
+IsNext z s p q next.More = Carries z s p q × HaveTerms z s q.multiples.entries
+    × (above_numbers q.multiples.entries < above_numbers p.multiples.entries)

@@ -7,19 +7,19 @@ use Rattle.linear_leaf.specs.Views.{Top, Number, Negated, Applied, Atom}
 use Rattle.step_reading.specs.declared.shared_sums.summands.Summand.{Summand}
 use Rattle.step_reading.specs.declared.shared_sums.summands.Summand.TheVariants as code
 
-abbrev pub top_at : List Tree → Summand → Top
-top_at s (code.Number n) = Number n
-top_at s (code.Negated a) = Negated (tree_at s a)
-top_at s (code.Plus a b) = Applied Add (tree_at s a) (tree_at s b)
-top_at s (code.Minus a b) = Applied Subtract (tree_at s a) (tree_at s b)
-top_at s (code.Times a b) = Applied Multiply (tree_at s a) (tree_at s b)
-top_at s code.Atom = Atom
+abbrev pub top_by : List Tree → Summand → Top
+top_by s (code.Number n) = Number n
+top_by s (code.Negated a) = Negated (tree_at s a)
+top_by s (code.Plus a b) = Applied Add (tree_at s a) (tree_at s b)
+top_by s (code.Minus a b) = Applied Subtract (tree_at s a) (tree_at s b)
+top_by s (code.Times a b) = Applied Multiply (tree_at s a) (tree_at s b)
+top_by s code.Atom = Atom
 
 -- the parts are below a number
-abbrev pub PartsBelow : ℕ → Summand → Type 0
-PartsBelow k (code.Number n) = Unit {0}
-PartsBelow k (code.Negated a) = a.0 < k
-PartsBelow k (code.Plus a b) = (a.0 < k) × (b.0 < k)
-PartsBelow k (code.Minus a b) = (a.0 < k) × (b.0 < k)
-PartsBelow k (code.Times a b) = (a.0 < k) × (b.0 < k)
-PartsBelow k code.Atom = Unit {0}
+abbrev pub ArePartsBelow : ℕ → Summand → Type 0
+ArePartsBelow k (code.Number n) = Unit {0}
+ArePartsBelow k (code.Negated a) = a.0 < k
+ArePartsBelow k (code.Plus a b) = (a.0 < k) × (b.0 < k)
+ArePartsBelow k (code.Minus a b) = (a.0 < k) × (b.0 < k)
+ArePartsBelow k (code.Times a b) = (a.0 < k) × (b.0 < k)
+ArePartsBelow k code.Atom = Unit {0}

@@ -7,8 +7,8 @@ use Rattle.linear_leaf.specs.Linear.{Bounded}
 use Rattle.step_reading.specs.declared.shared_sums.uses.Bound.{Bound}
 use Rattle.step_reading.specs.declared.shared_sums.uses.Leaf as declared
 
-abbrev pub bound_at : List Tree → Bound → Bounded
-bound_at s d = record {
+abbrev pub bounded_of : List Tree → Bound → Bounded
+bounded_of s d = record {
   left = tree_at s d.left;
   right = tree_at s d.right;
   strict =
@@ -16,14 +16,14 @@ bound_at s d = record {
   equation = d.equation;
 }
 
-abbrev pub BoundHeld : List Tree → Bound → Type 0
-BoundHeld s d = Holds s d.left × Holds s d.right
+abbrev pub IsBoundHeld : List Tree → Bound → Type 0
+IsBoundHeld s d = Holds s d.left × Holds s d.right
 
-abbrev pub leaf_sequent : declared.Leaf → List Tree
-leaf_sequent x = map (tree_at x.store.now) x.sequent.now
+abbrev pub sequent_of_leaf : declared.Leaf → List Tree
+sequent_of_leaf x = map (tree_at x.store.now) x.sequent.now
 
-abbrev pub LeafHeld : declared.Leaf → Type 0
-LeafHeld x = All (Holds x.store.now) x.sequent.now
+abbrev pub IsSequentHeld : declared.Leaf → Type 0
+IsSequentHeld x = All (Holds x.store.now) x.sequent.now
 
-abbrev pub pair_at : List Tree → TermId × TermId → Tree × Tree
-pair_at s p = (tree_at s p.0, tree_at s p.1)
+abbrev pub pair_trees : List Tree → TermId × TermId → Tree × Tree
+pair_trees s p = (tree_at s p.0, tree_at s p.1)

@@ -4,7 +4,7 @@ ghost use Rattle.std.specs.Prelude.{◌≡◌, ℤ, ◌+ℤ◌, ◌*ℤ◌, neg_
 ghost use Rattle.trees.specs.Tree.{Tree};
 ghost use Rattle.trees.specs.Node.{tree_at, Holds};
 ghost use Rattle.linear_leaf.specs.Linear.{Sum, sum, negated_sum, constant_sum, atom, product_by, both_have, zeros, reading};
-ghost use Rattle.step_reading.specs.shared_sums.Known.{Is, Tells, IsKnown, AreKnown};
+ghost use Rattle.step_reading.specs.shared_sums.Known.{IsInteger, TellsSum, IsKnown, AreKnownTerms};
 
 use crate::shared_sums::summands::{Summand, top_of};
 use std::alloc::AllocError;
@@ -25,27 +25,27 @@ pub(crate) type Table = HashMap<usize, Known>;
 
 /// A sum, where both numbers are there and it fits.
 pub(crate) fn add(a: Option<i128>, b: Option<i128>) -> Option<i128>
-    ensures { (x y : ℤ) → Is x a → Is y b → Is (x +ℤ y) result }
+    ensures { (x y : ℤ) → IsInteger x a → IsInteger y b → IsInteger (x +ℤ y) result }
 {
     a?.checked_add(b?)
 }
 
 /// A product, where both numbers are there and it fits.
 pub(crate) fn multiply(a: Option<i128>, b: Option<i128>) -> Option<i128>
-    ensures { (x y : ℤ) → Is x a → Is y b → Is (x *ℤ y) result }
+    ensures { (x y : ℤ) → IsInteger x a → IsInteger y b → IsInteger (x *ℤ y) result }
 {
     a?.checked_mul(b?)
 }
 
 /// The negation of a number that is there, where it fits.
 pub(crate) fn negate(a: Option<i128>) -> Option<i128>
-    ensures { (x : ℤ) → Is x a → Is (neg_ℤ x) result }
+    ensures { (x : ℤ) → IsInteger x a → IsInteger (neg_ℤ x) result }
 {
     a?.checked_neg()
 }
 
 fn number(n: i128) -> Known
-    ensures { Tells (constant_sum n) result }
+    ensures { TellsSum (constant_sum n) result }
 {
     Known {
         weight: n.unsigned_abs().max(1),
@@ -55,7 +55,7 @@ fn number(n: i128) -> Known
 }
 
 fn of_an_atom() -> Known
-    ensures { (e : Tree) → Tells (atom zeros e) result }
+    ensures { (e : Tree) → TellsSum (atom zeros e) result }
 {
     Known {
         weight: 1,
@@ -65,7 +65,7 @@ fn of_an_atom() -> Known
 }
 
 fn negated(x: Known) -> Known
-    ensures { (a : Sum) → Tells a x → Tells (negated_sum a) result }
+    ensures { (a : Sum) → TellsSum a x → TellsSum (negated_sum a) result }
 {
     Known {
         weight: x.weight,
@@ -76,7 +76,7 @@ fn negated(x: Known) -> Known
 
 #[tactic(auto, using(linear_leaf::proofs::Reading::any_append))]
 fn plus(x: Known, y: Known) -> Known
-    ensures { (a b : Sum) → Tells a x → Tells b y → Tells (sum a b) result }
+    ensures { (a b : Sum) → TellsSum a x → TellsSum b y → TellsSum (sum a b) result }
 {
     Known {
         weight: x.weight.saturating_add(y.weight),
@@ -87,8 +87,8 @@ fn plus(x: Known, y: Known) -> Known
 
 #[tactic(auto, using(linear_leaf::proofs::Reading::any_append, linear_leaf::proofs::Integers::min_mul))]
 fn times(x: Known, y: Known) -> Known
-    ensures { (e : Tree) (a b : Sum) → Tells a x → Tells b y
-        → Tells (product_by zeros (both_have a.atoms b.atoms) e a b) result }
+    ensures { (e : Tree) (a b : Sum) → TellsSum a x → TellsSum b y
+        → TellsSum (product_by zeros (both_have a.atoms b.atoms) e a b) result }
 {
     if x.has_atom && y.has_atom {
         of_an_atom()
@@ -110,9 +110,9 @@ pub(crate) fn known_of(
     e: TermId,
 ) -> Result<Known, AllocError>
     requires held { Holds store.now e }
-    requires table { AreKnown ints.now store.now table.old }
+    requires table { AreKnownTerms ints.now store.now table.old }
     ensures known { IfOk result (IsKnown ints.now store.now e.0) }
-    ensures table { OnOk result (AreKnown ints.now store.now table.new) }
+    ensures table { OnOk result (AreKnownTerms ints.now store.now table.new) }
 {
     if let Some(x) = table.get(&e.0) {
         return Ok(*x);
@@ -131,9 +131,9 @@ fn known_by_top(
     e: TermId,
 ) -> Result<Known, AllocError>
     requires held { Holds store.now e }
-    requires table { AreKnown ints.now store.now table.old }
+    requires table { AreKnownTerms ints.now store.now table.old }
     ensures known { IfOk result (IsKnown ints.now store.now e.0) }
-    ensures table { OnOk result (AreKnown ints.now store.now table.new) }
+    ensures table { OnOk result (AreKnownTerms ints.now store.now table.new) }
 {
     match top_of(store, ints, e) {
         Summand::Number(n) => Ok(number(n)),

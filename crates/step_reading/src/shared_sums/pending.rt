@@ -7,8 +7,8 @@ ghost use Rattle.std.specs.BTreeMap.{get, IsEmpty};
 ghost use Rattle.trees.specs.Tree.{Tree};
 ghost use Rattle.trees.specs.Node.{tree_at, Holds};
 ghost use Rattle.trees.specs.declared.ints.Ints as declared;
-ghost use Rattle.step_reading.specs.shared_sums.Known.{Is, AreKnown};
-ghost use Rattle.step_reading.specs.shared_sums.Pending.{weighed, top, IsTerm, AreTerms, value_at, IsSum, IsSpread, IsProduct, IsFlat, Differs, IsNext};
+ghost use Rattle.step_reading.specs.shared_sums.Known.{IsInteger, AreKnownTerms};
+ghost use Rattle.step_reading.specs.shared_sums.Pending.{weighed, above_numbers, IsTerm, HaveTerms, value_at, IsSum, IsSpread, IsProduct, IsFlat, Differs, IsNext};
 
 use crate::shared_sums::known::{Table, add, known_of, multiply, negate};
 use crate::shared_sums::summands::{Summand, top_of};
@@ -40,9 +40,9 @@ fn take(multiples: &mut BTreeMap<usize, i128>, k: usize) -> i128
     ensures sum { (f : ℕ → ℤ) → weighed f multiples.new.entries +ℤ result *ℤ f k
         ≡ weighed f multiples.old.entries }
     ensures absent { get nat_cmp multiples.new k ≡ None }
-    ensures top { top multiples.new.entries ≤ top multiples.old.entries }
-    ensures terms { (z : declared.Ints) (s : List Tree) → AreTerms z s multiples.old.entries
-        → AreTerms z s multiples.new.entries }
+    ensures top { above_numbers multiples.new.entries ≤ above_numbers multiples.old.entries }
+    ensures terms { (z : declared.Ints) (s : List Tree) → HaveTerms z s multiples.old.entries
+        → HaveTerms z s multiples.new.entries }
 {
     match multiples.remove(&k) {
         Some(n) => n,
@@ -55,10 +55,10 @@ fn give(multiples: &mut BTreeMap<usize, i128>, k: usize, n: i128) -> Result<(), 
     requires { get nat_cmp multiples.old k ≡ None }
     ensures sum { OnOk result ((f : ℕ → ℤ) → weighed f multiples.new.entries
         ≡ weighed f multiples.old.entries +ℤ n *ℤ f k) }
-    ensures top { OnOk result ((b : ℕ) → top multiples.old.entries ≤ b → k < b
-        → top multiples.new.entries ≤ b) }
-    ensures terms { OnOk result ((z : declared.Ints) (s : List Tree) → AreTerms z s
-        multiples.old.entries → IsTerm z s k → AreTerms z s multiples.new.entries) }
+    ensures top { OnOk result ((b : ℕ) → above_numbers multiples.old.entries ≤ b → k < b
+        → above_numbers multiples.new.entries ≤ b) }
+    ensures terms { OnOk result ((z : declared.Ints) (s : List Tree) → HaveTerms z s
+        multiples.old.entries → IsTerm z s k → HaveTerms z s multiples.new.entries) }
 {
     multiples.insert(k, n)?;
     Ok(())
@@ -66,13 +66,13 @@ fn give(multiples: &mut BTreeMap<usize, i128>, k: usize, n: i128) -> Result<(), 
 
 // Adds a multiple of a term.
 fn put(pending: &mut Pending, k: usize, n: Option<i128>) -> Result<(), AllocError>
-    ensures sum { OnOk result ((f : ℕ → ℤ) (x y : ℤ) → IsSum f pending.old x → Is y n
+    ensures sum { OnOk result ((f : ℕ → ℤ) (x y : ℤ) → IsSum f pending.old x → IsInteger y n
         → IsSum f pending.new (x +ℤ y *ℤ f k)) }
-    ensures top { OnOk result ((b : ℕ) → top pending.old.multiples.entries ≤ b → k < b
-        → top pending.new.multiples.entries ≤ b) }
-    ensures terms { OnOk result ((z : declared.Ints) (s : List Tree) → AreTerms z s
+    ensures top { OnOk result ((b : ℕ) → above_numbers pending.old.multiples.entries ≤ b → k < b
+        → above_numbers pending.new.multiples.entries ≤ b) }
+    ensures terms { OnOk result ((z : declared.Ints) (s : List Tree) → HaveTerms z s
         pending.old.multiples.entries → IsTerm z s k
-        → AreTerms z s pending.new.multiples.entries) }
+        → HaveTerms z s pending.new.multiples.entries) }
 {
     let before = take(&mut pending.multiples, k);
     match add(Some(before), n) {
@@ -84,7 +84,7 @@ fn put(pending: &mut Pending, k: usize, n: Option<i128>) -> Result<(), AllocErro
 
 /// Adds a constant.
 pub(crate) fn put_constant(pending: &mut Pending, n: Option<i128>)
-    ensures sum { (f : ℕ → ℤ) (x y : ℤ) → IsSum f pending.old x → Is y n
+    ensures sum { (f : ℕ → ℤ) (x y : ℤ) → IsSum f pending.old x → IsInteger y n
         → IsSum f pending.new (x +ℤ y) }
     ensures multiples { pending.new.multiples ≡ pending.old.multiples }
 {
@@ -101,14 +101,14 @@ pub(crate) fn put_term(
     n: Option<i128>,
 ) -> Result<(), AllocError>
     requires held { Holds store.now e }
-    requires table { AreKnown ints.now store.now table.old }
-    requires terms { AreTerms ints.now store.now pending.old.multiples.entries }
-    ensures table { OnOk result (AreKnown ints.now store.now table.new) }
-    ensures sum { OnOk result ((f : ℕ → ℤ) (x y : ℤ) → IsSum f pending.old x → Is y n
+    requires table { AreKnownTerms ints.now store.now table.old }
+    requires terms { HaveTerms ints.now store.now pending.old.multiples.entries }
+    ensures table { OnOk result (AreKnownTerms ints.now store.now table.new) }
+    ensures sum { OnOk result ((f : ℕ → ℤ) (x y : ℤ) → IsSum f pending.old x → IsInteger y n
         → IsSum f pending.new (x +ℤ y *ℤ f e.0)) }
-    ensures top { OnOk result ((b : ℕ) → top pending.old.multiples.entries ≤ b → e.0 < b
-        → top pending.new.multiples.entries ≤ b) }
-    ensures terms { OnOk result (AreTerms ints.now store.now pending.new.multiples.entries) }
+    ensures top { OnOk result ((b : ℕ) → above_numbers pending.old.multiples.entries ≤ b → e.0 < b
+        → above_numbers pending.new.multiples.entries ≤ b) }
+    ensures terms { OnOk result (HaveTerms ints.now store.now pending.new.multiples.entries) }
 {
     known_of(store, ints, table, e)?;
     put(pending, e.0, n)
@@ -126,15 +126,15 @@ fn spread_product(
 ) -> Result<bool, AllocError>
     requires a_held { Holds store.now a }
     requires b_held { Holds store.now b }
-    requires table { AreKnown ints.now store.now table.old }
-    requires terms { AreTerms ints.now store.now pending.old.multiples.entries }
-    ensures table { OnOk result (AreKnown ints.now store.now table.new) }
+    requires table { AreKnownTerms ints.now store.now table.old }
+    requires terms { HaveTerms ints.now store.now pending.old.multiples.entries }
+    ensures table { OnOk result (AreKnownTerms ints.now store.now table.new) }
     ensures told { IfOk result (λ spread. (t : Tree)
         → IsProduct ints.now t (tree_at store.now a) (tree_at store.now b)
         → IsSpread ints.now store.now t n spread pending.old pending.new) }
-    ensures top { OnOk result ((k : ℕ) → top pending.old.multiples.entries ≤ k → a.0 < k → b.0 < k
-        → top pending.new.multiples.entries ≤ k) }
-    ensures terms { OnOk result (AreTerms ints.now store.now pending.new.multiples.entries) }
+    ensures top { OnOk result ((k : ℕ) → above_numbers pending.old.multiples.entries ≤ k
+        → a.0 < k → b.0 < k → above_numbers pending.new.multiples.entries ≤ k) }
+    ensures terms { OnOk result (HaveTerms ints.now store.now pending.new.multiples.entries) }
 {
     let x = known_of(store, ints, table, a)?;
     let y = known_of(store, ints, table, b)?;
@@ -159,14 +159,14 @@ fn spread(
     n: i128,
 ) -> Result<bool, AllocError>
     requires held { Holds store.now e }
-    requires table { AreKnown ints.now store.now table.old }
-    requires terms { AreTerms ints.now store.now pending.old.multiples.entries }
-    requires top { top pending.old.multiples.entries ≤ e.0 }
-    ensures table { OnOk result (AreKnown ints.now store.now table.new) }
+    requires table { AreKnownTerms ints.now store.now table.old }
+    requires terms { HaveTerms ints.now store.now pending.old.multiples.entries }
+    requires top { above_numbers pending.old.multiples.entries ≤ e.0 }
+    ensures table { OnOk result (AreKnownTerms ints.now store.now table.new) }
     ensures told { IfOk result (λ spread. IsSpread ints.now store.now (tree_at store.now e) n spread
         pending.old pending.new) }
-    ensures top { OnOk result (top pending.new.multiples.entries ≤ e.0) }
-    ensures terms { OnOk result (AreTerms ints.now store.now pending.new.multiples.entries) }
+    ensures top { OnOk result (above_numbers pending.new.multiples.entries ≤ e.0) }
+    ensures terms { OnOk result (HaveTerms ints.now store.now pending.new.multiples.entries) }
 {
     match top_of(store, ints, e) {
         Summand::Number(m) => put_constant(pending, multiply(Some(n), Some(m))),
@@ -200,9 +200,9 @@ fn take_next(
     table: &mut Table,
     pending: &mut Pending,
 ) -> Result<Next, AllocError>
-    requires table { AreKnown ints.now store.now table.old }
-    requires terms { AreTerms ints.now store.now pending.old.multiples.entries }
-    ensures table { OnOk result (AreKnown ints.now store.now table.new) }
+    requires table { AreKnownTerms ints.now store.now table.old }
+    requires terms { HaveTerms ints.now store.now pending.old.multiples.entries }
+    ensures table { OnOk result (AreKnownTerms ints.now store.now table.new) }
     ensures told { IfOk result (IsNext ints.now store.now pending.old pending.new) }
 {
     let Some((k, n)) = pending.multiples.pop_last() else {
@@ -228,8 +228,8 @@ pub(crate) fn all_cancel(
     table: &mut Table,
     pending: &mut Pending,
 ) -> Result<bool, AllocError>
-    requires table { AreKnown ints.now store.now table.old }
-    requires terms { AreTerms ints.now store.now pending.old.multiples.entries }
+    requires table { AreKnownTerms ints.now store.now table.old }
+    requires terms { HaveTerms ints.now store.now pending.old.multiples.entries }
     ensures { IfOk result (λ b. MatchBool b (IsFlat ints.now store.now pending.old pending.new)
         (Differs ints.now store.now pending.old pending.new)) }
 {

@@ -5,7 +5,7 @@ ghost use Rattle.trees.specs.Tree.{Tree};
 ghost use Rattle.trees.specs.Node.{tree_at, Holds};
 ghost use Rattle.linear_leaf.specs.Linear.{sum_operation, reading};
 ghost use Rattle.linear_leaf.specs.Views.{top_of, two_top, read_top};
-ghost use Rattle.step_reading.specs.shared_sums.Tops.{top_at, PartsBelow};
+ghost use Rattle.step_reading.specs.shared_sums.Tops.{top_by, ArePartsBelow};
 
 use trees::store::Store;
 use trees::{Ints, Node, TermId};
@@ -23,9 +23,9 @@ pub(crate) enum Summand {
 
 // A function on two arguments.
 fn on_two(ints: &Ints, f: usize, a: TermId, b: TermId) -> Summand
-    ensures tree { (s : List Tree) → top_at s result
+    ensures tree { (s : List Tree) → top_by s result
         ≡ two_top (sum_operation ints.now f) (tree_at s a) (tree_at s b) }
-    ensures below { (k : ℕ) → a.0 < k → b.0 < k → PartsBelow k result }
+    ensures below { (k : ℕ) → a.0 < k → b.0 < k → ArePartsBelow k result }
 {
     if f == ints.add {
         Summand::Plus(a, b)
@@ -41,8 +41,8 @@ fn on_two(ints: &Ints, f: usize, a: TermId, b: TermId) -> Summand
 // What a term is at its top.
 fn summand_of(store: &Store, ints: &Ints, e: TermId) -> Summand
     requires { Holds store.now e }
-    ensures tree { top_at store.now result ≡ top_of ints.now (tree_at store.now e) }
-    ensures below { PartsBelow e.0 result }
+    ensures tree { top_by store.now result ≡ top_of ints.now (tree_at store.now e) }
+    ensures below { ArePartsBelow e.0 result }
 {
     match store.node(e) {
         Node::Num(n) => Summand::Number(n),
@@ -72,8 +72,8 @@ fn summand_of(store: &Store, ints: &Ints, e: TermId) -> Summand
 pub(crate) fn top_of(store: &Store, ints: &Ints, e: TermId) -> Summand
     requires { Holds store.now e }
     ensures reads { (v : Tree → ℤ) → reading ints.now v (tree_at store.now e)
-        ≡ read_top ints.now v (tree_at store.now e) (top_at store.now result) }
-    ensures below { PartsBelow e.0 result }
+        ≡ read_top ints.now v (tree_at store.now e) (top_by store.now result) }
+    ensures below { ArePartsBelow e.0 result }
 {
     summand_of(store, ints, e)
 }

@@ -5,9 +5,9 @@ ghost use Rattle.std.specs.Option.{option_map};
 ghost use Rattle.trees.specs.Tree.{Tree};
 ghost use Rattle.trees.specs.Node.{tree_at, Holds};
 ghost use Rattle.linear_leaf.specs.Linear.{heft, weight_of, weight, part, total, ClosesLinear};
-ghost use Rattle.step_reading.specs.shared_sums.Known.{AreKnown};
-ghost use Rattle.step_reading.specs.shared_sums.Pending.{AreTerms, value_at, IsSum};
-ghost use Rattle.step_reading.specs.shared_sums.Uses.{bound_at, BoundHeld, leaf_sequent, LeafHeld};
+ghost use Rattle.step_reading.specs.shared_sums.Known.{AreKnownTerms};
+ghost use Rattle.step_reading.specs.shared_sums.Pending.{HaveTerms, value_at, IsSum};
+ghost use Rattle.step_reading.specs.shared_sums.Uses.{bounded_of, IsBoundHeld, sequent_of_leaf, IsSequentHeld};
 
 use crate::shared_sums::known::{Table, known_of, negate};
 use crate::shared_sums::pending::{Pending, all_cancel, nothing, put_constant, put_term};
@@ -21,11 +21,11 @@ use trees::{Ints, TermId};
 // The weight of a formula, or the greatest number.
 #[tactic(auto, using(linear_leaf::proofs::Integers::min_add))]
 fn weigh_both(x: &Leaf<'_>, table: &mut Table, d: Bound) -> Result<u128, AllocError>
-    requires held { BoundHeld x.now.store.now d }
-    requires table { AreKnown x.now.ints.now x.now.store.now table.old }
-    ensures weight { IfOk result (λ w. w ≡ min (heft x.now.ints.now (bound_at x.now.store.now d))
+    requires held { IsBoundHeld x.now.store.now d }
+    requires table { AreKnownTerms x.now.ints.now x.now.store.now table.old }
+    ensures weight { IfOk result (λ w. w ≡ min (heft x.now.ints.now (bounded_of x.now.store.now d))
         (2 ^ 128 - 1)) }
-    ensures table { OnOk result (AreKnown x.now.ints.now x.now.store.now table.new) }
+    ensures table { OnOk result (AreKnownTerms x.now.ints.now x.now.store.now table.new) }
 {
     let left = known_of(x.store, x.ints, table, d.left)?;
     let right = known_of(x.store, x.ints, table, d.right)?;
@@ -40,11 +40,11 @@ fn weigh_part(
     d: Bound,
     multiplier: i128,
 ) -> Result<u128, AllocError>
-    requires held { BoundHeld x.now.store.now d }
-    requires table { AreKnown x.now.ints.now x.now.store.now table.old }
+    requires held { IsBoundHeld x.now.store.now d }
+    requires table { AreKnownTerms x.now.ints.now x.now.store.now table.old }
     ensures weight { IfOk result (λ w. w ≡ min (weight_of x.now.ints.now multiplier
-        (Some (bound_at x.now.store.now d))) (2 ^ 128 - 1)) }
-    ensures table { OnOk result (AreKnown x.now.ints.now x.now.store.now table.new) }
+        (Some (bounded_of x.now.store.now d))) (2 ^ 128 - 1)) }
+    ensures table { OnOk result (AreKnownTerms x.now.ints.now x.now.store.now table.new) }
 {
     let both = weigh_both(x, table, d)?;
     Ok(multiplier.unsigned_abs().saturating_mul(both))
@@ -52,11 +52,11 @@ fn weigh_part(
 
 // The weight of the sum, or the greatest number.
 fn weigh_all(x: &Leaf<'_>, table: &mut Table, uses: &[(usize, i128)]) -> Result<u128, AllocError>
-    requires held { LeafHeld x.now }
-    requires table { AreKnown x.now.ints.now x.now.store.now table.old }
-    ensures weight { IfOk result (λ w. w ≡ min (weight x.now.ints.now (leaf_sequent x.now) uses.now)
-        (2 ^ 128 - 1)) }
-    ensures table { OnOk result (AreKnown x.now.ints.now x.now.store.now table.new) }
+    requires held { IsSequentHeld x.now }
+    requires table { AreKnownTerms x.now.ints.now x.now.store.now table.old }
+    ensures weight { IfOk result (λ w. w ≡ min
+        (weight x.now.ints.now (sequent_of_leaf x.now) uses.now) (2 ^ 128 - 1)) }
+    ensures table { OnOk result (AreKnownTerms x.now.ints.now x.now.store.now table.new) }
 {
     let Some((first, more)) = uses.split_first() else {
         return Ok(0);
@@ -79,16 +79,16 @@ fn add_part(
     d: Bound,
     multiplier: i128,
 ) -> Result<(), AllocError>
-    requires held { BoundHeld x.now.store.now d }
-    requires table { AreKnown x.now.ints.now x.now.store.now table.old }
-    requires terms { AreTerms x.now.ints.now x.now.store.now pending.old.multiples.entries }
-    ensures table { OnOk result (AreKnown x.now.ints.now x.now.store.now table.new) }
-    ensures terms { OnOk result (AreTerms x.now.ints.now x.now.store.now
+    requires held { IsBoundHeld x.now.store.now d }
+    requires table { AreKnownTerms x.now.ints.now x.now.store.now table.old }
+    requires terms { HaveTerms x.now.ints.now x.now.store.now pending.old.multiples.entries }
+    ensures table { OnOk result (AreKnownTerms x.now.ints.now x.now.store.now table.new) }
+    ensures terms { OnOk result (HaveTerms x.now.ints.now x.now.store.now
         pending.new.multiples.entries) }
     ensures sum { OnOk result ((v : Tree → ℤ) (n : ℤ)
         → IsSum (value_at x.now.ints.now x.now.store.now v) pending.old n
         → IsSum (value_at x.now.ints.now x.now.store.now v) pending.new
-        (n +ℤ part x.now.ints.now v multiplier (Some (bound_at x.now.store.now d)))) }
+        (n +ℤ part x.now.ints.now v multiplier (Some (bounded_of x.now.store.now d)))) }
 {
     put_term(x.store, x.ints, table, pending, d.left, Some(multiplier))?;
     put_term(
@@ -113,16 +113,16 @@ fn add_bounded(
     d: Option<Bound>,
     multiplier: i128,
 ) -> Result<(), AllocError>
-    requires held { IfSome d (BoundHeld x.now.store.now) }
-    requires table { AreKnown x.now.ints.now x.now.store.now table.old }
-    requires terms { AreTerms x.now.ints.now x.now.store.now pending.old.multiples.entries }
-    ensures table { OnOk result (AreKnown x.now.ints.now x.now.store.now table.new) }
-    ensures terms { OnOk result (AreTerms x.now.ints.now x.now.store.now
+    requires held { IfSome d (IsBoundHeld x.now.store.now) }
+    requires table { AreKnownTerms x.now.ints.now x.now.store.now table.old }
+    requires terms { HaveTerms x.now.ints.now x.now.store.now pending.old.multiples.entries }
+    ensures table { OnOk result (AreKnownTerms x.now.ints.now x.now.store.now table.new) }
+    ensures terms { OnOk result (HaveTerms x.now.ints.now x.now.store.now
         pending.new.multiples.entries) }
     ensures sum { OnOk result ((v : Tree → ℤ) (n : ℤ)
         → IsSum (value_at x.now.ints.now x.now.store.now v) pending.old n
         → IsSum (value_at x.now.ints.now x.now.store.now v) pending.new
-        (n +ℤ part x.now.ints.now v multiplier (option_map (bound_at x.now.store.now) d))) }
+        (n +ℤ part x.now.ints.now v multiplier (option_map (bounded_of x.now.store.now) d))) }
 {
     match d {
         Some(bound) => add_part(x, table, pending, bound, multiplier),
@@ -137,16 +137,16 @@ fn add_all(
     pending: &mut Pending,
     uses: &[(usize, i128)],
 ) -> Result<(), AllocError>
-    requires held { LeafHeld x.now }
-    requires table { AreKnown x.now.ints.now x.now.store.now table.old }
-    requires terms { AreTerms x.now.ints.now x.now.store.now pending.old.multiples.entries }
-    ensures table { OnOk result (AreKnown x.now.ints.now x.now.store.now table.new) }
-    ensures terms { OnOk result (AreTerms x.now.ints.now x.now.store.now
+    requires held { IsSequentHeld x.now }
+    requires table { AreKnownTerms x.now.ints.now x.now.store.now table.old }
+    requires terms { HaveTerms x.now.ints.now x.now.store.now pending.old.multiples.entries }
+    ensures table { OnOk result (AreKnownTerms x.now.ints.now x.now.store.now table.new) }
+    ensures terms { OnOk result (HaveTerms x.now.ints.now x.now.store.now
         pending.new.multiples.entries) }
     ensures sum { OnOk result ((v : Tree → ℤ) (n : ℤ)
         → IsSum (value_at x.now.ints.now x.now.store.now v) pending.old n
         → IsSum (value_at x.now.ints.now x.now.store.now v) pending.new
-        (n +ℤ total x.now.ints.now (leaf_sequent x.now) v uses.now)) }
+        (n +ℤ total x.now.ints.now (sequent_of_leaf x.now) v uses.now)) }
 {
     let Some((first, more)) = uses.split_first() else {
         return Ok(());

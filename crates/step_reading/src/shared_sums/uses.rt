@@ -5,7 +5,7 @@ ghost use Rattle.std.specs.Option.{option_map};
 ghost use Rattle.trees.specs.Tree.{Tree};
 ghost use Rattle.trees.specs.Node.{tree_at, Holds};
 ghost use Rattle.linear_leaf.specs.Linear.{comparison_bound, uncompared, pair_of, bounded, bounded_at, IsRightMultiplier, AreUses};
-ghost use Rattle.step_reading.specs.shared_sums.Uses.{bound_at, BoundHeld, leaf_sequent, LeafHeld, pair_at};
+ghost use Rattle.step_reading.specs.shared_sums.Uses.{bounded_of, IsBoundHeld, sequent_of_leaf, IsSequentHeld, pair_trees};
 
 use trees::store::Store;
 use trees::{Ints, Node, TermId};
@@ -51,9 +51,9 @@ fn at_most(a: TermId, b: TermId) -> Bound
 
 // A comparison.
 fn comparison_bound(ints: &Ints, p: usize, a: TermId, b: TermId) -> Option<Bound>
-    ensures tree { (s : List Tree) → option_map (bound_at s) result
+    ensures tree { (s : List Tree) → option_map (bounded_of s) result
         ≡ comparison_bound ints.now p (tree_at s a) (tree_at s b) }
-    ensures held { (s : List Tree) → Holds s a → Holds s b → IfSome result (BoundHeld s) }
+    ensures held { (s : List Tree) → Holds s a → Holds s b → IfSome result (IsBoundHeld s) }
 {
     if p == ints.lt {
         Some(less_bound(a, b))
@@ -70,9 +70,9 @@ fn comparison_bound(ints: &Ints, p: usize, a: TermId, b: TermId) -> Option<Bound
 
 // The negation of a comparison.
 fn negation_bound(ints: &Ints, p: usize, a: TermId, b: TermId) -> Option<Bound>
-    ensures tree { (s : List Tree) → option_map (bound_at s) result
+    ensures tree { (s : List Tree) → option_map (bounded_of s) result
         ≡ uncompared ints.now p (tree_at s a) (tree_at s b) }
-    ensures held { (s : List Tree) → Holds s a → Holds s b → IfSome result (BoundHeld s) }
+    ensures held { (s : List Tree) → Holds s a → Holds s b → IfSome result (IsBoundHeld s) }
 {
     if p == ints.lt {
         Some(at_most(b, a))
@@ -90,7 +90,7 @@ fn negation_bound(ints: &Ints, p: usize, a: TermId, b: TermId) -> Option<Bound>
 // The members of a list of two.
 fn pair(store: &Store, list: TermId) -> Option<(TermId, TermId)>
     requires { Holds store.now list }
-    ensures tree { option_map (pair_at store.now) result ≡ pair_of (tree_at store.now list) }
+    ensures tree { option_map (pair_trees store.now) result ≡ pair_of (tree_at store.now list) }
     ensures held { IfSome result (λ p. Holds store.now p.0 × Holds store.now p.1) }
 {
     match store.node(list) {
@@ -108,8 +108,9 @@ fn pair(store: &Store, list: TermId) -> Option<(TermId, TermId)>
 // A formula that may be in the sum.
 fn formula_bound(store: &Store, ints: &Ints, f: TermId) -> Option<Bound>
     requires { Holds store.now f }
-    ensures tree { option_map (bound_at store.now) result ≡ bounded ints.now (tree_at store.now f) }
-    ensures held { IfSome result (BoundHeld store.now) }
+    ensures tree { option_map (bounded_of store.now) result
+        ≡ bounded ints.now (tree_at store.now f) }
+    ensures held { IfSome result (IsBoundHeld store.now) }
 {
     match store.node(f) {
         Node::Eq(a, b) => Some(Bound {
@@ -135,10 +136,10 @@ fn formula_bound(store: &Store, ints: &Ints, f: TermId) -> Option<Bound>
 
 /// The formula at a place, where it may be in the sum.
 pub(crate) fn bounded_at(x: &Leaf<'_>, place: usize) -> Option<Bound>
-    requires { LeafHeld x.now }
-    ensures tree { option_map (bound_at x.now.store.now) result
-        ≡ bounded_at x.now.ints.now (leaf_sequent x.now) place }
-    ensures held { IfSome result (BoundHeld x.now.store.now) }
+    requires { IsSequentHeld x.now }
+    ensures tree { option_map (bounded_of x.now.store.now) result
+        ≡ bounded_at x.now.ints.now (sequent_of_leaf x.now) place }
+    ensures held { IfSome result (IsBoundHeld x.now.store.now) }
 {
     match x.sequent.get(place) {
         Some(f) => formula_bound(x.store, x.ints, *f),
@@ -148,8 +149,8 @@ pub(crate) fn bounded_at(x: &Leaf<'_>, place: usize) -> Option<Bound>
 
 // Whether a formula may have a multiplier.
 fn is_use(store: &Store, d: Bound, multiplier: i128) -> bool
-    requires { BoundHeld store.now d }
-    ensures { IsTrue result ↔ IsRightMultiplier (bound_at store.now d) multiplier }
+    requires { IsBoundHeld store.now d }
+    ensures { IsTrue result ↔ IsRightMultiplier (bounded_of store.now d) multiplier }
 {
     if d.equation {
         match store.ty(d.left) {
@@ -163,8 +164,8 @@ fn is_use(store: &Store, d: Bound, multiplier: i128) -> bool
 
 /// Whether each place has a formula that may be in the sum.
 pub(crate) fn are_uses(x: &Leaf<'_>, uses: &[(usize, i128)]) -> bool
-    requires { LeafHeld x.now }
-    ensures { IsTrue result ↔ AreUses x.now.ints.now (leaf_sequent x.now) uses.now }
+    requires { IsSequentHeld x.now }
+    ensures { IsTrue result ↔ AreUses x.now.ints.now (sequent_of_leaf x.now) uses.now }
 {
     match uses.split_first() {
         Some((first, more)) => match bounded_at(x, first.0) {

@@ -5,6 +5,7 @@ ghost use Rattle.trees.specs.Node.{Holds};
 use linear_leaf::closes_linear;
 use std::alloc::Global;
 use std::process::Abort;
+use step_reading::shared_sums::is_closed_by;
 use trees::store::{Grow, Store};
 use trees::{Ints, Node, TermId};
 
@@ -167,5 +168,7 @@ fn a_leaf_closes_or_does_not(rt: HostRuntime) {
     for (sequent, uses, closes) in ROWS.iter() {
         assert!(rt; are_held(&store, sequent));
         assert!(rt; closes_linear(&store, &INTS, sequent, uses) == *closes);
+        let shared = is_closed_by(rt.alloc(), &store, &INTS, sequent, uses).expect(&rt, MEMORY);
+        assert!(rt; shared == *closes);
     }
 }
