@@ -1,18 +1,18 @@
 -- Tasks with the same declarations have the same notes of them.
-use Rattle.std.proofs.Common.{◌≡◌, ℕ, ◌+◌, List, [], ◌∷◌, ◌++◌, length, filter, map, take, get_or, ◌<◌, refl, sym, ap, subst, ◌∙◌, arith, length-append, Option, Some, None, IfSome, IsSomeAnd, Bor}
+use Rattle.std.proofs.Common.{◌≡◌, ℕ, ◌+◌, List, [], ◌∷◌, ◌++◌, length, filter, refl, sym, ap, subst, ◌∙◌, arith, length-append, Option, Some, None, IfSome, IsSomeAnd, Bor}
 use Rattle.std.specs.List.{flat_map}
-use Rattle.std.proofs.lemmas.List.{append-nil, length-map, map_more, nil_from_length}
+use Rattle.std.proofs.lemmas.List.{append-nil, length-map, nil_from_length}
 use Rattle.trees.specs.Tree.{Tree}
 use Rattle.tasks.specs.declared.declaration.Decl.{Decl}
 use Rattle.tasks.specs.declared.task.Task.{Task}
-use Rattle.tasks.specs.Task.{BodyTree, TaskTree, declared, made, made_by, props_of}
+use Rattle.tasks.specs.Task.{TaskTree, declared, made, made_by, props_of}
 use Rattle.tasks.specs.Meaning.{body_at, declaration_at, declarations_at, task_at}
 use Rattle.name_tables.specs.declared.noted.Noted.{Noted}
-use Rattle.name_tables.specs.Occurrences.{Occurrence, in_proposition, task_occurrences}
+use Rattle.name_tables.specs.Occurrences.{Occurrence, task_occurrences}
 use Rattle.name_tables.specs.Own.{said_occurrences}
 use Rattle.name_tables.specs.Tables.{distinct, symbol_instances, problem_things}
 use Rattle.name_tables.specs.Seen.{occurrence_at, seen_occurrences, with_all, KeysHeld, Sees}
-use Rattle.name_tables.specs.Fronts.{said_in, rest_occurrences, things_among, bodies_at, HaveSameBodies, HaveSameFront, IsNotedFor, IsNoted}
+use Rattle.name_tables.specs.Fronts.{said_in, rest_occurrences, things_among, bodies_at, HaveSameFront, IsNotedFor, IsNoted}
 use Rattle.name_tables.proofs.Distinct.{is_new, gathered}
 use Rattle.name_tables.proofs.Grouped.{gathered_among}
 use Rattle.name_tables.proofs.Loops.{said_first}
@@ -38,12 +38,6 @@ noted_same s a b n f h =
       held = h.held;
       things = h.things ∙ (λ i. distinct (flat_map (symbol_instances (f.ints i) (said i)) (0 ∷ f.rigid i ++ makes i)));
     }
-
--- one declaration more
-pub bodies_more : (s : List Tree) (xs ys : List Decl) (i : ℕ) (a b : Decl) → i < length xs → i < length ys → body_at s (get_or xs i a).body ≡ body_at s (get_or ys i b).body
-    → bodies_at s (take i xs) ≡ bodies_at s (take i ys) → bodies_at s (take (i + 1) xs) ≡ bodies_at s (take (i + 1) ys)
-bodies_more s xs ys i a b l m e so =
-    map_more (λ (d : Decl). body_at s d.body) xs i a l ∙ (λ j. so j ++ e j ∷ []) ∙ sym (map_more (λ (d : Decl). body_at s d.body) ys i b m)
 
 -- where there are no more, none was added
 none_added : (os ps : List Occurrence) → length (with_all os ps) ≡ length os → with_all os ps ≡ os

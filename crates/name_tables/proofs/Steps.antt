@@ -87,10 +87,7 @@ module _ (s : List Tree) where
           let there : AreIn (seen_occurrences s b) (occurrences (get_or s id (Leaf HEnd))) = subst (λ z. AreIn z (occurrences (get_or s id (Leaf HEnd)))) (sym h.is) (added_in (seen_occurrences s a) (occurrences (get_or s id (Leaf HEnd)))) in
           record { walk = record { seen = h.walk.seen; done = done_push (seen_occurrences s b) d id h.walk.done there }; is = h.is }
 
-  -- before any term is done
-  pub walk_begun : (a : List (ℕ × ℕ)) (d : List ℕ) → IsSeen s a → d ≡ [] → IsWalk s a d
-  walk_begun a d h e = record { seen = h; done = subst (TermsAreIn s (seen_occurrences s a)) (sym e) tt }
-
+  -- what a walk has seen
   pub walks_sees : (a b : List (ℕ × ℕ)) (d : List ℕ) (ps : List Occurrence) → WalksTerms s a ps b d → Sees s a ps b
   walks_sees a b d ps h = record { seen = h.walk.seen; is = h.is }
 

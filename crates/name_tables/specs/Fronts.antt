@@ -1,5 +1,5 @@
 -- What the tasks of the parts of a goal have in common for a table of names: their declarations, type variables and integers.
-use Rattle.std.specs.Prelude.{◌≡◌, ℕ, List, [], ◌∷◌, ◌++◌, map, Option, IfSome}
+use Rattle.std.specs.Prelude.{◌≡◌, List, [], ◌++◌, map, IfSome}
 use Rattle.std.specs.List.{flat_map}
 use Rattle.trees.specs.Tree.{Tree}
 use Rattle.tasks.specs.declared.declaration.Body.{Body}

@@ -8,7 +8,6 @@ use Rattle.printed_problems.specs.declared.printed.Problem.{Problem}
 use Rattle.printed_problems.specs.declared.printed_terms.printer.TermPrinter.{TermPrinter}
 use Rattle.printed_problems.specs.printed_terms.Meaning.{printing}
 use Rattle.printed_problems.specs.printed_terms.Problems.{printing_of}
-use Rattle.printed_problems.specs.printed_terms.Texts.{Printing}
 use Rattle.printed_problems.specs.Problems.{ProblemTree, problem_of}
 use Rattle.printed_problems.specs.Made.{problem_at}
 use Rattle.part_texts.specs.smt_texts.Text.{smt_text_by}

@@ -32,8 +32,8 @@ abbrev pub part_texts : Driver → List TaskTree → List ℕ
 part_texts d ts = texts_from d 1 (length ts) ts
 
 -- a printer with what is in the table of a task's problem, and with the names of the problem
-pub record PrintsTask (c : TermPrinter) (t : Task) (problem : Problem) : Type 0 where
+pub record PrintsTask (c : TermPrinter) (t : Task) (its : Problem) : Type 0 where
   pub can : CanPrint c
   pub things : seen_occurrences c.store.now c.things.now ≡ problem_things (task_at c.store.now t)
-  pub names : c.names.now ≡ problem.names
-  pub problem : IsProblem c.store.now (problem_of c.driver.now (task_at c.store.now t)) problem
+  pub names : c.names.now ≡ its.names
+  pub problem : IsProblem c.store.now (problem_of c.driver.now (task_at c.store.now t)) its

@@ -39,6 +39,30 @@ fn problem_at<'a>(
     }
 }
 
+// The problems of the parts of a goal, which share these notes.
+fn problems_after<'a>(
+    alloc: Global,
+    store: &Store,
+    driver: &Driver,
+    tasks: &'a [Task],
+    shared: &mut Shared<'a>,
+) -> Result<Vec<Problem>, PartFault>
+    requires held { TasksHeld store.now tasks.now }
+    requires shared { IsShared (syntax_of driver.now.printer) store.now shared.old }
+    ensures problems { IfOk result (λ v. AreProblems store.now driver.now (tasks_at store.now
+        tasks.now) v.items) }
+    ensures none { IfOk result (λ _. first_fault driver.now 1 (tasks_at store.now tasks.now)
+        ≡ None) }
+    ensures fault { IfErr result (IsPartFault (first_fault driver.now 1 (tasks_at store.now
+        tasks.now))) }
+{
+    let mut made = Vec::new(alloc);
+    for (place, task) in tasks.iter().enumerate() {
+        made.push(problem_at(alloc, store, driver, task, place + 1, shared)?)?;
+    }
+    Ok(made)
+}
+
 /// The problems of the parts of a goal under a driver, in order.
 ///
 /// The first fault of the first part that has one is answered: declaration by declaration, then the types of the parameters, the
@@ -57,10 +81,6 @@ pub fn problems_of(
     ensures fault { IfErr result (IsPartFault (first_fault driver.now 1 (tasks_at store.now
         tasks.now))) }
 {
-    let mut made = Vec::new(alloc);
     let mut shared = Shared::new(alloc);
-    for (place, task) in tasks.iter().enumerate() {
-        made.push(problem_at(alloc, store, driver, task, place + 1, &mut shared)?)?;
-    }
-    Ok(made)
+    problems_after(alloc, store, driver, tasks, &mut shared)
 }

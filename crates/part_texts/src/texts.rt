@@ -2,6 +2,7 @@
 // They depend on both printers; the program writes them.
 ghost use Rattle.std.specs.Prelude.{◌≡◌, ◌++◌, length, IfOk, OnOk};
 ghost use Rattle.tasks.specs.Meaning.{task_at, tasks_at, TaskHeld, TasksHeld};
+ghost use Rattle.name_tables.specs.Fronts.{IsNoted};
 ghost use Rattle.part_texts.specs.Problems.{AreProblems};
 ghost use Rattle.part_texts.specs.Texts.{part_text, part_texts, PrintsTask};
 
@@ -35,21 +36,22 @@ fn push_part(
     }
 }
 
-/// The texts of the parts of a goal, counted from 1, in the syntax of the driver's printer. Only want of memory refuses.
-pub fn part_texts(
+// The texts of the parts of a goal, for which these declarations are noted.
+fn texts_after<'a>(
     alloc: Global,
     store: &Store,
     driver: &Driver,
-    tasks: &[Task],
+    tasks: &'a [Task],
     problems: &[Problem],
+    noted: &mut Noted<'a>,
 ) -> Result<Vec<u8>, AllocError>
     requires held { TasksHeld store.now tasks.now }
     requires problems { AreProblems store.now driver.now (tasks_at store.now tasks.now)
         problems.now }
+    requires noted { IsNoted store.now noted.old }
     ensures { IfOk result (λ v. v.items ≡ part_texts driver.now (tasks_at store.now tasks.now)) }
 {
     let mut out = Vec::new(alloc);
-    let mut noted = Noted::new(alloc);
     let parts = tasks.len();
     for place in 0..parts {
         let task = &tasks[place];
@@ -65,4 +67,21 @@ pub fn part_texts(
         push_part(&c, &mut out, task, problem, place + 1, parts)?;
     }
     Ok(out)
+}
+
+/// The texts of the parts of a goal, counted from 1, in the syntax of the driver's printer. Only want of memory refuses.
+pub fn part_texts(
+    alloc: Global,
+    store: &Store,
+    driver: &Driver,
+    tasks: &[Task],
+    problems: &[Problem],
+) -> Result<Vec<u8>, AllocError>
+    requires held { TasksHeld store.now tasks.now }
+    requires problems { AreProblems store.now driver.now (tasks_at store.now tasks.now)
+        problems.now }
+    ensures { IfOk result (λ v. v.items ≡ part_texts driver.now (tasks_at store.now tasks.now)) }
+{
+    let mut noted = Noted::new(alloc);
+    texts_after(alloc, store, driver, tasks, problems, &mut noted)
 }

@@ -1,5 +1,5 @@
 -- A formula has no fault where it has all forms, no type variable, and no bare thing in it.
-use Rattle.std.proofs.Common.{◌≡◌, ℕ, Bool, true, false, not, ◌&&◌, ◌||◌, ◌==◌, if◌then◌else◌, List, [], ◌∷◌, ◌++◌, nat_eq, get_or, Option, Some, None, refl, sym, ap, subst, ◌∙◌, arith}
+use Rattle.std.proofs.Common.{◌≡◌, ℕ, Bool, true, false, not, ◌&&◌, ◌||◌, ◌==◌, if◌then◌else◌, List, [], ◌∷◌, ◌++◌, nat_eq, get_or, Some, None, refl, sym, ap, subst, ◌∙◌, arith}
 use Rattle.std.specs.List.{list_any}
 use Rattle.std.specs.Bool.{Decides}
 use Rattle.std.specs.Cmp.Lexicographic.{pointwise}
@@ -9,7 +9,7 @@ use Rattle.trees.specs.Tree.{Tree, Leaf, HEnd, above_ty_vars}
 use Rattle.drivers.specs.declared.driver_items.kinds.Syntax.{Syntax}
 use Rattle.drivers.specs.driver_items.Syntaxes.{syntax_of}
 use Rattle.name_tables.specs.Occurrences.{Occurrence, occurrences}
-use Rattle.name_tables.specs.Seen.{occurrence_at, has}
+use Rattle.name_tables.specs.Seen.{has}
 use Rattle.printed_problems.specs.declared.checks.Checker.{Checker}
 use Rattle.printed_problems.specs.declared.checked.Checked.{Checked}
 use Rattle.printed_problems.specs.declared.fault.PrintFault.{PrintFault}

@@ -1,5 +1,5 @@
 -- What was found without a fault over several tasks.
-use Rattle.std.specs.Prelude.{◌≡◌, ℕ, Bool, not, ◌&&◌, ◌==◌, List, [], ◌∷◌, map, get_or}
+use Rattle.std.specs.Prelude.{◌≡◌, ℕ, Bool, not, ◌&&◌, ◌==◌, List, [], map, get_or}
 use Rattle.std.specs.List.{list_any}
 use Rattle.trees.specs.Tree.{Tree, above_ty_vars}
 use Rattle.drivers.specs.declared.driver_items.kinds.Syntax.{Syntax}

@@ -1,7 +1,6 @@
 // What was found without a fault, for the tasks that are checked after one another.
 // It depends on what is in a table; the checks depend on it.
 ghost use Rattle.std.specs.Prelude.{◌≡◌, ◌<◌, length, All, IfOk, OnOk};
-ghost use Rattle.drivers.specs.declared.driver_items.kinds.Syntax.{Syntax};
 ghost use Rattle.printed_problems.specs.Checked.{keys_at, IsEmptyChecked, TurnsTo};
 
 use indexmap::IndexSet;

@@ -1,6 +1,5 @@
 use Rattle.std.proofs.Common.{sym, ap, ◌++◌, ◌∙◌}
 use Rattle.std.proofs.lemmas.Result.{on_ok_weaker}
-use Rattle.tasks.specs.Meaning.{task_at}
 use Rattle.part_texts.proofs.Printed.{smt_part, tff_part}
 use Rattle.part_texts.proofs.texts.push_part.Goals as goal
 

@@ -1,4 +1,3 @@
-use Rattle.trees.specs.Node.{tree_at}
 use Rattle.printed_problems.specs.declared.fault.PrintFault.TheVariants.{Memory}
 use Rattle.printed_problems.proofs.First.{meets_fault}
 use Rattle.printed_problems.proofs.Faultless.{found_none, marked_none}

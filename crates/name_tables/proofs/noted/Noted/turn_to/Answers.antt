@@ -1,4 +1,4 @@
-use Rattle.std.proofs.Common.{List, All, ℕ, sym, subst}
+use Rattle.std.proofs.Common.{List, All, sym, subst}
 use Rattle.tasks.specs.declared.declaration.Decl.{Decl}
 use Rattle.tasks.specs.Meaning.{DeclHeld}
 use Rattle.name_tables.specs.Seen.{KeysHeld}

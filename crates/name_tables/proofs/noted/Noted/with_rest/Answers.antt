@@ -1,8 +1,7 @@
-use Rattle.std.proofs.Common.{◌≡◌, ℕ, List, length, arith, rules, sym, ap, subst, ◌∙◌}
+use Rattle.std.proofs.Common.{◌≡◌, ℕ, List, length, arith, sym, ap, subst, ◌∙◌}
 use Rattle.std.proofs.lemmas.Bool.Decides.{nat_tests}
 use Rattle.std.proofs.lemmas.Result.{IfOk-weaker}
 use Rattle.tasks.specs.Meaning.{task_at}
-use Rattle.name_tables.specs.Tables.{problem_things}
 use Rattle.name_tables.specs.Seen.{seen_occurrences, IsSeen, KeysHeld, Sees}
 use Rattle.name_tables.specs.Fronts.{rest_occurrences, things_among}
 use Rattle.name_tables.proofs.Fronts.{things_with_rest, things_without_more}

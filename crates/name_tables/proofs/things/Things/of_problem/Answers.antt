@@ -1,8 +1,8 @@
-use Rattle.std.proofs.Common.{◌≡◌, ℕ, List, ap, ◌∙◌}
+use Rattle.std.proofs.Common.{◌≡◌, ap, ◌∙◌}
 use Rattle.std.proofs.lemmas.Result.{IfOk-weaker}
 use Rattle.tasks.specs.Meaning.{task_at}
 use Rattle.name_tables.specs.Occurrences.{task_occurrences}
-use Rattle.name_tables.specs.Seen.{seen_occurrences, with_all}
+use Rattle.name_tables.specs.Seen.{seen_occurrences}
 use Rattle.name_tables.specs.Fronts.{things_among}
 use Rattle.name_tables.proofs.Grouped.{gathered_among}
 use Rattle.name_tables.proofs.things.Things.of_problem.Goals as goal

@@ -2,7 +2,7 @@ use Rattle.std.proofs.Common.{◌≡◌, ◌+◌, ◌++◌, drop, length}
 use Rattle.tasks.specs.Meaning.{tasks_at}
 use Rattle.name_tables.specs.Fronts.{IsNoted}
 use Rattle.part_texts.specs.Texts.{texts_from}
-use Rattle.part_texts.proofs.texts.part_texts.Given as goal
+use Rattle.part_texts.proofs.texts.texts_after.Given as goal
 
 abbrev pub invariant-loop-place : goal.invariant-loop-place
 invariant-loop-place l =

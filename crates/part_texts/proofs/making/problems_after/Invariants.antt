@@ -5,7 +5,7 @@ use Rattle.drivers.specs.driver_items.Syntaxes.{syntax_of}
 use Rattle.printed_problems.specs.Made.{ProblemHeld, problem_at}
 use Rattle.printed_problems.specs.Shared.{IsShared}
 use Rattle.part_texts.specs.Problems.{first_fault}
-use Rattle.part_texts.proofs.making.problems_of.Given as goal
+use Rattle.part_texts.proofs.making.problems_after.Given as goal
 
 abbrev pub invariant-loop-place : goal.invariant-loop-place
 invariant-loop-place l = record {

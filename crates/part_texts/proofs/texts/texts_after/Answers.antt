@@ -1,5 +1,5 @@
 use Rattle.part_texts.proofs.Parted.{problem_there, texts_step}
-use Rattle.part_texts.proofs.texts.part_texts.Goals as goal
+use Rattle.part_texts.proofs.texts.texts_after.Goals as goal
 
 pub push_part-requires-clause-printer : goal.push_part-requires-clause-printer
 push_part-requires-clause-printer c = record {
