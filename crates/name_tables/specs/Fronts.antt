@@ -1,4 +1,5 @@
--- What the tasks of the parts of a goal have in common for a table of names: their declarations, type variables and integers.
+-- What the tasks of the parts of a goal have in common for a table of names: their declarations,
+-- type variables and integers.
 use Rattle.std.specs.Prelude.{◌≡◌, List, [], ◌++◌, map, IfSome}
 use Rattle.std.specs.List.{flat_map}
 use Rattle.trees.specs.Tree.{Tree}
@@ -13,12 +14,13 @@ use Rattle.name_tables.specs.Tables.{distinct, symbol_instances}
 use Rattle.name_tables.specs.Seen.{seen_occurrences, KeysHeld, Sees}
 
 -- what occurs in what declarations say
-abbrev pub said_in : List DeclarationTree → List Occurrence
-said_in ds = flat_map in_proposition (props_of ds)
+abbrev pub declared_occurrences : List DeclarationTree → List Occurrence
+declared_occurrences ds = flat_map in_proposition (props_of ds)
 
 -- what occurs in the rest of a task: the types of its parameters, its locals and its goal
 abbrev pub rest_occurrences : TaskTree → List Occurrence
-rest_occurrences t = flat_map in_type t.params ++ (flat_map occurrences t.locals ++ occurrences t.goal)
+rest_occurrences t =
+    flat_map in_type t.params ++ (flat_map occurrences t.locals ++ occurrences t.goal)
 
 -- what the names of a problem's table stand for, where these occur in it
 abbrev pub things_among : TaskTree → List Occurrence → List Occurrence
@@ -42,10 +44,10 @@ pub record HaveSameFront (a b : Task) : Type 0 where
 
 -- what was noted is what occurs in the declarations of a task, and what a table has of that
 pub record IsNotedFor (s : List Tree) (t : TaskTree) (n : Noted) : Type 0 where
-  pub seen : Sees s [] (said_in t.decls) n.seen.keys
+  pub seen : Sees s [] (declared_occurrences t.decls) n.seen.keys
   pub held : KeysHeld s n.things
-  pub things : seen_occurrences s n.things ≡ things_among t (said_in t.decls)
+  pub things : seen_occurrences s n.things ≡ things_among t (declared_occurrences t.decls)
 
 -- of the task whose declarations were noted, if any were
-abbrev pub IsNoted : List Tree → Noted → Type 0
-IsNoted s n = IfSome n.front (λ front. IsNotedFor s (task_at s front.now) n)
+abbrev pub IsFrontNoted : List Tree → Noted → Type 0
+IsFrontNoted s n = IfSome n.front (λ front. IsNotedFor s (task_at s front.now) n)

@@ -24,13 +24,16 @@ pub record IsKeyPushed (s : List Tree) (old new : List (List (ℕ × ℕ))) (key
   pub each : (k : ℕ) → get_or new k [] ≡ get_or old k [] ++ in_group s k (key ∷ [])
 
 -- for each symbol its instances among these
-pub record AreGroups (s : List Tree) (keys : List (ℕ × ℕ)) (groups : List (List (ℕ × ℕ))) : Type 0 where
+pub record AreGroups (s : List Tree) (keys : List (ℕ × ℕ))
+    (groups : List (List (ℕ × ℕ))) : Type 0 where
   pub held : All (KeysHeld s) groups
   pub each : (k : ℕ) → get_or groups k [] ≡ in_group s k keys
 
 -- what is added of a symbol
 abbrev pub instances_in : List Tree → Option Ints → List (List (ℕ × ℕ)) → ℕ → List Occurrence
-instances_in s ints groups k = if is_interpreted ints k then whole_occurrence k ∷ [] else seen_occurrences s (get_or groups k [])
+instances_in s ints groups k =
+    if is_interpreted ints k then whole_occurrence k
+    ∷ [] else seen_occurrences s (get_or groups k [])
 
 -- they are the symbols of its tree, over any store
 abbrev pub AreDeclaredSymbols : Task → List ℕ → Type 0

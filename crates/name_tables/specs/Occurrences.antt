@@ -1,4 +1,5 @@
--- Which symbols occur in a task, each at its types, in the order in which a table of names has them.
+-- Which symbols occur in a task, each at its types, in the order in which a table of names has
+-- them.
 use Rattle.std.specs.Prelude.{ℕ, List, [], ◌∷◌, ◌++◌, Option, Some, None}
 use Rattle.std.specs.List.{flat_map}
 use Rattle.trees.specs.Tree.{Tree, Leaf, One, Two, Three, Head, HTyApp, HTyRigid, HEnd, HCell, HParam, HNum, HFun, HPred, HEq, HForall, HExists, HPatCon}
@@ -55,8 +56,8 @@ in_types_of (Three h a b c) = []
 abbrev pub occurrences_at : ℕ → Tree → List Occurrence
 occurrences_at k types = in_type types ++ occurrence k types ∷ []
 
--- what the operator of a node adds: a literal is of type `int`; an equation has the type of its sides; a symbol has the types of
--- its arguments, that of its result, and its own type arguments
+-- what the operator of a node adds: a literal is of type `int`; an equation has the type of its
+-- sides; a symbol has the types of its arguments, that of its result, and its own type arguments
 abbrev pub of_leaf : Head → List Occurrence
 of_leaf (HNum z) = whole_occurrence 0 ∷ []
 of_leaf _ = []
@@ -82,11 +83,13 @@ abbrev pub occurrences : Tree → List Occurrence
 occurrences (Leaf h) = of_leaf h
 occurrences (One h a) = of_one h a ++ occurrences a
 occurrences (Two h a b) = of_two h a b ++ (occurrences a ++ occurrences b)
-occurrences (Three h a b c) = of_three h a b c ++ (occurrences a ++ (occurrences b ++ occurrences c))
+occurrences (Three h a b c) =
+    of_three h a b c ++ (occurrences a ++ (occurrences b ++ occurrences c))
 
 abbrev pub in_proposition : PropositionTree → List Occurrence
 in_proposition p = occurrences p.formula
 
 -- those in a task: in its propositions, the types of its parameters, its locals and its goal
 abbrev pub task_occurrences : TaskTree → List Occurrence
-task_occurrences t = flat_map in_proposition (props t) ++ (flat_map in_type t.params ++ (flat_map occurrences t.locals ++ occurrences t.goal))
+task_occurrences t = flat_map in_proposition (props t)
+    ++ (flat_map in_type t.params ++ (flat_map occurrences t.locals ++ occurrences t.goal))

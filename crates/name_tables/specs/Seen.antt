@@ -48,7 +48,8 @@ pub record IsSeen (s : List Tree) (keys : List (ℕ × ℕ)) : Type 0 where
   pub closed : HasTypeArguments (seen_occurrences s keys)
 
 -- it has gained these
-pub record Sees (s : List Tree) (old : List (ℕ × ℕ)) (ps : List Occurrence) (new : List (ℕ × ℕ)) : Type 0 where
+pub record Sees (s : List Tree) (old : List (ℕ × ℕ)) (ps : List Occurrence)
+    (new : List (ℕ × ℕ)) : Type 0 where
   pub seen : IsSeen s new
   pub is : seen_occurrences s new ≡ with_all (seen_occurrences s old) ps
 
@@ -63,11 +64,13 @@ pub record IsWalk (s : List Tree) (keys : List (ℕ × ℕ)) (ids : List ℕ) : 
   pub done : TermsAreIn s (seen_occurrences s keys) ids
 
 -- a walk has gained these
-pub record WalksTerms (s : List Tree) (old : List (ℕ × ℕ)) (ps : List Occurrence) (new : List (ℕ × ℕ)) (ids : List ℕ) : Type 0 where
+pub record WalksTerms (s : List Tree) (old : List (ℕ × ℕ)) (ps : List Occurrence)
+    (new : List (ℕ × ℕ)) (ids : List ℕ) : Type 0 where
   pub walk : IsWalk s new ids
   pub is : seen_occurrences s new ≡ with_all (seen_occurrences s old) ps
 
 -- a set of things has gained these
-pub record GainsKeys (s : List Tree) (old : List (ℕ × ℕ)) (ps : List Occurrence) (new : List (ℕ × ℕ)) : Type 0 where
+pub record GainsKeys (s : List Tree) (old : List (ℕ × ℕ)) (ps : List Occurrence)
+    (new : List (ℕ × ℕ)) : Type 0 where
   pub held : KeysHeld s new
   pub is : seen_occurrences s new ≡ with_all (seen_occurrences s old) ps

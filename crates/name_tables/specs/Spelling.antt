@@ -1,5 +1,5 @@
--- The name under which a symbol is printed: its own name, without those of its scopes, in letters, digits and `_`, an operator's
--- characters spelt out; then `_` and its place.
+-- The name under which a symbol is printed: its own name, without those of its scopes, in letters,
+-- digits and `_`, an operator's characters spelt out; then `_` and its place.
 use Rattle.std.specs.Prelude.{ℕ, ◌+◌, ◌-◌, ◌&&◌, ◌==◌, nat_le, not, Bool, true, false, if◌then◌else◌, List, [], ◌∷◌, ◌++◌, map, length, get_or, decimal, codes}
 use Rattle.std.specs.List.{flat_map}
 
@@ -15,9 +15,12 @@ own_name name = behind_dots name name
 -- the characters of operators, each with its word
 abbrev pub operator_words : List (ℕ × List ℕ)
 operator_words =
-    (33, codes "_bang") ∷ (36, codes "_dollar") ∷ (38, codes "_amp") ∷ (63, codes "_quest") ∷ (64, codes "_at") ∷ (94, codes "_caret")
-    ∷ (35, codes "_hash") ∷ (61, codes "_eq") ∷ (60, codes "_lt") ∷ (62, codes "_gt") ∷ (126, codes "_tilde") ∷ (43, codes "_plus")
-    ∷ (45, codes "_minus") ∷ (42, codes "_star") ∷ (47, codes "_slash") ∷ (92, codes "_back") ∷ (37, codes "_pct") ∷ []
+    (33, codes "_bang") ∷ (36, codes "_dollar") ∷ (38, codes "_amp") ∷ (63, codes "_quest")
+    ∷ (64, codes "_at") ∷ (94, codes "_caret")
+    ∷ (35, codes "_hash") ∷ (61, codes "_eq") ∷ (60, codes "_lt") ∷ (62, codes "_gt")
+    ∷ (126, codes "_tilde") ∷ (43, codes "_plus")
+    ∷ (45, codes "_minus") ∷ (42, codes "_star") ∷ (47, codes "_slash") ∷ (92, codes "_back")
+    ∷ (37, codes "_pct") ∷ []
 
 abbrev pub word_in : List (ℕ × List ℕ) → ℕ → List ℕ
 word_in [] c = []
@@ -60,7 +63,8 @@ clean_first c = if c == 95 then codes "u_" else lower_case (clean_byte c) ∷ []
 -- a name in letters, digits and `_`
 abbrev pub clean : List ℕ → List ℕ
 clean [] = []
-clean (c ∷ cs) = if is_spelt_byte c then operator_name (c ∷ cs) else clean_first c ++ map clean_byte cs
+clean (c ∷ cs) =
+    if is_spelt_byte c then operator_name (c ∷ cs) else clean_first c ++ map clean_byte cs
 
 abbrev pub name_at_place : List ℕ → ℕ → List ℕ
 name_at_place name place = clean (own_name name) ++ 95 ∷ decimal place

@@ -1,6 +1,6 @@
--- Name tables. A problem's has `int`, then the goal's type variables that occur, then, in the order of the declarations, each symbol
--- at the ground types at which it occurs, by first appearance; the symbols of int.Int are in it wherever they are declared. A
--- task's has all symbols, each whole.
+-- Name tables. A problem's has `int`, then the goal's type variables that occur, then, in the order
+-- of the declarations, each symbol at the ground types at which it occurs, by first appearance; the
+-- symbols of int.Int are in it wherever they are declared. A task's has all symbols, each whole.
 use Rattle.std.specs.Prelude.{◌≢◌, ℕ, ◌+◌, ◌&&◌, ◌||◌, ◌==◌, Bool, true, false, not, if◌then◌else◌, List, [], ◌∷◌, ◌++◌, map, filter, AllPairs, Option, Some, None}
 use Rattle.std.specs.List.{flat_map, list_any, position_or_len}
 use Rattle.trees.specs.Tree.{Tree, Leaf, One, Two, Three, Head, HTyApp, HTyRigid, above_ty_vars}
@@ -42,7 +42,8 @@ is_instance_of k o = (o.symbol == k) && (above_ty_vars o.types == 0)
 
 -- what a table has of a symbol, where these are the occurrences of its task
 abbrev pub symbol_instances : Option Ints → List Occurrence → ℕ → List Occurrence
-symbol_instances ints os k = if is_interpreted ints k then whole_occurrence k ∷ [] else filter (is_instance_of k) os
+symbol_instances ints os k =
+    if is_interpreted ints k then whole_occurrence k ∷ [] else filter (is_instance_of k) os
 
 -- what the names of a problem's table stand for, in order
 abbrev pub problem_things : TaskTree → List Occurrence
@@ -85,7 +86,8 @@ entry_at_place t things place o = record {
 -- those of these, from a place on
 abbrev pub entries_from : TaskTree → List Occurrence → ℕ → List Occurrence → List NameEntry
 entries_from t things place [] = []
-entries_from t things place (o ∷ os) = entry_at_place t things place o ∷ entries_from t things (place + 1) os
+entries_from t things place (o ∷ os) =
+    entry_at_place t things place o ∷ entries_from t things (place + 1) os
 
 abbrev pub names_of : TaskTree → List Occurrence → List NameEntry
 names_of t things = entries_from t things 0 things

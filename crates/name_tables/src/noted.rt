@@ -5,7 +5,7 @@ ghost use Rattle.trees.specs.Tree.{Tree};
 ghost use Rattle.tasks.specs.Meaning.{task_at, TaskHeld};
 ghost use Rattle.name_tables.specs.Tables.{problem_things};
 ghost use Rattle.name_tables.specs.Seen.{seen_occurrences, KeysHeld};
-ghost use Rattle.name_tables.specs.Fronts.{AreSameBodies, HaveSameBodies, HaveSameFront, IsNoted, IsNotedFor};
+ghost use Rattle.name_tables.specs.Fronts.{AreSameBodies, HaveSameBodies, HaveSameFront, IsFrontNoted, IsNotedFor};
 
 use crate::things::Things;
 use crate::walk::{Key, copied_keys, note_rest, seen_in_declarations};
@@ -77,7 +77,7 @@ fn have_same_front(a: &Task, b: &Task) -> bool
 impl<'a> Noted<'a> {
     /// Nothing is noted.
     pub fn new(alloc: Global) -> Noted<'a>
-        ensures { (s : List Tree) → IsNoted s result }
+        ensures { (s : List Tree) → IsFrontNoted s result }
     {
         Noted {
             front: None,
@@ -88,7 +88,8 @@ impl<'a> Noted<'a> {
 
     // Whether it was noted of the declarations that this task has.
     fn is_for(&self, task: &Task) -> bool
-        ensures { IsTrue result → IsSomeAnd self.now.front (λ front. HaveSameFront front.now task.now) }
+        ensures { IsTrue result → IsSomeAnd self.now.front (λ front. HaveSameFront front.now
+            task.now) }
     {
         match self.front {
             Some(front) => have_same_front(front, task),
@@ -98,9 +99,9 @@ impl<'a> Noted<'a> {
 
     // Notes the declarations of a task, unless they are noted.
     fn turn_to(&mut self, alloc: Global, store: &Store, task: &'a Task) -> Result<(), AllocError>
-        requires noted { IsNoted store.now self.old }
+        requires noted { IsFrontNoted store.now self.old }
         requires held { TaskHeld store.now task.now }
-        ensures noted { OnOk result (IsNoted store.now self.new) }
+        ensures noted { OnOk result (IsFrontNoted store.now self.new) }
         ensures this { OnOk result (IsNotedFor store.now (task_at store.now task.now) self.new) }
     {
         if self.is_for(task) {
@@ -140,12 +141,12 @@ impl<'a> Noted<'a> {
         store: &Store,
         task: &'a Task,
     ) -> Result<Things, AllocError>
-        requires noted { IsNoted store.now self.old }
+        requires noted { IsFrontNoted store.now self.old }
         requires held { TaskHeld store.now task.now }
         ensures held { IfOk result (KeysHeld store.now) }
         ensures things { IfOk result (λ v. seen_occurrences store.now v
             ≡ problem_things (task_at store.now task.now)) }
-        ensures noted { OnOk result (IsNoted store.now self.new) }
+        ensures noted { OnOk result (IsFrontNoted store.now self.new) }
     {
         self.turn_to(alloc, store, task)?;
         self.with_rest(alloc, store, task)

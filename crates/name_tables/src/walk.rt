@@ -10,7 +10,7 @@ ghost use Rattle.tasks.specs.Meaning.{trees_at, body_at, declarations_at, task_a
 ghost use Rattle.name_tables.specs.Occurrences.{in_type, in_option, in_types_of, occurrences_at, in_proposition, occurrences, task_occurrences};
 ghost use Rattle.name_tables.specs.Seen.{occurrence_at, seen_occurrences, has, with_all, AreIn, KeyHeld, KeysHeld, IsSeen, Sees, IsWalk, WalksTerms, GainsKeys};
 ghost use Rattle.name_tables.specs.Own.{own, inner, said_occurrences};
-ghost use Rattle.name_tables.specs.Fronts.{said_in, rest_occurrences};
+ghost use Rattle.name_tables.specs.Fronts.{declared_occurrences, rest_occurrences};
 
 use indexmap::IndexSet;
 use std::alloc::{AllocError, Global};
@@ -333,7 +333,7 @@ pub(crate) fn seen_in_declarations(
 ) -> Result<IndexSet<Key>, AllocError>
     requires { All (DeclHeld store.now) decls.now }
     ensures { IfOk result (λ v. Sees store.now []
-        (said_in (declarations_at store.now decls.now)) v.keys) }
+        (declared_occurrences (declarations_at store.now decls.now)) v.keys) }
 {
     let mut seen = IndexSet::new(alloc);
     let mut done = IndexSet::new(alloc);

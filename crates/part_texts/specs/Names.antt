@@ -1,4 +1,5 @@
--- The name tables of the parts of a goal, as lines: an entry's name, its kind, what it stands for, and the names of its types.
+-- The name tables of the parts of a goal, as lines: an entry's name, its kind, what it stands for,
+-- and the names of its types.
 use Rattle.std.specs.Prelude.{ℕ, ◌+◌, ◌-◌, Bool, false, if◌then◌else◌, List, [], ◌∷◌, ◌++◌, length, take, slice_get, Option, Some, None, decimal, codes}
 use Rattle.std.specs.List.{flat_map}
 use Rattle.tasks.specs.declared.signature.SymbolKind.{SymbolKind}
@@ -47,18 +48,22 @@ abbrev pub type_words : List NameEntry → ℕ → List ℕ
 type_words names place = 32 ∷ name_or_none (slice_get names place)
 
 abbrev pub entry_line : List SymbolTree → List NameEntry → NameEntry → List ℕ
-entry_line symbols names entry = entry.name ++ 32 ∷ entry_words symbols entry.symbol ++ flat_map (type_words names) entry.types ++ 10 ∷ []
+entry_line symbols names entry =
+    entry.name ++ 32 ∷ entry_words symbols entry.symbol ++ flat_map (type_words names) entry.types
+    ++ 10 ∷ []
 
 abbrev pub part_head : ℕ → ℕ → List ℕ
 part_head part parts = codes "; " ++ decimal part ++ codes " of " ++ decimal parts ++ 10 ∷ []
 
 -- the table of a part of so many
 abbrev pub name_text : ℕ → ℕ → List SymbolTree → List NameEntry → List ℕ
-name_text part parts symbols names = part_head part parts ++ flat_map (entry_line symbols names) names
+name_text part parts symbols names =
+    part_head part parts ++ flat_map (entry_line symbols names) names
 
 abbrev pub names_from : Driver → ℕ → ℕ → List TaskTree → List ℕ
 names_from d part parts [] = []
-names_from d part parts (t ∷ ts) = name_text part parts t.symbols (problem_of d t).names ++ names_from d (part + 1) parts ts
+names_from d part parts (t ∷ ts) =
+    name_text part parts t.symbols (problem_of d t).names ++ names_from d (part + 1) parts ts
 
 -- the tables of the problems of parts under a driver
 abbrev pub name_texts : Driver → List TaskTree → List ℕ

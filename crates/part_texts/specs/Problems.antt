@@ -30,7 +30,8 @@ or_later (Some fault) later = Some fault
 -- the first fault of parts, the first of which has this number
 abbrev pub first_fault : Driver → ℕ → List TaskTree → Option PartFault
 first_fault d part [] = None
-first_fault d part (t ∷ ts) = or_later (part_fault_at part (print_fault d t)) (first_fault d (part + 1) ts)
+first_fault d part (t ∷ ts) =
+    or_later (part_fault_at part (print_fault d t)) (first_fault d (part + 1) ts)
 
 -- want of memory, or the fault that is due
 abbrev pub IsPartFault : Option PartFault → PartFault → Type 0
@@ -40,6 +41,7 @@ IsPartFault due (part_fault.Unprintable part decl) = due ≡ Some (part_fault.Un
 IsPartFault due (part_fault.NoSyntax part symbol) = due ≡ Some (part_fault.NoSyntax part symbol)
 
 -- the problems of tasks under a driver, in a store
-pub record AreProblems (s : List Tree) (d : Driver) (ts : List TaskTree) (problems : List Problem) : Type 0 where
+pub record AreProblems (s : List Tree) (d : Driver) (ts : List TaskTree)
+    (problems : List Problem) : Type 0 where
   pub held : All (ProblemHeld s) problems
   pub are : map (problem_at s) problems ≡ map (problem_of d) ts

@@ -2,7 +2,7 @@
 // They depend on both printers; the program writes them.
 ghost use Rattle.std.specs.Prelude.{◌≡◌, ◌++◌, length, IfOk, OnOk};
 ghost use Rattle.tasks.specs.Meaning.{task_at, tasks_at, TaskHeld, TasksHeld};
-ghost use Rattle.name_tables.specs.Fronts.{IsNoted};
+ghost use Rattle.name_tables.specs.Fronts.{IsFrontNoted};
 ghost use Rattle.part_texts.specs.Problems.{AreProblems};
 ghost use Rattle.part_texts.specs.Texts.{part_text, part_texts, PrintsTask};
 
@@ -48,7 +48,7 @@ fn texts_after<'a>(
     requires held { TasksHeld store.now tasks.now }
     requires problems { AreProblems store.now driver.now (tasks_at store.now tasks.now)
         problems.now }
-    requires noted { IsNoted store.now noted.old }
+    requires noted { IsFrontNoted store.now noted.old }
     ensures { IfOk result (λ v. v.items ≡ part_texts driver.now (tasks_at store.now tasks.now)) }
 {
     let mut out = Vec::new(alloc);

@@ -16,23 +16,23 @@ use Rattle.printed_problems.specs.declared.fault.PrintFault.{PrintFault}
 use Rattle.printed_problems.specs.declared.fault.PrintFault.TheVariants.{Unprintable, Polymorphic}
 use Rattle.printed_problems.specs.Faults.{has_forms, at_place, syntax_fault, formula_fault}
 use Rattle.printed_problems.specs.Checks.{Pass, CanCheck, is_seen, first_where, the_task}
-use Rattle.printed_problems.specs.Checked.{keys_at, has_any, is_faultless, IsChecked, AreChecked, IsEmptyChecked, TurnsTo}
+use Rattle.printed_problems.specs.Checked.{keys_at, any_occurs, is_faultless, IsChecked, AreChecked, IsEmptyChecked, TurnsTo}
 use Rattle.printed_problems.proofs.Finding.{found_bare}
 use Rattle.printed_problems.proofs.First.{formula_rest}
 use Rattle.printed_problems.proofs.Forming.{pass_there, pass_marked}
 use Rattle.tasks.proofs.plain_laws.Bools.{and_first, and_second}
 
 module _ (s : List Tree) (keys : List (ℕ × ℕ)) (os : List Occurrence) where
-  first_none : (places : List ℕ) → has_any s os (keys_at keys places) ≡ false → first_where (is_seen s keys os) places ≡ None
+  first_none : (places : List ℕ) → any_occurs s os (keys_at keys places) ≡ false → first_where (is_seen s keys os) places ≡ None
   first_none [] e = refl
-  first_none (p ∷ ps) e = elim (is_seen s keys os p) as (λ b. (b || has_any s os (keys_at keys ps)) ≡ false → (if b then Some p else first_where (is_seen s keys os) ps) ≡ None) [
+  first_none (p ∷ ps) e = elim (is_seen s keys os p) as (λ b. (b || any_occurs s os (keys_at keys ps)) ≡ false → (if b then Some p else first_where (is_seen s keys os) ps) ≡ None) [
     | true ↦ λ h. absurd (cc)
     | false ↦ λ h. first_none ps h
   ] e
 
-  none_first : (places : List ℕ) → at_place (first_where (is_seen s keys os) places) ≡ None → has_any s os (keys_at keys places) ≡ false
+  none_first : (places : List ℕ) → at_place (first_where (is_seen s keys os) places) ≡ None → any_occurs s os (keys_at keys places) ≡ false
   none_first [] e = refl
-  none_first (p ∷ ps) e = elim (is_seen s keys os p) as (λ b. at_place (if b then Some p else first_where (is_seen s keys os) ps) ≡ None → (b || has_any s os (keys_at keys ps)) ≡ false) [
+  none_first (p ∷ ps) e = elim (is_seen s keys os p) as (λ b. at_place (if b then Some p else first_where (is_seen s keys os) ps) ≡ None → (b || any_occurs s os (keys_at keys ps)) ≡ false) [
     | true ↦ λ h. absurd (cc)
     | false ↦ λ h. none_first ps h
   ] e
@@ -49,7 +49,7 @@ module _ (c : Checker) (can : CanCheck c) (e : Tree) (n : ℕ) where
   no_variable = above_ty_vars e == 0
 
   abbrev no_bare : Bool
-  no_bare = not (has_any c.store.now (occurrences e) (keys_at c.things.now c.bare.now))
+  no_bare = not (any_occurs c.store.now (occurrences e) (keys_at c.things.now c.bare.now))
 
   pub faultless_none : faultless_here ≡ true → formula_fault c.driver.now (the_task c) n e ≡ None
   faultless_none h =

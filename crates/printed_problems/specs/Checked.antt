@@ -16,12 +16,13 @@ abbrev pub keys_at : List (ℕ × ℕ) → List ℕ → List (ℕ × ℕ)
 keys_at keys places = map (λ place. get_or keys place (0, 0)) places
 
 -- whether one of these things is among what occurs
-abbrev pub has_any : List Tree → List Occurrence → List (ℕ × ℕ) → Bool
-has_any s os keys = list_any (λ (key : ℕ × ℕ). has os (occurrence_at s key)) keys
+abbrev pub any_occurs : List Tree → List Occurrence → List (ℕ × ℕ) → Bool
+any_occurs s os keys = list_any (λ (key : ℕ × ℕ). has os (occurrence_at s key)) keys
 
 -- whether a formula has no fault where these things are the interpreted symbols without a template
 abbrev pub is_faultless : Syntax → List Tree → List (ℕ × ℕ) → Tree → Bool
-is_faultless p s bare e = has_forms p e && ((above_ty_vars e == 0) && not (has_any s (occurrences e) bare))
+is_faultless p s bare e =
+    has_forms p e && ((above_ty_vars e == 0) && not (any_occurs s (occurrences e) bare))
 
 -- terms with all forms, and formulas without a fault where those things are bare
 pub record IsChecked (p : Syntax) (s : List Tree) (k : Checked) : Type 0 where

@@ -44,12 +44,15 @@ parts_have_forms p (One h a) = has_forms p a
 parts_have_forms p (Two h a b) = has_forms p a && has_forms p b
 parts_have_forms p (Three h a b c) = has_forms p a && (has_forms p b && has_forms p c)
 
--- what a look for faults is given: a task whose numbers are held, the things of its problem's table, and the places of the bare ones
+-- what a look for faults is given: a task whose numbers are held, the things of its problem's
+-- table, and the places of the bare ones
 pub record CanCheck (c : Checker) : Type 0 where
   pub task_held : TaskHeld c.store.now c.task.now
   pub things_held : KeysHeld c.store.now c.things.now
-  pub things : seen_occurrences c.store.now c.things.now ≡ problem_things (task_at c.store.now c.task.now)
-  pub bare : c.bare.now ≡ places_from (is_bare c.driver.now (task_at c.store.now c.task.now)) 0 (seen_occurrences c.store.now c.things.now)
+  pub things : seen_occurrences c.store.now c.things.now
+      ≡ problem_things (task_at c.store.now c.task.now)
+  pub bare : c.bare.now ≡ places_from (is_bare c.driver.now (task_at c.store.now c.task.now)) 0
+      (seen_occurrences c.store.now c.things.now)
 
 -- whether the thing at a place is among these
 abbrev pub is_seen : List Tree → List (ℕ × ℕ) → List Occurrence → ℕ → Bool
@@ -61,10 +64,12 @@ first_where test (p ∷ ps) = if test p then Some p else first_where test ps
 
 -- the least bare place among what occurs
 abbrev pub bare_fault : Checker → List (ℕ × ℕ) → Option PrintFault
-bare_fault c seen = at_place (first_where (is_seen c.store.now c.things.now (seen_occurrences c.store.now seen)) c.bare.now)
+bare_fault c seen = at_place (first_where
+    (is_seen c.store.now c.things.now (seen_occurrences c.store.now seen)) c.bare.now)
 
 -- a look among what occurs, where there was memory to find that
-abbrev pub MeetsSeen : {E X : Type 0} → Checker → Result (List (ℕ × ℕ)) E → Result X PrintFault → Type 0
+abbrev pub MeetsSeen : {E X : Type 0} → Checker → Result (List (ℕ × ℕ)) E
+    → Result X PrintFault → Type 0
 MeetsSeen c (Ok seen) r = MeetsFault r (bare_fault c seen)
 MeetsSeen c (Err e) r = (due : Option PrintFault) → MeetsFault r due
 

@@ -1,4 +1,5 @@
--- Why a task can't be printed: its first fault, declaration by declaration, then the types of the parameters, the locals, the goal.
+-- Why a task can't be printed: its first fault, declaration by declaration, then the types of the
+-- parameters, the locals, the goal.
 use Rattle.std.specs.Prelude.{ℕ, ◌+◌, ◌&&◌, ◌==◌, Bool, true, false, not, if◌then◌else◌, List, [], ◌∷◌, ◌++◌, map, length, Option, Some, None}
 use Rattle.trees.specs.Tree.{Tree, Leaf, One, Two, Three, Head, HLet, HIf, HCase, above_ty_vars}
 use Rattle.drivers.specs.declared.driver_items.kinds.Syntax.{Syntax}
@@ -55,7 +56,8 @@ syntax_fault d t os = at_place (place_where (is_bare_in d t os) 0 (problem_thing
 abbrev pub formula_fault : Driver → TaskTree → ℕ → Tree → Option PrintFault
 formula_fault d t n e =
     if not (has_forms (syntax_of d.printer) e) then Some (Unprintable n)
-    else (if not (above_ty_vars e == 0) then Some (Polymorphic n) else syntax_fault d t (occurrences e))
+    else (if not (above_ty_vars e == 0) then Some (Polymorphic n) else syntax_fault d t
+    (occurrences e))
 
 -- what defines symbols or makes algebraic types has no text
 abbrev pub printed_body_fault : Driver → TaskTree → ℕ → BodyTree → Option PrintFault
@@ -75,9 +77,11 @@ first_print_fault [] = None
 first_print_fault (f ∷ fs) = print_fault_or_else f (first_print_fault fs)
 
 -- those of declarations, which are counted from a number on
-abbrev pub declaration_faults : Driver → TaskTree → ℕ → List DeclarationTree → List (Option PrintFault)
+abbrev pub declaration_faults : Driver → TaskTree → ℕ → List DeclarationTree
+    → List (Option PrintFault)
 declaration_faults d t n [] = []
-declaration_faults d t n (x ∷ xs) = printed_body_fault d t n x.body ∷ declaration_faults d t (n + 1) xs
+declaration_faults d t n (x ∷ xs) =
+    printed_body_fault d t n x.body ∷ declaration_faults d t (n + 1) xs
 
 abbrev pub printed_type_fault : Driver → TaskTree → Tree → Option PrintFault
 printed_type_fault d t type = syntax_fault d t (in_type type)
@@ -85,4 +89,6 @@ printed_type_fault d t type = syntax_fault d t (in_type type)
 -- the first fault of a task
 abbrev pub print_fault : Driver → TaskTree → Option PrintFault
 print_fault d t =
-    first_print_fault (declaration_faults d t 0 t.decls ++ (map (printed_type_fault d t) t.params ++ map (formula_fault d t (length t.decls)) (t.locals ++ t.goal ∷ [])))
+    first_print_fault (declaration_faults d t 0 t.decls
+    ++ (map (printed_type_fault d t) t.params
+    ++ map (formula_fault d t (length t.decls)) (t.locals ++ t.goal ∷ [])))

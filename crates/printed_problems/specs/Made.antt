@@ -14,7 +14,8 @@ use Rattle.printed_problems.specs.Problems.{is_of_theory, general, of_theories, 
 
 -- whatever the store
 abbrev pub HasTheory : List Decl → List ℕ → Bool → Type 0
-HasTheory ds path told = (s : List Tree) → told ≡ list_any (is_of_theory path) (declarations_at s ds)
+HasTheory ds path told =
+    (s : List Tree) → told ≡ list_any (is_of_theory path) (declarations_at s ds)
 
 abbrev pub text_if : List ℕ → Bool → List (List ℕ)
 text_if text told = if told then text ∷ [] else []
@@ -25,10 +26,13 @@ is_told true ds = of_theories ds
 is_told false ds = general
 
 abbrev pub IsPreludeTold : List Decl → Bool → Option (List ℕ) → Bool → Type 0
-IsPreludeTold ds special path told = (s : List Tree) → told ≡ is_told special (declarations_at s ds) path
+IsPreludeTold ds special path told =
+    (s : List Tree) → told ≡ is_told special (declarations_at s ds) path
 
-abbrev pub PushesTold : List Decl → Bool → List (Option (List ℕ) × List ℕ) → List (List ℕ) → List (List ℕ) → Type 0
-PushesTold ds special from old new = (s : List Tree) → new ≡ old ++ texts_where (is_told special (declarations_at s ds)) from
+abbrev pub PushesTold : List Decl → Bool → List (Option (List ℕ) × List ℕ) → List (List ℕ)
+    → List (List ℕ) → Type 0
+PushesTold ds special from old new =
+    (s : List Tree) → new ≡ old ++ texts_where (is_told special (declarations_at s ds)) from
 
 abbrev pub ArePreludes : Driver → Task → List (List ℕ) → Type 0
 ArePreludes d t made = (s : List Tree) → made ≡ preludes d (task_at s t)

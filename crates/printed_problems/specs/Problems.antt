@@ -18,16 +18,21 @@ is_kind _ = false
 
 -- a type that is declared: one without a template, other than `int`
 abbrev pub is_sort : Driver → TaskTree → Occurrence → Bool
-is_sort d t o = is_kind (symbol_or t.symbols o.symbol).kind && not ((o.symbol == 0) || has_template d o.symbol)
+is_sort d t o =
+    is_kind (symbol_or t.symbols o.symbol).kind && not ((o.symbol == 0) || has_template d o.symbol)
 
--- a function or predicate that is declared: one without a template that is used, and so no symbol of int.Int
+-- a function or predicate that is declared: one without a template that is used, and so no symbol
+-- of int.Int
 abbrev pub is_declared_symbol : Driver → TaskTree → Occurrence → Bool
-is_declared_symbol d t o = not (is_kind (symbol_or t.symbols o.symbol).kind || (is_interpreted t.ints o.symbol || has_template d o.symbol))
+is_declared_symbol d t o = not
+    (is_kind (symbol_or t.symbols o.symbol).kind
+    || (is_interpreted t.ints o.symbol || has_template d o.symbol))
 
 -- the places of those that pass a test, counted from a place on
 abbrev pub places_from : (Occurrence → Bool) → ℕ → List Occurrence → List ℕ
 places_from test place [] = []
-places_from test place (o ∷ os) = if test o then place ∷ places_from test (place + 1) os else places_from test (place + 1) os
+places_from test place (o ∷ os) =
+    if test o then place ∷ places_from test (place + 1) os else places_from test (place + 1) os
 
 abbrev pub is_of_theory : List ℕ → DeclarationTree → Bool
 is_of_theory path d = bytes_eq d.theory path
@@ -52,7 +57,8 @@ preludes d t = texts_where general d.preludes ++ texts_where (of_theories t.decl
 abbrev pub formula_of : PropositionTree → Tree
 formula_of p = p.formula
 
--- a problem: its name table, the places of the types and of the symbols that are declared, and its formulas
+-- a problem: its name table, the places of the types and of the symbols that are declared, and its
+-- formulas
 pub record ProblemTree : Type 0 where
   pub names : List NameEntry
   pub preludes : List (List ℕ)

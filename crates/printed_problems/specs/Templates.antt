@@ -1,4 +1,5 @@
--- Templates of a driver (Why3 manual, "Drivers"): how a symbol is printed where it isn't by its name.
+-- Templates of a driver (Why3 manual, "Drivers"): how a symbol is printed where it isn't by its
+-- name.
 use Rattle.std.specs.Prelude.{ℕ, ◌==◌, Bool, if◌then◌else◌, List, [], ◌∷◌, ◌++◌, get_or, Option, Some, None}
 use Rattle.std.specs.Option.{is_some}
 use Rattle.drivers.specs.declared.driver_items.kinds.Piece.{Piece}

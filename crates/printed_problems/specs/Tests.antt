@@ -19,13 +19,16 @@ asks IsDeclared d t o = is_declared_symbol d t o
 
 -- whatever the store, and at whatever types
 abbrev pub IsKindOf : Task → ℕ → Bool → Type 0
-IsKindOf t k told = (s : List Tree) → told ≡ is_kind (symbol_or (symbols_at s t.sig.value.symbols) k).kind
+IsKindOf t k told =
+    (s : List Tree) → told ≡ is_kind (symbol_or (symbols_at s t.sig.value.symbols) k).kind
 
 abbrev pub IsQuestionAnswered : Question → Driver → Task → ℕ → Bool → Type 0
-IsQuestionAnswered q d t k told = (s : List Tree) (types : Tree) → told ≡ asks q d (task_at s t) (occurrence k types)
+IsQuestionAnswered q d t k told =
+    (s : List Tree) (types : Tree) → told ≡ asks q d (task_at s t) (occurrence k types)
 
 abbrev pub place_if : ℕ → Bool → List ℕ
 place_if place told = if told then place ∷ [] else []
 
 abbrev pub ArePlaces : Question → Driver → Task → List (ℕ × ℕ) → List ℕ → Type 0
-ArePlaces q d t keys places = (s : List Tree) → places ≡ places_from (asks q d (task_at s t)) 0 (seen_occurrences s keys)
+ArePlaces q d t keys places =
+    (s : List Tree) → places ≡ places_from (asks q d (task_at s t)) 0 (seen_occurrences s keys)

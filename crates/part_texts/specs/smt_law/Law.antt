@@ -1,4 +1,5 @@
--- The law of texts: what a text in SMT-LIB tells of its problem, where the templates of the driver are plain.
+-- The law of texts: what a text in SMT-LIB tells of its problem, where the templates of the driver
+-- are plain.
 use Rattle.std.specs.Prelude.{◌≡◌, ℕ, ◌<◌, ◌≤◌, ◌^◌, Bool, false, List, [], ◌∷◌, ◌++◌, map, length, All, None, ℤ, pos, negsuc}
 use Rattle.std.specs.List.{list_any}
 use Rattle.tasks.specs.trees.Tree.{Tree, Leaf, One, Two, Three, Head, HNum, height}
@@ -63,27 +64,33 @@ pub record AreAlike (d : Driver) (t u : TaskTree) : Type 0 where
 
 -- the same facts and then locals, and the same goal
 pub record TellTheSame (d : Driver) (t u : TaskTree) : Type 0 where
-  pub premises : map tree_as_read ((problem_of d t).facts ++ (problem_of d t).locals) ≡ map tree_as_read ((problem_of d u).facts ++ (problem_of d u).locals)
+  pub premises : map tree_as_read ((problem_of d t).facts ++ (problem_of d t).locals)
+      ≡ map tree_as_read ((problem_of d u).facts ++ (problem_of d u).locals)
   pub goal : tree_as_read (problem_of d t).goal ≡ tree_as_read (problem_of d u).goal
 
 abbrev pub LawOfTexts : Type 0
 LawOfTexts =
-    (d : Driver) (words : Words) (t u : TaskTree) (k n : ℕ) → syntax_of d.printer ≡ Smt → ArePlain d t.symbols (problem_names t) words → IsPrinted d t → IsPrinted d u → AreAlike d t u
+    (d : Driver) (words : Words) (t u : TaskTree) (k n : ℕ) → syntax_of d.printer ≡ Smt
+    → ArePlain d t.symbols (problem_names t) words → IsPrinted d t → IsPrinted d u
+    → AreAlike d t u
     → smt_text d t (problem_of d t) k n ≡ smt_text d u (problem_of d u) k n → TellTheSame d t u
 
 abbrev pub begins_digit : List ℕ → Bool
 begins_digit [] = false
 begins_digit (c ∷ cs) = is_decimal_digit c
 
--- a symbol whose own name, without those of its scopes, doesn't begin with a digit and has no blank, line feed or parenthesis in it
+-- a symbol whose own name, without those of its scopes, doesn't begin with a digit and has no
+-- blank, line feed or parenthesis in it
 pub record IsOrdinary (e : SymbolTree) : Type 0 where
   pub start : begins_digit (own_name e.name) ≡ false
   pub whole : list_any breaks (own_name e.name) ≡ false
 
 -- the names of a table are spelt where those of the symbols are ordinary
 abbrev pub NamesAreSpelt : Type 0
-NamesAreSpelt = (t : TaskTree) → length (problem_things t) ≤ 2 ^ 64 → All IsOrdinary t.symbols → All IsEntrySpelt (problem_names t)
+NamesAreSpelt = (t : TaskTree) → length (problem_things t) ≤ 2 ^ 64 → All IsOrdinary t.symbols
+    → All IsEntrySpelt (problem_names t)
 
 -- and where those of the symbols are made as the names in a source are
 abbrev pub ScopedNamesAreSpelt : Type 0
-ScopedNamesAreSpelt = (t : TaskTree) → length (problem_things t) ≤ 2 ^ 64 → NamesAreScoped t → All IsEntrySpelt (problem_names t)
+ScopedNamesAreSpelt = (t : TaskTree) → length (problem_things t) ≤ 2 ^ 64 → NamesAreScoped t
+    → All IsEntrySpelt (problem_names t)

@@ -17,7 +17,8 @@ use Rattle.tasks.specs.Valid.{IsValid}
 use Rattle.name_tables.specs.Tables.{problem_names}
 use Rattle.part_texts.specs.smt_law.Plain.{Words, ArePlain}
 
--- a symbol with a template: its entry, its number of arguments, its word, and the string in the file
+-- a symbol with a template: its entry, its number of arguments, its word, and the string in the
+-- file
 pub record ShippedRow : Type 0 where
   pub entry : ℕ
   pub arity : ℕ
@@ -29,8 +30,14 @@ shipped_row k n word string = record { entry = k; arity = n; word = word; string
 
 abbrev pub shipped_rows : Ints → List ShippedRow
 shipped_rows z =
-    shipped_row z.neg 1 (codes "-") (codes "(- %1)") ∷ shipped_row z.add 2 (codes "+") (codes "(+ %1 %2)") ∷ shipped_row z.sub 2 (codes "-") (codes "(- %1 %2)") ∷ shipped_row z.mul 2 (codes "*") (codes "(* %1 %2)")
-    ∷ shipped_row z.lt 2 (codes "<") (codes "(< %1 %2)") ∷ shipped_row z.le 2 (codes "<=") (codes "(<= %1 %2)") ∷ shipped_row z.gt 2 (codes ">") (codes "(> %1 %2)") ∷ shipped_row z.ge 2 (codes ">=") (codes "(>= %1 %2)") ∷ []
+    shipped_row z.neg 1 (codes "-") (codes "(- %1)")
+    ∷ shipped_row z.add 2 (codes "+") (codes "(+ %1 %2)")
+    ∷ shipped_row z.sub 2 (codes "-") (codes "(- %1 %2)")
+    ∷ shipped_row z.mul 2 (codes "*") (codes "(* %1 %2)")
+    ∷ shipped_row z.lt 2 (codes "<") (codes "(< %1 %2)")
+    ∷ shipped_row z.le 2 (codes "<=") (codes "(<= %1 %2)")
+    ∷ shipped_row z.gt 2 (codes ">") (codes "(> %1 %2)")
+    ∷ shipped_row z.ge 2 (codes ">=") (codes "(>= %1 %2)") ∷ []
 
 -- of the integers, where the signature has them
 abbrev pub rows_of : Option Ints → List ShippedRow
@@ -58,11 +65,16 @@ shipped_word [] k = []
 shipped_word (r ∷ rs) k = if r.entry == k then r.word else shipped_word rs k
 
 abbrev pub shipped_words : Option Ints → Words
-shipped_words ints = record { of_symbol = (λ k. if k == 0 then codes "Int" else shipped_word (rows_of ints) k); of_equality = codes "=" }
+shipped_words ints = record {
+  of_symbol =
+      (λ k. if k == 0 then codes "Int" else shipped_word (rows_of ints) k);
+  of_equality = codes "=";
+}
 
 -- they are plain
 abbrev pub ShippedArePlain : Type 0
-ShippedArePlain = (d : Driver) (t : TaskTree) → IsValid t → HasShippedTemplates d t.ints → ArePlain d t.symbols (problem_names t) (shipped_words t.ints)
+ShippedArePlain = (d : Driver) (t : TaskTree) → IsValid t → HasShippedTemplates d t.ints
+    → ArePlain d t.symbols (problem_names t) (shipped_words t.ints)
 
 -- the file itself
 abbrev pub shipped_text : List ℕ
@@ -79,10 +91,12 @@ first_entries = record { neg = 1; add = 2; sub = 3; mul = 4; lt = 5; le = 6; gt 
 
 -- the entry of a name of int.Int, which has so many arguments
 abbrev pub IsIntName : List SymbolInfo → NameKind → List ℕ → ℕ → ℕ → Type 0
-IsIntName symbols kind name entry arity = target_of symbols (codes "int.Int") kind name ≡ Some (Entry entry, arity)
+IsIntName symbols kind name entry arity =
+    target_of symbols (codes "int.Int") kind name ≡ Some (Entry entry, arity)
 
 -- the theory int.Int is known, and its names stand for these entries
-pub record KnowsInts (symbols : List SymbolInfo) (theories : NamedTheories) (z : Ints) : Type 0 where
+pub record KnowsInts (symbols : List SymbolInfo) (theories : NamedTheories)
+    (z : Ints) : Type 0 where
   pub known : is_known theories (codes "int.Int") ≡ true
   pub neg : IsIntName symbols Function (codes "-_") z.neg 1
   pub add : IsIntName symbols Function (codes "+") z.add 2
@@ -96,5 +110,7 @@ pub record KnowsInts (symbols : List SymbolInfo) (theories : NamedTheories) (z :
 -- the driver that is read from the file has them
 abbrev pub ShippedAreRead : Type 0
 ShippedAreRead =
-    (symbols : List SymbolInfo) (theories : NamedTheories) (files : Files) (name : List ℕ) → KnowsInts symbols theories first_entries → files name ≡ Some shipped_text
-    → IsOkAnd (driver_named symbols theories name files None) (λ d. (d.printer ≡ Smt) × HasShippedTemplates d (Some first_entries))
+    (symbols : List SymbolInfo) (theories : NamedTheories) (files : Files) (name : List ℕ)
+    → KnowsInts symbols theories first_entries → files name ≡ Some shipped_text
+    → IsOkAnd (driver_named symbols theories name files None)
+    (λ d. (d.printer ≡ Smt) × HasShippedTemplates d (Some first_entries))

@@ -1,5 +1,6 @@
--- The text of the problem of a task in SMT-LIB 2.6 (section 3.9), as part k of n: the driver's preludes, the types and the symbols
--- that are declared, the parameters, an assertion for each fact and each local, and the negated goal.
+-- The text of the problem of a task in SMT-LIB 2.6 (section 3.9), as part k of n: the driver's
+-- preludes, the types and the symbols that are declared, the parameters, an assertion for each fact
+-- and each local, and the negated goal.
 use Rattle.std.specs.Prelude.{ℕ, ◌+◌, List, [], ◌∷◌, ◌++◌, slice_get, codes, Option, Some, None}
 use Rattle.std.specs.Fmt.{decimal}
 use Rattle.std.specs.List.{flat_map}
@@ -20,7 +21,9 @@ abbrev pub smt_sort_line : Printing → ℕ → List ℕ
 smt_sort_line p place = codes "(declare-sort " ++ name_at p place ++ codes " 0)\n"
 
 abbrev pub function_line : List ℕ → List (List ℕ) → List ℕ → List ℕ
-function_line name args result = codes "(declare-fun " ++ name ++ codes " (" ++ joined (codes " ") args ++ codes ") " ++ result ++ codes ")\n"
+function_line name args result =
+    codes "(declare-fun " ++ name ++ codes " (" ++ joined (codes " ") args ++ codes ") " ++ result
+    ++ codes ")\n"
 
 -- the sort of a result, which is `Bool` of a predicate
 abbrev pub smt_result_text : Printing → Option ℕ → List ℕ
@@ -39,12 +42,14 @@ abbrev pub smt_symbol_line : Printing → List SymbolTree → ℕ → List ℕ
 smt_symbol_line p symbols place = smt_entry_line p symbols (slice_get p.names place)
 
 abbrev pub smt_parameter_line : ℕ → List ℕ → List ℕ
-smt_parameter_line n sort = codes "(declare-fun " ++ parameter n ++ codes " () " ++ sort ++ codes ")\n"
+smt_parameter_line n sort =
+    codes "(declare-fun " ++ parameter n ++ codes " () " ++ sort ++ codes ")\n"
 
 -- those of parameters, counted from a number on
 abbrev pub smt_parameter_lines : Printing → ℕ → List Tree → List ℕ
 smt_parameter_lines p n [] = []
-smt_parameter_lines p n (type ∷ types) = smt_parameter_line n (sort_text p type) ++ smt_parameter_lines p (n + 1) types
+smt_parameter_lines p n (type ∷ types) =
+    smt_parameter_line n (sort_text p type) ++ smt_parameter_lines p (n + 1) types
 
 abbrev pub assertion : Printing → Tree → List ℕ
 assertion p e = codes "(assert " ++ formula_text p e ++ codes ")\n"
@@ -55,8 +60,10 @@ smt_goal_line p e = codes "(assert (not " ++ formula_text p e ++ codes "))\n"
 abbrev pub smt_text_by : Printing → TaskTree → ProblemTree → ℕ → ℕ → List ℕ
 smt_text_by p t q k n =
     smt_head_line k n ++ flat_map line q.preludes
-    ++ flat_map (smt_sort_line p) q.sorts ++ flat_map (smt_symbol_line p t.symbols) q.symbols ++ smt_parameter_lines p 0 t.params
-    ++ flat_map (assertion p) q.facts ++ flat_map (assertion p) q.locals ++ smt_goal_line p q.goal ++ codes "(check-sat)\n"
+    ++ flat_map (smt_sort_line p) q.sorts ++ flat_map (smt_symbol_line p t.symbols) q.symbols
+    ++ smt_parameter_lines p 0 t.params
+    ++ flat_map (assertion p) q.facts ++ flat_map (assertion p) q.locals ++ smt_goal_line p q.goal
+    ++ codes "(check-sat)\n"
 
 abbrev pub smt_text : Driver → TaskTree → ProblemTree → ℕ → ℕ → List ℕ
 smt_text d t q k n = smt_text_by (printing_of d t q) t q k n

@@ -1,5 +1,6 @@
--- The text of the problem of a task in TPTP TFF0, as part k of n: the driver's preludes, the types and the symbols that are
--- declared, the parameters, an axiom for each fact and each local, counted through, and the goal as the conjecture.
+-- The text of the problem of a task in TPTP TFF0, as part k of n: the driver's preludes, the types
+-- and the symbols that are declared, the parameters, an axiom for each fact and each local, counted
+-- through, and the goal as the conjecture.
 use Rattle.std.specs.Prelude.{ℕ, ◌+◌, List, [], ◌∷◌, ◌++◌, slice_get, codes, Option, Some, None}
 use Rattle.std.specs.Fmt.{decimal}
 use Rattle.std.specs.List.{flat_map}
@@ -35,7 +36,8 @@ tff_result_text p None = codes "$o"
 tff_result_text p (Some place) = sort_at p place
 
 abbrev pub tff_rank_line : Printing → List ℕ → Rank → List ℕ
-tff_rank_line p name r = tff_typed name ++ arguments_text (sorts_at p r.args) ++ tff_result_text p r.result ++ codes ").\n"
+tff_rank_line p name r = tff_typed name ++ arguments_text (sorts_at p r.args)
+    ++ tff_result_text p r.result ++ codes ").\n"
 
 abbrev pub tff_entry_line : Printing → List SymbolTree → Option NameEntry → List ℕ
 tff_entry_line p symbols None = []
@@ -51,10 +53,12 @@ tff_parameter_line n sort = tff_typed (parameter n) ++ sort ++ codes ").\n"
 -- those of parameters, counted from a number on
 abbrev pub tff_parameter_lines : Printing → ℕ → List Tree → List ℕ
 tff_parameter_lines p n [] = []
-tff_parameter_lines p n (type ∷ types) = tff_parameter_line n (sort_text p type) ++ tff_parameter_lines p (n + 1) types
+tff_parameter_lines p n (type ∷ types) =
+    tff_parameter_line n (sort_text p type) ++ tff_parameter_lines p (n + 1) types
 
 abbrev pub axiom_line : Printing → ℕ → Tree → List ℕ
-axiom_line p n e = codes "tff(ax_" ++ decimal n ++ codes ", axiom, " ++ formula_text p e ++ codes ").\n"
+axiom_line p n e =
+    codes "tff(ax_" ++ decimal n ++ codes ", axiom, " ++ formula_text p e ++ codes ").\n"
 
 -- those of formulas, counted from a number on
 abbrev pub axiom_lines : Printing → ℕ → List Tree → List ℕ
@@ -67,7 +71,8 @@ tff_goal_line p e = codes "tff(goal, conjecture, " ++ formula_text p e ++ codes 
 abbrev pub tff_text_by : Printing → TaskTree → ProblemTree → ℕ → ℕ → List ℕ
 tff_text_by p t q k n =
     tff_head_line k n ++ flat_map line q.preludes
-    ++ flat_map (tff_sort_line p) q.sorts ++ flat_map (tff_symbol_line p t.symbols) q.symbols ++ tff_parameter_lines p 0 t.params
+    ++ flat_map (tff_sort_line p) q.sorts ++ flat_map (tff_symbol_line p t.symbols) q.symbols
+    ++ tff_parameter_lines p 0 t.params
     ++ axiom_lines p 0 (q.facts ++ q.locals) ++ tff_goal_line p q.goal
 
 abbrev pub tff_text : Driver → TaskTree → ProblemTree → ℕ → ℕ → List ℕ

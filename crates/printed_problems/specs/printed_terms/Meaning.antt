@@ -11,7 +11,12 @@ use Rattle.printed_problems.specs.printed_terms.Texts.{Printing}
 
 -- how a printer prints
 abbrev pub printing : TermPrinter → Printing
-printing c = record { driver = c.driver.now; things = seen_occurrences c.store.now c.things.now; names = c.names.now }
+printing c = record {
+  driver = c.driver.now;
+  things =
+      seen_occurrences c.store.now c.things.now;
+  names = c.names.now;
+}
 
 abbrev pub CanPrint : TermPrinter → Type 0
 CanPrint c = KeysHeld c.store.now c.things.now

@@ -1,5 +1,6 @@
--- The sorts of the arguments and results of the symbols in a table, by their entries in the signature. A type variable of such an
--- entry stands for the type at a place of the table, and a type that has some is found in the table by the places of its arguments.
+-- The sorts of the arguments and results of the symbols in a table, by their entries in the
+-- signature. A type variable of such an entry stands for the type at a place of the table, and a
+-- type that has some is found in the table by the places of its arguments.
 use Rattle.std.specs.Prelude.{ℕ, ◌==◌, ◌&&◌, Bool, List, [], ◌∷◌, ◌++◌, map, length, get_or, slice_get, Option, Some, None}
 use Rattle.std.specs.List.{flat_map, position_or_len}
 use Rattle.std.specs.Option.{option_map}
@@ -40,11 +41,13 @@ abbrev pub two_places : Head → List ℕ → List ℕ → List ℕ
 two_places HCell first more = first ++ more
 two_places _ first more = []
 
--- the places of a type, or of the members of a list of types, whose variables stand for the types of these places
+-- the places of a type, or of the members of a list of types, whose variables stand for the types
+-- of these places
 abbrev pub type_places : List NameEntry → List ℕ → Tree → List ℕ
 type_places names types (Leaf h) = leaf_places names types h
 type_places names types (One h a) = one_places names h (type_places names types a)
-type_places names types (Two h a b) = two_places h (type_places names types a) (type_places names types b)
+type_places names types (Two h a b) =
+    two_places h (type_places names types a) (type_places names types b)
 type_places names types (Three h a b c) = []
 
 abbrev pub sort_of_thing : Printing → ℕ → Option Occurrence → List ℕ
@@ -55,7 +58,8 @@ sort_of_thing p place (Some o) = sort_by p o.symbol place (printed_sort p o.type
 abbrev pub sort_at : Printing → ℕ → List ℕ
 sort_at p place = sort_of_thing p place (slice_get p.things place)
 
--- the places of the argument types of a symbol, and that of its result type, which a predicate has none of (SMT-LIB 2.6, "rank")
+-- the places of the argument types of a symbol, and that of its result type, which a predicate has
+-- none of (SMT-LIB 2.6, "rank")
 abbrev pub rank_by : List NameEntry → List ℕ → List Tree → Option Tree → Rank
 rank_by names types args result = record {
   args = flat_map (type_places names types) args;

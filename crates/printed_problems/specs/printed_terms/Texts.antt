@@ -1,6 +1,7 @@
--- The text of types, terms and formulas in both syntaxes, under a table of names and a driver's templates: by cases on trees. A
--- symbol is printed by its template where it has one, and else by its name; a variable is named by the number of binders around
--- its own. A `match` has no text, and in TFF0 a `let` and an `if` have none.
+-- The text of types, terms and formulas in both syntaxes, under a table of names and a driver's
+-- templates: by cases on trees. A symbol is printed by its template where it has one, and else by
+-- its name; a variable is named by the number of binders around its own. A `match` has no text, and
+-- in TFF0 a `let` and an `if` have none.
 use Rattle.std.specs.Prelude.{ℕ, suc, ◌+◌, ◌-◌, true, false, List, [], ◌∷◌, ◌++◌, slice_get, codes, Option, Some, None}
 use Rattle.std.specs.Fmt.{decimal, signed_decimal}
 use Rattle.std.specs.List.{flat_map}
@@ -52,12 +53,15 @@ joined separator (a ∷ more) = a ++ each_behind separator more
 
 -- a form with its parts
 abbrev pub form_text : Syntax → Form → List (List ℕ) → List ℕ
-form_text syntax form parts = opening syntax form ++ joined (part_separator syntax form) parts ++ codes ")"
+form_text syntax form parts =
+    opening syntax form ++ joined (part_separator syntax form) parts ++ codes ")"
 
 -- a name alone, or with arguments
 abbrev pub application_text : Syntax → List ℕ → List (List ℕ) → List ℕ
 application_text syntax name [] = name
-application_text syntax name (a ∷ more) = before_name syntax ++ name ++ after_name syntax ++ joined (between_arguments syntax) (a ∷ more) ++ codes ")"
+application_text syntax name (a ∷ more) =
+    before_name syntax ++ name ++ after_name syntax ++ joined (between_arguments syntax) (a ∷ more)
+    ++ codes ")"
 
 -- by the template where there is one
 abbrev pub by_template : Option (List Piece) → List (List ℕ) → List ℕ → List ℕ
@@ -66,12 +70,15 @@ by_template (Some pieces) args other = by_pieces pieces args
 
 -- a symbol at types, with arguments
 abbrev pub symbol_text : Printing → Occurrence → List (List ℕ) → List ℕ
-symbol_text p o args = by_template (template_of p.driver o.symbol) args (application_text (printing_syntax p) (printed_name p o) args)
+symbol_text p o args = by_template (template_of p.driver o.symbol) args
+    (application_text (printing_syntax p) (printed_name p o) args)
 
 abbrev pub equality_text : Driver → List (List ℕ) → List ℕ
-equality_text d sides = by_template d.eq_template sides (form_text (syntax_of d.printer) Equality sides)
+equality_text d sides =
+    by_template d.eq_template sides (form_text (syntax_of d.printer) Equality sides)
 
--- the sort of a type symbol that is at a place of the table; the arguments are part of what the name stands for
+-- the sort of a type symbol that is at a place of the table; the arguments are part of what the
+-- name stands for
 abbrev pub sort_by : Printing → ℕ → ℕ → List (List ℕ) → List ℕ
 sort_by p k place args = by_template (template_of p.driver k) args (name_at p place)
 
@@ -91,11 +98,13 @@ abbrev pub with_member : Printed → Printed → Printed
 with_member a more = record { text = []; members = a.text ∷ more.members }
 
 abbrev pub leaf_sort_text : Printing → Head → Printed
-leaf_sort_text p (HTyRigid k) = printed_text (sort_by p k (occurrence_place p.things (whole_occurrence k)) [])
+leaf_sort_text p (HTyRigid k) =
+    printed_text (sort_by p k (occurrence_place p.things (whole_occurrence k)) [])
 leaf_sort_text p _ = printed_nothing
 
 abbrev pub one_sort_text : Printing → Head → Tree → Printed → Printed
-one_sort_text p (HTyApp k) types args = printed_text (sort_by p k (occurrence_place p.things (occurrence k types)) args.members)
+one_sort_text p (HTyApp k) types args =
+    printed_text (sort_by p k (occurrence_place p.things (occurrence k types)) args.members)
 one_sort_text p _ types args = printed_nothing
 
 abbrev pub two_sort_text : Head → Printed → Printed → Printed
@@ -121,7 +130,9 @@ parameter n = codes "c" ++ decimal n
 
 -- a binder under so many others, with its variable's sort or value, and its body
 abbrev pub bound_text : Syntax → Binder → ℕ → List ℕ → List ℕ → List ℕ
-bound_text syntax b d bound body = binder_opening syntax b ++ variable_text syntax d ++ before_bound syntax ++ bound ++ before_body syntax ++ body ++ codes ")"
+bound_text syntax b d bound body =
+    binder_opening syntax b ++ variable_text syntax d ++ before_bound syntax ++ bound
+    ++ before_body syntax ++ body ++ codes ")"
 
 abbrev pub leaf_text : Printing → Head → Printed
 leaf_text p HTrue = printed_text (truth_text (printing_syntax p) true)
@@ -140,15 +151,19 @@ abbrev pub two_text : Printing → ℕ → Head → Tree → Printed → Printed
 two_text p d HCell first a b = with_member a b
 two_text p d (HPred k) types a b = printed_text (symbol_text p (occurrence k types) b.members)
 two_text p d HEq left a b = printed_text (equality_text p.driver (a.text ∷ b.text ∷ []))
-two_text p d (HJoin op) left a b = printed_text (form_text (printing_syntax p) (Connected op) (a.text ∷ b.text ∷ []))
-two_text p d HForall type a b = printed_text (bound_text (printing_syntax p) ForAll d (sort_text p type) b.text)
-two_text p d HExists type a b = printed_text (bound_text (printing_syntax p) ThereIs d (sort_text p type) b.text)
+two_text p d (HJoin op) left a b =
+    printed_text (form_text (printing_syntax p) (Connected op) (a.text ∷ b.text ∷ []))
+two_text p d HForall type a b =
+    printed_text (bound_text (printing_syntax p) ForAll d (sort_text p type) b.text)
+two_text p d HExists type a b =
+    printed_text (bound_text (printing_syntax p) ThereIs d (sort_text p type) b.text)
 two_text p d HLet value a b = printed_text (bound_text (printing_syntax p) LetIn d a.text b.text)
 two_text p d _ first a b = printed_nothing
 
 abbrev pub three_text : Printing → Head → Tree → Printed → Printed → Printed → Printed
 three_text p (HFun k) types a b c = printed_text (symbol_text p (occurrence k types) b.members)
-three_text p HIf condition a b c = printed_text (form_text (printing_syntax p) Conditional (a.text ∷ b.text ∷ c.text ∷ []))
+three_text p HIf condition a b c =
+    printed_text (form_text (printing_syntax p) Conditional (a.text ∷ b.text ∷ c.text ∷ []))
 three_text p _ first a b c = printed_nothing
 
 -- how many binders are around the second child

@@ -1,5 +1,5 @@
--- The words of two syntaxes: SMT-LIB 2.6 (section 3.6 and the theory Core) and TPTP's typed first-order form, TFF0. Both
--- conjunctions are one word, and both disjunctions.
+-- The words of two syntaxes: SMT-LIB 2.6 (section 3.6 and the theory Core) and TPTP's typed
+-- first-order form, TFF0. Both conjunctions are one word, and both disjunctions.
 use Rattle.std.specs.Prelude.{ℕ, Bool, true, false, List, [], codes}
 use Rattle.trees.specs.declared.Op.TheVariants.{And, AndThen, Or, OrElse, Imp, Iff}
 use Rattle.drivers.specs.declared.driver_items.kinds.Syntax.{Syntax}

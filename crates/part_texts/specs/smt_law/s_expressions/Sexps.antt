@@ -1,4 +1,5 @@
--- S-expressions (SMT-LIB 2.6, section 3.2): a word, or a list of expressions in parentheses, with single blanks between them.
+-- S-expressions (SMT-LIB 2.6, section 3.2): a word, or a list of expressions in parentheses, with
+-- single blanks between them.
 use Rattle.std.specs.Prelude.{◌≡◌, ℕ, ◌<◌, ◌==◌, ◌||◌, Bool, true, false, List, [], ◌∷◌, ◌++◌, length}
 use Rattle.std.specs.List.{list_any, flat_map}
 
@@ -9,7 +10,8 @@ pub data Sexp : Type 0 where
   Nothing : Sexp
   Then : Sexp → Sexp → Sexp
 
--- the text of an expression; that of members, the first of which is after `(`, and that of members each after a blank
+-- the text of an expression; that of members, the first of which is after `(`, and that of members
+-- each after a blank
 pub record SexpText : Type 0 where
   pub text : List ℕ
   pub first : List ℕ
@@ -17,9 +19,16 @@ pub record SexpText : Type 0 where
 
 abbrev pub written_sexp : Sexp → SexpText
 written_sexp (SexpWord w) = record { text = w; first = []; later = [] }
-written_sexp (Group s) = record { text = 40 ∷ (written_sexp s).first ++ 41 ∷ []; first = []; later = [] }
+written_sexp (Group s) =
+    record { text = 40 ∷ (written_sexp s).first ++ 41 ∷ []; first = []; later = [] }
 written_sexp Nothing = record { text = []; first = []; later = [] }
-written_sexp (Then a rest) = record { text = []; first = (written_sexp a).text ++ (written_sexp rest).later; later = 32 ∷ (written_sexp a).text ++ (written_sexp rest).later }
+written_sexp (Then a rest) = record {
+  text = [];
+  first =
+      (written_sexp a).text ++ (written_sexp rest).later;
+  later =
+      32 ∷ (written_sexp a).text ++ (written_sexp rest).later;
+}
 
 abbrev pub write_sexp : Sexp → List ℕ
 write_sexp s = (written_sexp s).text
