@@ -100,3 +100,7 @@ pub mod Cloned
 pub mod StateNames
 pub mod PlaceSteps
 pub mod Moves
+pub mod Ordered
+pub mod TypingSolutions
+pub mod SolutionTypings
+pub mod Decided

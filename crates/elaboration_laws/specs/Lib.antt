@@ -37,3 +37,4 @@ pub mod Entries
 pub mod Cloned
 pub mod PlaceSteps
 pub mod Unaliased
+pub mod Typings

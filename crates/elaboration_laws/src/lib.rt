@@ -1,5 +1,6 @@
-//! Laws: what is elaborated is well typed and valid over any vocabulary of its signature; the task of a goal after
-//! declarations that are valid where they are is valid; what this asks holds of what is elaborated, declaration by
+//! Laws: what is elaborated is well typed and valid over any vocabulary of its signature; the typings of an expression, by
+//! rules without unknowns, are the solutions of its type equations; the task of a goal after declarations that are valid
+//! where they are is valid; what this asks holds of what is elaborated, declaration by
 //! declaration, and of theories that are used; names stay typed as they come into scopes, and copies of valid declarations
 //! are valid; what is known while theories are typed stays typed and sound as a theory begins, uses another one, gets
 //! further declarations and ends; what a clone makes, place by place, is what its steps make, and keeps what is known typed
@@ -17,6 +18,7 @@ mod scope_moves;
 mod sound_states;
 mod states_laws;
 mod typed_states;
+mod typings_laws;
 mod valid;
 mod valid_goals;
 mod well_typed;
@@ -37,6 +39,7 @@ pub use sound_states::{begins_sound, goals_valid, joins_whole, stays_sound};
 pub use states_laws::{clones_stay, names_become};
 pub use theory_states::goal_tasks::{GoalAt, TaskFault, Theories, Theory, task_of};
 pub use typed_states::uses_typed;
+pub use typings_laws::{equations_decide, solutions_are_typings, typings_are_solutions};
 pub use valid::{
     agrees_typed, begins_typed, defines_valid, elaborates_patterns, elaborates_valid, lists_valid,
     makes_valid, moves_valid, next_goal_valid, next_valid, stays_valid,

@@ -1,0 +1,55 @@
+// What is elaborated is what typing rules without unknowns say: typings are solutions, and the other way round.
+ghost use Rattle.std.specs.Prelude.{◌≡◌, ℕ, false, List, Option, None};
+ghost use Rattle.std.specs.Option.{is_none};
+ghost use Rattle.elab_groups.specs.trees.Tree.{Tree};
+ghost use Rattle.elab_groups.specs.tasks.Vocabulary.{Vocabulary};
+ghost use Rattle.elab_groups.specs.open_types.unify_types.Assigned.{assign};
+ghost use Rattle.elab_groups.specs.open_types.unify_types.Pairs.{IsSolution};
+ghost use Rattle.elab_groups.specs.name_resolution.Abstract.{Expression};
+ghost use Rattle.elab_groups.specs.name_resolution.Faults.{fault};
+ghost use Rattle.elab_groups.specs.name_resolution.Where.{Where};
+ghost use Rattle.elab_groups.specs.open_types.Patterns.{LocalTree};
+ghost use Rattle.elab_groups.specs.open_types.Pieces.{piece, names};
+ghost use Rattle.elab_groups.specs.declared.parts.solution.TypingFault.TheVariants.{Clash, Undetermined};
+ghost use Rattle.elab_groups.specs.parts.Elaborated.{IsSolved, IsTypingFault};
+ghost use Rattle.elaboration_laws.specs.Typed.{IsNamedExpression};
+ghost use Rattle.elaboration_laws.specs.Typings.{Choice, ElaboratesTo, IsPieceAt, HasOwnTypes, choices_from, IsOnlyTyping, IsFirstDifference};
+
+/// A law: each typing of an expression is its piece at a solution of its type equations, where the
+/// unknowns have the types that the typing chooses, in order.
+pub fn typings_are_solutions()
+    ensures { (w : Where) (rigid : ℕ) (ls : List LocalTree) (t : Option Tree) (a : Expression)
+        (e : Tree) (cs : List Choice) → HasOwnTypes w rigid ls t
+        → fault w false (names ls) (is_none t) a ≡ None → ElaboratesTo w ls t a e cs
+        → IsPieceAt rigid (piece w ls rigid t a) e cs }
+{}
+
+/// A law: at each solution of its type equations, the piece of an expression is a typing, which
+/// chooses the types of the unknowns, in order.
+pub fn solutions_are_typings()
+    ensures { (v : Vocabulary) (w : Where) (rigid : ℕ) (ls : List LocalTree) (t : Option Tree)
+        (a : Expression) (f : ℕ → Tree) → IsNamedExpression v w ls t a → HasOwnTypes w rigid ls t
+        → IsSolution rigid f (piece w ls rigid t a).notes.equations
+        → ElaboratesTo w ls t a (assign rigid f (piece w ls rigid t a).tree)
+        (choices_from f rigid (piece w ls rigid t a).notes.takers) }
+{}
+
+/// A law: where the type equations of an expression determine its tree, that tree is the one of all its
+/// typings, of which there is one; where equations clash, it has no typing; and the node that is told
+/// as undetermined is the one of the first choice in which two typings differ.
+pub fn equations_decide()
+    ensures solved { (v : Vocabulary) (w : Where) (rigid : ℕ) (ls : List LocalTree)
+        (t : Option Tree) (a : Expression) (e : Tree) (ms : List (ℕ × List Tree))
+        → IsNamedExpression v w ls t a → HasOwnTypes w rigid ls t
+        → IsSolved rigid (piece w ls rigid t a) e ms → IsOnlyTyping w ls t a e }
+    ensures clash { (v : Vocabulary) (w : Where) (rigid : ℕ) (ls : List LocalTree)
+        (t : Option Tree) (a : Expression) (k : ℕ) (e : Tree) (cs : List Choice)
+        → IsNamedExpression v w ls t a → HasOwnTypes w rigid ls t
+        → IsTypingFault rigid (piece w ls rigid t a).notes (Clash k)
+        → ElaboratesTo w ls t a e cs → ⊥ }
+    ensures undetermined { (v : Vocabulary) (w : Where) (rigid : ℕ) (ls : List LocalTree)
+        (t : Option Tree) (a : Expression) (token : ℕ)
+        → IsNamedExpression v w ls t a → HasOwnTypes w rigid ls t
+        → IsTypingFault rigid (piece w ls rigid t a).notes (Undetermined token)
+        → IsFirstDifference w ls t a token }
+{}
