@@ -104,3 +104,5 @@ pub mod Ordered
 pub mod TypingSolutions
 pub mod SolutionTypings
 pub mod Decided
+pub mod Least
+pub mod LeastUsed

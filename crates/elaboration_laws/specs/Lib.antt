@@ -38,3 +38,5 @@ pub mod Cloned
 pub mod PlaceSteps
 pub mod Unaliased
 pub mod Typings
+pub mod Checked
+pub mod UsedNames

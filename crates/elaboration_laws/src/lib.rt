@@ -1,6 +1,6 @@
 //! Laws: what is elaborated is well typed and valid over any vocabulary of its signature; the typings of an expression, by
-//! rules without unknowns, are the solutions of its type equations; the task of a goal after declarations that are valid
-//! where they are is valid; what this asks holds of what is elaborated, declaration by
+//! rules without unknowns, are the solutions of its type equations; the first fault of names is at the least token; the
+//! task of a goal after declarations that are valid where they are is valid; what this asks holds of what is elaborated, declaration by
 //! declaration, and of theories that are used; names stay typed as they come into scopes, and copies of valid declarations
 //! are valid; what is known while theories are typed stays typed and sound as a theory begins, uses another one, gets
 //! further declarations and ends; what a clone makes, place by place, is what its steps make, and keeps what is known typed
@@ -9,6 +9,7 @@
 //! Contract: definitions and laws.
 #![tactic(auto)]
 
+mod checks_laws;
 mod copies_laws;
 mod declaration_copies;
 mod entries_laws;
@@ -25,6 +26,7 @@ mod well_typed;
 
 pub use checks::decl_checks::CheckFault;
 pub use checks::match_cover::{ValueShape, cover};
+pub use checks_laws::first_fault_is_least;
 pub use copies_laws::{
     clones_next, clones_sound, new_goals_sound, others_stay, rights_typed, signatures_typed,
     trials_agree,
