@@ -53,7 +53,7 @@ own_at i x h = record {
   range = λ g q. let a = h g q in (omega (arith, a), omega (arith, a));
 }
 
-if_at : (i : ℕ) (b : Bool) (f : NamingFault) → token_of_fault f ≡ i → Ranged i i (fault_if b f) (λ g. fault_if b f ≡ Some g)
+pub if_at : (i : ℕ) (b : Bool) (f : NamingFault) → token_of_fault f ≡ i → Ranged i i (fault_if b f) (λ g. fault_if b f ≡ Some g)
 if_at i b f e = own_at i (fault_if b f) (λ g q. of b q)
   where
     of : (b : Bool) {g : NamingFault} → fault_if b f ≡ Some g → token_of_fault g ≡ i

@@ -106,3 +106,4 @@ pub mod SolutionTypings
 pub mod Decided
 pub mod Least
 pub mod LeastUsed
+pub mod LeastMade

@@ -1,11 +1,14 @@
--- The checks of the names that a declaration uses that fail, in no order (Why3 manual, "logical declarations").
-use Rattle.std.specs.Prelude.{true, false, List, [], ◌∷◌, reverse, Option, Some, None, ◌⊎◌}
-use Rattle.std.specs.Option.{is_none}
+-- The checks that fail of the names that a declaration uses, in no order, and of those that it makes (Why3 manual, "logical declarations").
+use Rattle.std.specs.Prelude.{◌≡◌, Bool, true, false, ◌||◌, List, [], ◌∷◌, ◌++◌, reverse, Option, Some, None, ◌⊎◌}
+use Rattle.std.specs.Option.{is_none, is_some}
 use Rattle.elab_groups.specs.surface.Lexeme.{Word}
 use Rattle.elab_groups.specs.name_resolution.Abstract.{Expression}
 use Rattle.elab_groups.specs.name_resolution.declared.NamingFault.{NamingFault}
-use Rattle.elab_groups.specs.name_resolution.Where.{Where}
-use Rattle.elab_groups.specs.parts.Declarations.{Parameter, GroupMember, AlgebraicConstructor, AlgebraicType, InductiveClause, InductivePredicate, Declaration, alias, proposition_declaration, algebraic, member_group, inductive, words, with_vars, own_variables}
+use Rattle.elab_groups.specs.name_resolution.declared.NamingFault.TheVariants.{Duplicate}
+use Rattle.elab_groups.specs.name_resolution.Faults.{fault_if}
+use Rattle.elab_groups.specs.scopes.declared.Table.{Table}
+use Rattle.elab_groups.specs.name_resolution.Where.{Where, place_of}
+use Rattle.elab_groups.specs.parts.Declarations.{TokenName, Made, makes, binds_names, made_before, Parameter, GroupMember, AlgebraicConstructor, AlgebraicType, InductiveClause, InductivePredicate, Declaration, alias, proposition_declaration, algebraic, member_group, inductive, words, with_vars, own_variables}
 use Rattle.elab_groups.specs.parts.Outcomes.{Setting, around}
 use Rattle.elab_groups.specs.members.Members.{words_of_parameters}
 use Rattle.elab_groups.specs.Groups.{within_group}
@@ -54,3 +57,14 @@ UsesFail c (algebraic ts) g = TypesFail (inside_types c ts) ts g
 UsesFail c (member_group ms) g = MembersFail (within_group c ms) ms g
 UsesFail c (inductive ds) g = InductivesFail (within_inductives c ds) ds g
 UsesFail c _ g = ⊥
+
+-- of names in a list, after these: the second of two equal ones
+abbrev pub ListFails : List Word → List TokenName → NamingFault → Type 0
+ListFails seen [] g = ⊥
+ListFails seen (c ∷ cs) g = (fault_if (is_some (place_of c.name seen)) (Duplicate c.at) ≡ Some g) ⊎ ListFails (seen ++ c.name ∷ []) cs g
+
+-- of the names that a declaration makes, after these: one that the scope declared or that was made before, or twice in a list
+abbrev pub MadeFails : (Table → Word → Bool) → List Made → List Made → NamingFault → Type 0
+MadeFails declared before [] g = ⊥
+MadeFails declared before (makes t c ∷ ms) g = (fault_if (declared t c.name || made_before t c.name before) (Duplicate c.at) ≡ Some g) ⊎ MadeFails declared (makes t c ∷ before) ms g
+MadeFails declared before (binds_names cs ∷ ms) g = ListFails [] cs g ⊎ MadeFails declared (binds_names cs ∷ before) ms g

@@ -1,10 +1,10 @@
-//! Laws: what is elaborated is well typed and valid over any vocabulary of its signature; the typings of an expression, by
-//! rules without unknowns, are the solutions of its type equations; the first fault of names is at the least token; the
-//! task of a goal after declarations that are valid where they are is valid; what this asks holds of what is elaborated, declaration by
-//! declaration, and of theories that are used; names stay typed as they come into scopes, and copies of valid declarations
-//! are valid; what is known while theories are typed stays typed and sound as a theory begins, uses another one, gets
-//! further declarations and ends; what a clone makes, place by place, is what its steps make, and keeps what is known typed
-//! and sound; no code.
+//! Laws: what is elaborated is well typed and valid over any vocabulary of its signature; the typings of an expression,
+//! by rules without unknowns, are the solutions of its type equations; the first fault of names is at the least token;
+//! the task of a goal after declarations that are valid where they are is valid; what this asks holds of what is
+//! elaborated, declaration by declaration, and of theories that are used; names stay typed as they come into scopes, and
+//! copies of valid declarations are valid; what is known while theories are typed stays typed and sound as a theory
+//! begins, uses another one, gets further declarations and ends; what a clone makes, place by place, is what its steps
+//! make, and keeps what is known typed and sound; no code.
 //!
 //! Contract: definitions and laws.
 #![tactic(auto)]
