@@ -107,3 +107,4 @@ pub mod Decided
 pub mod Least
 pub mod LeastUsed
 pub mod LeastMade
+pub mod GroupSolutions

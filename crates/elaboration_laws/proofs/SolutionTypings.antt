@@ -39,7 +39,7 @@ use Rattle.elab_groups.specs.Groups.{typed_locals}
 use Rattle.elaboration_laws.proofs.TypingSolutions.{at_local, at_locals, at_use, use_same, UseScoped, use_scoped, names_at, inside_at, type_same, one_at, parameters_at, types_tree, count_variables, AreMatchedAt, first_at, arms_at, typed_at, form_at, quantify_at, equality_at, locals_own, wanted_own}
 use Rattle.elaboration_laws.proofs.Expressions.{names_inside}
 
-parts_solved : (r : ℕ) (f : ℕ → Tree) (es fs : List (Tree × Tree)) → SolvesAll r f (es ++ fs) → SolvesAll r f es × SolvesAll r f fs
+pub parts_solved : (r : ℕ) (f : ℕ → Tree) (es fs : List (Tree × Tree)) → SolvesAll r f (es ++ fs) → SolvesAll r f es × SolvesAll r f fs
 parts_solved r f [] fs h = (tt, h)
 parts_solved r f (e ∷ es) fs h = let k = parts_solved r f es fs h.1 in ((h.0, k.0), k.1)
 
@@ -50,7 +50,7 @@ choices_both f n (x ∷ xs) ys =
     ap (λ (cs : List Choice). record { token = x; type = f n } ∷ cs) (choices_both f (n + 1) xs ys ∙ ap (λ (k : ℕ). choices_from f (n + 1) xs ++ choices_from f k ys) e)
 
 -- two parts, the second after the first
-both_typed : {A B C : Type 0} {P : A → List Choice → Type 0} {Q : B → List Choice → Type 0} (make : A → B → C) (f : ℕ → Tree) (n : ℕ) (xs ys : List ℕ) (a : A) (b : B) (it : C) → it ≡ make a b
+pub both_typed : {A B C : Type 0} {P : A → List Choice → Type 0} {Q : B → List Choice → Type 0} (make : A → B → C) (f : ℕ → Tree) (n : ℕ) (xs ys : List ℕ) (a : A) (b : B) (it : C) → it ≡ make a b
     → P a (choices_from f n xs) → Q b (choices_from f (n + length xs) ys) → Both P Q make it (choices_from f n (xs ++ ys))
 both_typed make f n xs ys a b it e x y = record { first = a; second = b; first_chosen = choices_from f n xs; second_chosen = choices_from f (n + length xs) ys; first_is = x; second_is = y; made = e; chosen = choices_both f n xs ys }
 

@@ -35,14 +35,14 @@ use Rattle.elaboration_laws.proofs.Ordered.{order_at}
 use Rattle.elaboration_laws.proofs.Reordering as order
 
 -- ---- lists
-tokens_both : (cs ds : List Choice) → tokens (cs ++ ds) ≡ tokens cs ++ tokens ds
+pub tokens_both : (cs ds : List Choice) → tokens (cs ++ ds) ≡ tokens cs ++ tokens ds
 tokens_both cs ds = map-append (λ (c : Choice). c.token) cs ds
 
 tokens_at : (i : ℕ) (ts : List Tree) → tokens (choices_at i ts) ≡ replicate (length ts) i
 tokens_at i [] = refl
 tokens_at i (t ∷ ts) = ap (λ (xs : List ℕ). i ∷ xs) (tokens_at i ts)
 
-count_tokens : (xs : List ℕ) (cs : List Choice) → xs ≡ tokens cs → length xs ≡ length cs
+pub count_tokens : (xs : List ℕ) (cs : List Choice) → xs ≡ tokens cs → length xs ≡ length cs
 count_tokens xs cs e = ap length e ∙ length-map cs (λ (c : Choice). c.token)
 
 count_choices : (i : ℕ) (ts : List Tree) → length (choices_at i ts) ≡ length ts
@@ -52,7 +52,7 @@ pub count_variables : (n k : ℕ) → length (type_variables n k) ≡ k
 count_variables n zero = refl
 count_variables n (suc k) = ap suc (count_variables (n + 1) k)
 
-solves_both : (r : ℕ) (f : ℕ → Tree) (es fs : List (Tree × Tree)) → SolvesAll r f es → SolvesAll r f fs → SolvesAll r f (es ++ fs)
+pub solves_both : (r : ℕ) (f : ℕ → Tree) (es fs : List (Tree × Tree)) → SolvesAll r f es → SolvesAll r f fs → SolvesAll r f (es ++ fs)
 solves_both r f [] fs h k = k
 solves_both r f (e ∷ es) fs h k = (h.0, solves_both r f es fs h.1 k)
 
@@ -671,12 +671,12 @@ module _ (w : Where) (sc : IsScoped w) (r : ℕ) (own : length w.vars ≤ r) (f 
         }
 
 -- ---- the law
-abbrev value : List Choice → ℕ → Tree
+abbrev pub value : List Choice → ℕ → Tree
 value [] k = int_type
 value (c ∷ cs) zero = c.type
 value (c ∷ cs) (suc k) = value cs k
 
-value_kind : (cs : List Choice) → AllByRecursion (λ (c : Choice). IsKind c.type) cs → (k : ℕ) → IsKind (value cs k)
+pub value_kind : (cs : List Choice) → AllByRecursion (λ (c : Choice). IsKind c.type) cs → (k : ℕ) → IsKind (value cs k)
 value_kind [] h k = (((refl, inl refl), tt), refl)
 value_kind (c ∷ cs) h zero = h.0
 value_kind (c ∷ cs) h (suc k) = value_kind cs h.1 k

@@ -40,3 +40,4 @@ pub mod Unaliased
 pub mod Typings
 pub mod Checked
 pub mod UsedNames
+pub mod GroupTypings

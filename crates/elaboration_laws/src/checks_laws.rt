@@ -25,8 +25,8 @@ pub fn first_fault_is_least()
     ensures uses { (c : Setting) (i : ℕ) (s : SyntaxDeclaration) → IsLevelDecl s → PlacedDecl i s
         → IfSome (declaration s)
         (λ (d : Declaration). IsLeastFailing (used_fault c d) (UsesFail c d)) }
-    ensures makes { (declared : Table → Word → Bool) (i : ℕ) (s : SyntaxDeclaration) → PlacedDecl i s
-        → IfSome (declaration s) (λ (d : Declaration).
-        IsLeastFailing (made_fault declared [] (made_names d))
+    ensures makes { (declared : Table → Word → Bool) (i : ℕ) (s : SyntaxDeclaration)
+        → PlacedDecl i s → IfSome (declaration s)
+        (λ (d : Declaration). IsLeastFailing (made_fault declared [] (made_names d))
         (MadeFails declared [] (made_names d))) }
 {}

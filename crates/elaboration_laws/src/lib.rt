@@ -41,7 +41,9 @@ pub use sound_states::{begins_sound, goals_valid, joins_whole, stays_sound};
 pub use states_laws::{clones_stay, names_become};
 pub use theory_states::goal_tasks::{GoalAt, TaskFault, Theories, Theory, task_of};
 pub use typed_states::uses_typed;
-pub use typings_laws::{equations_decide, solutions_are_typings, typings_are_solutions};
+pub use typings_laws::{
+    equations_decide, group_decides, solutions_are_typings, typings_are_solutions,
+};
 pub use valid::{
     agrees_typed, begins_typed, defines_valid, elaborates_patterns, elaborates_valid, lists_valid,
     makes_valid, moves_valid, next_goal_valid, next_valid, stays_valid,

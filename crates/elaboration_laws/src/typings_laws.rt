@@ -1,5 +1,5 @@
 // What is elaborated is what typing rules without unknowns say: typings are solutions, and the other way round.
-ghost use Rattle.std.specs.Prelude.{◌≡◌, ℕ, false, List, Option, None};
+ghost use Rattle.std.specs.Prelude.{◌≡◌, ℕ, false, List, map, Option, None};
 ghost use Rattle.std.specs.Option.{is_none};
 ghost use Rattle.elab_groups.specs.trees.Tree.{Tree};
 ghost use Rattle.elab_groups.specs.tasks.Vocabulary.{Vocabulary};
@@ -12,6 +12,10 @@ ghost use Rattle.elab_groups.specs.open_types.Patterns.{LocalTree};
 ghost use Rattle.elab_groups.specs.open_types.Pieces.{piece, names};
 ghost use Rattle.elab_groups.specs.declared.parts.solution.TypingFault.TheVariants.{Clash, Undetermined};
 ghost use Rattle.elab_groups.specs.parts.Elaborated.{IsSolved, IsTypingFault};
+ghost use Rattle.elab_groups.specs.parts.Declarations.{GroupMember};
+ghost use Rattle.elab_groups.specs.members.Members.{SignatureTree};
+ghost use Rattle.elab_groups.specs.Groups.{most_variables, bodies_pieces, pieces_notes, pieces_trees, BodiesSolved};
+ghost use Rattle.elaboration_laws.specs.GroupTypings.{AreNamedBodies, ElaborateTo, ArePiecesAt, AreOnlyTypings};
 ghost use Rattle.elaboration_laws.specs.Typed.{IsNamedExpression};
 ghost use Rattle.elaboration_laws.specs.Typings.{Choice, ElaboratesTo, IsPieceAt, HasOwnTypes, choices_from, IsOnlyTyping, IsFirstDifference};
 
@@ -52,4 +56,24 @@ pub fn equations_decide()
         → IsNamedExpression v w ls t a → HasOwnTypes w rigid ls t
         → IsTypingFault rigid (piece w ls rigid t a).notes (Undetermined token)
         → IsFirstDifference w ls t a token }
+{}
+
+/// A law: the bodies of a group, whose type equations are one list, have types each by itself: their
+/// typings are the solutions of the equations, and the trees that the equations determine are those of all
+/// typings, of which there is one.
+pub fn group_decides()
+    ensures typings { (v : Vocabulary) (w : Where) (ms : List GroupMember)
+        (gs : List SignatureTree) (es : List Tree) (cs : List Choice)
+        → AreNamedBodies v w (most_variables gs) ms gs → ElaborateTo w ms gs es cs
+        → ArePiecesAt (most_variables gs) (bodies_pieces w ms gs) es cs }
+    ensures solutions { (v : Vocabulary) (w : Where) (ms : List GroupMember)
+        (gs : List SignatureTree) (f : ℕ → Tree) → AreNamedBodies v w (most_variables gs) ms gs
+        → IsSolution (most_variables gs) f (pieces_notes (bodies_pieces w ms gs)).equations
+        → ElaborateTo w ms gs
+        (map (assign (most_variables gs) f) (pieces_trees (bodies_pieces w ms gs)))
+        (choices_from f (most_variables gs) (pieces_notes (bodies_pieces w ms gs)).takers) }
+    ensures solved { (v : Vocabulary) (w : Where) (ms : List GroupMember)
+        (gs : List SignatureTree) (es : List Tree) (matches : List (ℕ × List Tree))
+        → AreNamedBodies v w (most_variables gs) ms gs → BodiesSolved w ms gs es matches
+        → AreOnlyTypings w ms gs es }
 {}
