@@ -16,29 +16,29 @@ use Rattle.elaboration_laws.specs.Typings.{Choice, tokens, choices_from, chosen_
 use Rattle.elaboration_laws.proofs.TypingSolutions.{is_piece_at}
 use Rattle.elaboration_laws.proofs.SolutionTypings.{has_typing}
 
-tokens_from : (f : ℕ → Tree) (n : ℕ) (xs : List ℕ) → tokens (choices_from f n xs) ≡ xs
+pub tokens_from : (f : ℕ → Tree) (n : ℕ) (xs : List ℕ) → tokens (choices_from f n xs) ≡ xs
 tokens_from f n [] = refl
 tokens_from f n (x ∷ xs) = ap (λ (ys : List ℕ). x ∷ ys) (tokens_from f (n + 1) xs)
 
-type_from : (f : ℕ → Tree) (n : ℕ) (xs : List ℕ) (j : ℕ) → j < length xs → slice_get (chosen_types (choices_from f n xs)) j ≡ Some (f (n + j))
+pub type_from : (f : ℕ → Tree) (n : ℕ) (xs : List ℕ) (j : ℕ) → j < length xs → slice_get (chosen_types (choices_from f n xs)) j ≡ Some (f (n + j))
 type_from f n [] j l = absurd (omega arith)
 type_from f n (x ∷ xs) zero l = let e : n ≡ n + 0 = omega arith in ap (λ (k : ℕ). Some (f k)) e
 type_from f n (x ∷ xs) (suc j) l = let e : n + 1 + j ≡ n + suc j = omega arith in type_from f (n + 1) xs j (omega arith) ∙ ap (λ (k : ℕ). Some (f k)) e
 
-there : (xs : List ℕ) (j x : ℕ) → slice_get xs j ≡ Some x → j < length xs
+pub there : (xs : List ℕ) (j x : ℕ) → slice_get xs j ≡ Some x → j < length xs
 there [] j x h = absurd (cc (h))
 there (y ∷ xs) zero x h = omega arith
 there (y ∷ xs) (suc j) x h = let l = there xs j x h in omega (arith, l)
 
-type_at : (cs : List Choice) (j : ℕ) (d : Choice) → j < length cs → slice_get (chosen_types cs) j ≡ Some (get_or cs j d).type
+pub type_at : (cs : List Choice) (j : ℕ) (d : Choice) → j < length cs → slice_get (chosen_types cs) j ≡ Some (get_or cs j d).type
 type_at [] j d l = absurd (omega arith)
 type_at (c ∷ cs) zero d l = refl
 type_at (c ∷ cs) (suc j) d l = type_at cs j d (omega arith)
 
-some_same : (a b : Tree) → Some a ≡ Some b → a ≡ b
+pub some_same : (a b : Tree) → Some a ≡ Some b → a ≡ b
 some_same a b h = cc (h)
 
-first_solved : (r : ℕ) (f : ℕ → Tree) (k : ℕ) (es : List (Tree × Tree)) → SolvesAll r f es → SolvesAll r f (take k es)
+pub first_solved : (r : ℕ) (f : ℕ → Tree) (k : ℕ) (es : List (Tree × Tree)) → SolvesAll r f es → SolvesAll r f (take k es)
 first_solved r f zero es h = tt
 first_solved r f (suc k) [] h = tt
 first_solved r f (suc k) (e ∷ es) h = (h.0, first_solved r f k es h.1)

@@ -1,8 +1,13 @@
 -- The typings of the bodies of a group are the solutions of its type equations, which are one list.
-use Rattle.std.proofs.Common.{◌≡◌, ℕ, ◌+◌, ◌-◌, ◌<◌, ◌≤◌, suc, List, [], ◌∷◌, ◌++◌, map, length, Option, Some, None, IfSome, option_map, refl, sym, ap, subst, ◌∙◌, arith}
+use Rattle.std.proofs.Common.{◌≡◌, ℕ, ◌+◌, ◌-◌, ◌<◌, ◌≤◌, suc, List, [], ◌∷◌, ◌++◌, map, length, Option, Some, None, IfSome, option_map, refl, sym, ap, subst, ◌∙◌, arith, slice_get}
 use Rattle.std.specs.Option.{is_none}
 use Rattle.std.specs.List.{AllByRecursion}
+use Rattle.std.proofs.Math.ListN.{length-map}
 use Rattle.elab_groups.specs.trees.Tree.{Tree}
+use Rattle.elab_groups.specs.trees.Sorts.{int_type}
+use Rattle.elab_groups.specs.open_types.Patterns.{Notes}
+use Rattle.elab_groups.specs.declared.parts.solution.TypingFault.TheVariants.{Clash, Undetermined}
+use Rattle.elab_groups.specs.parts.Elaborated.{IsTypingFault}
 use Rattle.elab_groups.specs.tasks.Vocabulary.{Vocabulary}
 use Rattle.elab_groups.specs.open_types.unify_types.Assigned.{assign}
 use Rattle.elab_groups.specs.open_types.unify_types.Pairs.{IsKind, SolvesAll}
@@ -15,8 +20,9 @@ use Rattle.elab_groups.specs.members.Members.{SignatureTree}
 use Rattle.elab_groups.specs.Groups.{body_piece, member_piece, member_pieces, most_variables, bodies_pieces, pieces_notes, pieces_trees, BodiesSolved}
 use Rattle.elaboration_laws.specs.Typed.{IsNamedExpression}
 use Rattle.elaboration_laws.specs.Typings.{Choice, IsTyping, tokens, choices_from, HasOwnTypes}
-use Rattle.elaboration_laws.specs.GroupTypings.{body_locals, IsBodyTyping, AreBodyTypings, ElaborateTo, AreNamedBodies, ArePiecesAt, AreOnlyTypings}
-use Rattle.elaboration_laws.proofs.TypingSolutions.{at_locals, locals_own, wanted_own, meets, solves_both, tokens_both, count_tokens, value, value_kind}
+use Rattle.elaboration_laws.specs.GroupTypings.{body_locals, IsBodyTyping, AreBodyTypings, ElaborateTo, AreNamedBodies, ArePiecesAt, AreOnlyTypings, AreFirstDifferent}
+use Rattle.elaboration_laws.proofs.Decided.{tokens_from, type_from, there, type_at, some_same, first_solved}
+use Rattle.elaboration_laws.proofs.TypingSolutions.{at_locals, locals_own, wanted_own, meets, solves_both, tokens_both, count_tokens, value, value_kind, value_got}
 use Rattle.elaboration_laws.proofs.SolutionTypings.{typed, parts_solved, both_typed}
 
 module _ (v : Vocabulary) (r : ℕ) (f : ℕ → Tree) (kinds : (j : ℕ) → IsKind (f j)) where
@@ -111,7 +117,7 @@ module _ (v : Vocabulary) (r : ℕ) (cs : List Choice) (kinds : AllByRecursion (
   group_solution w ms gs es h d =
       let m = meets_from v r chosen chosen_kind (r + 0) r cs (omega arith) (values_meet 0 cs (λ j l. let z : 0 + j ≡ j = omega arith in ap (value cs) z)) in
       let x = bodies_meet v r chosen chosen_kind w ms gs r es cs (omega arith) h d m in
-      record { assigned = chosen; solution = record { types = chosen_kind; solves = x.solves }; trees = x.trees; takers = x.takers }
+      record { assigned = chosen; solution = record { types = chosen_kind; solves = x.solves }; trees = x.trees; takers = x.takers; types = λ j d l. let z : (r + j) - r ≡ j = omega arith in ap (value cs) z ∙ value_got cs j d l }
 
 pub only_typings : (v : Vocabulary) (w : Where) (ms : List GroupMember) (gs : List SignatureTree) (es : List Tree) (matches : List (ℕ × List Tree)) → AreNamedBodies v w (most_variables gs) ms gs → BodiesSolved w ms gs es matches → AreOnlyTypings w ms gs es
 only_typings v w ms gs es matches h s =
@@ -124,3 +130,41 @@ only_typings v w ms gs es matches h s =
       typings = subst (λ (xs : List Tree). ElaborateTo w ms gs xs (choices_from f r (pieces_notes (bodies_pieces w ms gs)).takers)) (s.trees_are f g) (group_typings v r f g.types w ms gs h g.solves);
       only = λ xs ds d. let y = group_solution v r ds d.types w ms gs xs h d.typings in sym y.trees ∙ s.trees_are y.assigned y.solution;
     }
+
+-- ---- where equations clash or leave a type open
+module _ (v : Vocabulary) (w : Where) (ms : List GroupMember) (gs : List SignatureTree) (h : AreNamedBodies v w (most_variables gs) ms gs) where
+  abbrev rigid : ℕ
+  rigid = most_variables gs
+
+  abbrev notes : Notes
+  notes = pieces_notes (bodies_pieces w ms gs)
+
+  pub no_typings : (k : ℕ) → IsTypingFault rigid notes (Clash k) → (es : List Tree) (cs : List Choice) → ElaborateTo w ms gs es cs → ⊥
+  no_typings k c es cs d =
+      let y = group_solution v rigid cs d.types w ms gs es h d.typings in
+      c.1 y.assigned (first_solved rigid y.assigned (k + 1) notes.equations y.solution.solves)
+
+  counted : (cs : List Choice) → notes.takers ≡ tokens cs → length notes.takers ≡ length cs
+  counted cs e = ap length e ∙ length-map cs (λ (c : Choice). c.token)
+
+  pub first_different : (token : ℕ) → IsTypingFault rigid notes (Undetermined token) → AreFirstDifferent w ms gs token
+  first_different token c =
+      let l : c.0 < length notes.takers = there notes.takers c.0 token c.1 in
+      record {
+        place = c.0;
+        first_trees = map (assign rigid c.2.first) (pieces_trees (bodies_pieces w ms gs));
+        second_trees = map (assign rigid c.2.second) (pieces_trees (bodies_pieces w ms gs));
+        first = choices_from c.2.first rigid notes.takers;
+        second = choices_from c.2.second rigid notes.takers;
+        first_are = group_typings v rigid c.2.first c.2.first_solves.types w ms gs h c.2.first_solves.solves;
+        second_are = group_typings v rigid c.2.second c.2.second_solves.types w ms gs h c.2.second_solves.solves;
+        node = ap (λ (ys : List ℕ). slice_get ys c.0) (tokens_from c.2.first rigid notes.takers) ∙ c.1;
+        differ = λ q. c.2.differ (some_same (c.2.first (rigid + c.0)) (c.2.second (rigid + c.0)) (sym (type_from c.2.first rigid notes.takers c.0 l) ∙ q ∙ type_from c.2.second rigid notes.takers c.0 l));
+        before = λ xs ys cs ds d e j k.
+            let p = group_solution v rigid cs d.types w ms gs xs h d.typings in
+            let q = group_solution v rigid ds e.types w ms gs ys h e.typings in
+            let m : j < length cs = omega (arith, k, l, counted cs p.takers) in
+            let n : j < length ds = omega (arith, k, l, counted ds q.takers) in
+            type_at cs j (record { token = 0; type = int_type }) m ∙ ap (λ (z : Tree). Some z) (sym (p.types j (record { token = 0; type = int_type }) m) ∙ c.3 j k p.assigned q.assigned p.solution q.solution ∙ q.types j (record { token = 0; type = int_type }) n)
+            ∙ sym (type_at ds j (record { token = 0; type = int_type }) n);
+      }

@@ -681,7 +681,7 @@ value_kind [] h k = (((refl, inl refl), tt), refl)
 value_kind (c ∷ cs) h zero = h.0
 value_kind (c ∷ cs) h (suc k) = value_kind cs h.1 k
 
-value_got : (cs : List Choice) (k : ℕ) (d : Choice) → k < length cs → value cs k ≡ (get_or cs k d).type
+pub value_got : (cs : List Choice) (k : ℕ) (d : Choice) → k < length cs → value cs k ≡ (get_or cs k d).type
 value_got [] k d l = absurd (omega arith)
 value_got (c ∷ cs) zero d l = refl
 value_got (c ∷ cs) (suc k) d l = value_got cs k d (omega arith)

@@ -1,5 +1,5 @@
 -- When the bodies of a group have types, each by itself, and their trees then (rank-1 polymorphism).
-use Rattle.std.specs.Prelude.{◌≡◌, ℕ, List, [], ◌∷◌, map, reverse, Option, Some, None, IfSome}
+use Rattle.std.specs.Prelude.{◌≡◌, ℕ, ◌+◌, ◌<◌, List, [], ◌∷◌, map, reverse, length, get_or, slice_get, Option, Some, None, IfSome}
 use Rattle.std.specs.List.{AllByRecursion}
 use Rattle.elab_groups.specs.trees.Tree.{Tree, Leaf, HEnd}
 use Rattle.elab_groups.specs.tasks.Vocabulary.{Vocabulary}
@@ -13,7 +13,7 @@ use Rattle.elab_groups.specs.parts.Declarations.{GroupMember, with_vars}
 use Rattle.elab_groups.specs.members.Members.{SignatureTree, words_of_parameters}
 use Rattle.elab_groups.specs.Groups.{typed_locals, pieces_notes, pieces_trees}
 use Rattle.elaboration_laws.specs.Typed.{IsNamedExpression}
-use Rattle.elaboration_laws.specs.Typings.{Choice, Both, IsTyping, tokens, HasOwnTypes}
+use Rattle.elaboration_laws.specs.Typings.{Choice, Both, IsTyping, tokens, chosen_types, HasOwnTypes}
 
 -- the variables of a member's body, which are its parameters
 abbrev pub body_locals : GroupMember → SignatureTree → List LocalTree
@@ -47,9 +47,23 @@ pub record ArePiecesAt (rigid : ℕ) (ps : List NotedTree) (es : List Tree) (cs 
   pub solution : IsSolution rigid assigned (pieces_notes ps).equations
   pub trees : map (assign rigid assigned) (pieces_trees ps) ≡ es
   pub takers : (pieces_notes ps).takers ≡ tokens cs
+  pub types : (j : ℕ) (d : Choice) → j < length cs → assigned (rigid + j) ≡ (get_or cs j d).type
 
 -- there are typings, and the trees of all typings are these trees
 pub record AreOnlyTypings (w : Where) (ms : List GroupMember) (gs : List SignatureTree) (es : List Tree) : Type 0 where
   pub chosen : List Choice
   pub typings : ElaborateTo w ms gs es chosen
   pub only : (xs : List Tree) (cs : List Choice) → ElaborateTo w ms gs xs cs → xs ≡ es
+
+-- the node of the first choice in which typings differ: two typings differ in it, and all agree in the earlier ones
+pub record AreFirstDifferent (w : Where) (ms : List GroupMember) (gs : List SignatureTree) (token : ℕ) : Type 0 where
+  pub place : ℕ
+  pub first_trees : List Tree
+  pub second_trees : List Tree
+  pub first : List Choice
+  pub second : List Choice
+  pub first_are : ElaborateTo w ms gs first_trees first
+  pub second_are : ElaborateTo w ms gs second_trees second
+  pub node : slice_get (tokens first) place ≡ Some token
+  pub differ : slice_get (chosen_types first) place ≡ slice_get (chosen_types second) place → ⊥
+  pub before : (xs ys : List Tree) (cs ds : List Choice) → ElaborateTo w ms gs xs cs → ElaborateTo w ms gs ys ds → (j : ℕ) → j < place → slice_get (chosen_types cs) j ≡ slice_get (chosen_types ds) j

@@ -15,7 +15,7 @@ ghost use Rattle.elab_groups.specs.parts.Elaborated.{IsSolved, IsTypingFault};
 ghost use Rattle.elab_groups.specs.parts.Declarations.{GroupMember};
 ghost use Rattle.elab_groups.specs.members.Members.{SignatureTree};
 ghost use Rattle.elab_groups.specs.Groups.{most_variables, bodies_pieces, pieces_notes, pieces_trees, BodiesSolved};
-ghost use Rattle.elaboration_laws.specs.GroupTypings.{AreNamedBodies, ElaborateTo, ArePiecesAt, AreOnlyTypings};
+ghost use Rattle.elaboration_laws.specs.GroupTypings.{AreNamedBodies, ElaborateTo, ArePiecesAt, AreOnlyTypings, AreFirstDifferent};
 ghost use Rattle.elaboration_laws.specs.Typed.{IsNamedExpression};
 ghost use Rattle.elaboration_laws.specs.Typings.{Choice, ElaboratesTo, IsPieceAt, HasOwnTypes, choices_from, IsOnlyTyping, IsFirstDifference};
 
@@ -60,7 +60,8 @@ pub fn equations_decide()
 
 /// A law: the bodies of a group, whose type equations are one list, have types each by itself: their
 /// typings are the solutions of the equations, and the trees that the equations determine are those of all
-/// typings, of which there is one.
+/// typings, of which there is one; where equations clash, there is none; and the node that is told as
+/// undetermined is the one of the first choice in which two typings differ.
 pub fn group_decides()
     ensures typings { (v : Vocabulary) (w : Where) (ms : List GroupMember)
         (gs : List SignatureTree) (es : List Tree) (cs : List Choice)
@@ -76,4 +77,13 @@ pub fn group_decides()
         (gs : List SignatureTree) (es : List Tree) (matches : List (ℕ × List Tree))
         → AreNamedBodies v w (most_variables gs) ms gs → BodiesSolved w ms gs es matches
         → AreOnlyTypings w ms gs es }
+    ensures clash { (v : Vocabulary) (w : Where) (ms : List GroupMember)
+        (gs : List SignatureTree) (k : ℕ) (es : List Tree) (cs : List Choice)
+        → AreNamedBodies v w (most_variables gs) ms gs
+        → IsTypingFault (most_variables gs) (pieces_notes (bodies_pieces w ms gs)) (Clash k)
+        → ElaborateTo w ms gs es cs → ⊥ }
+    ensures undetermined { (v : Vocabulary) (w : Where) (ms : List GroupMember)
+        (gs : List SignatureTree) (token : ℕ) → AreNamedBodies v w (most_variables gs) ms gs
+        → IsTypingFault (most_variables gs) (pieces_notes (bodies_pieces w ms gs))
+        (Undetermined token) → AreFirstDifferent w ms gs token }
 {}
