@@ -16,4 +16,5 @@ pub record IsOfTuple (symbols : List SymbolTree) (k : ℕ) : Type 0 where
 pub record IsBuiltRight (symbols : List SymbolTree) : Type 0 where
   pub int : slice_get symbols 0 ≡ Some int_symbol
   pub tuples : AreTuples symbols
-  pub alone : (k : ℕ) (e : SymbolTree) → slice_get symbols k ≡ Some e → is_built e ≡ true → (k ≡ 0) ⊎ IsOfTuple symbols k
+  pub alone : (k : ℕ) (e : SymbolTree) → slice_get symbols k ≡ Some e → is_built e ≡ true
+      → (k ≡ 0) ⊎ IsOfTuple symbols k

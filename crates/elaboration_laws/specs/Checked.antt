@@ -1,4 +1,5 @@
--- The checks of names of an expression that fail, in no order: each is at a token (Why3 manual, "logical declarations").
+-- The checks of names of an expression that fail, in no order: each is at a token (Why3 manual,
+-- "logical declarations").
 use Rattle.std.specs.Prelude.{◌≡◌, ℕ, ◌≤◌, Bool, true, false, cond, not, List, [], ◌∷◌, ◌++◌, reverse, Option, Some, None, ◌⊎◌}
 use Rattle.std.specs.Option.{is_some, is_none}
 use Rattle.elab_groups.specs.surface.Lexeme.{Word}
@@ -24,8 +25,10 @@ pub record IsLeastFailing (x : Option NamingFault) (Fails : NamingFault → Type
 
 abbrev mutual
   pub FormFails : Where → Bool → TypeExpression → NamingFault → Type 0
-  FormFails w open_ (variable_type i v) g = fault_if (cond open_ false (is_none (place_of v w.vars))) (Unknown i) ≡ Some g
-  FormFails w open_ (composed_type i qs x fs) g = (meaning_fault w i (count_forms fs) (w.types qs x) ≡ Some g) ⊎ FormsFail w open_ fs g
+  FormFails w open_ (variable_type i v) g =
+      fault_if (cond open_ false (is_none (place_of v w.vars))) (Unknown i) ≡ Some g
+  FormFails w open_ (composed_type i qs x fs) g =
+      (meaning_fault w i (count_forms fs) (w.types qs x) ≡ Some g) ⊎ FormsFail w open_ fs g
   FormFails w open_ (product_type i fs) g = FormsFail w open_ fs g
 
   pub FormsFail : Where → Bool → TypeExpressions → NamingFault → Type 0
@@ -44,51 +47,83 @@ BindersFail w open_ (b ∷ bs) g = TypeFails w open_ b.of_type g ⊎ BindersFail
 abbrev mutual
   pub PatternFails : Where → List Word → Pattern → NamingFault → Type 0
   PatternFails w seen (wildcard_pattern i) g = ⊥
-  PatternFails w seen (variable_pattern i x) g = fault_if (is_some (place_of x seen)) (Duplicate i) ≡ Some g
-  PatternFails w seen (constructor_pattern i qs x ps) g = (constructor_fault w i (count_patterns ps) (w.names qs x) ≡ Some g) ⊎ PatternsFail w seen ps g
+  PatternFails w seen (variable_pattern i x) g =
+      fault_if (is_some (place_of x seen)) (Duplicate i) ≡ Some g
+  PatternFails w seen (constructor_pattern i qs x ps) g =
+      (constructor_fault w i (count_patterns ps) (w.names qs x) ≡ Some g) ⊎ PatternsFail w seen ps g
   PatternFails w seen (tuple_pattern i ps) g = PatternsFail w seen ps g
-  PatternFails w seen (alias_pattern p i x) g = PatternFails w seen p g ⊎ (fault_if (is_some (place_of x (seen ++ pattern_names p))) (Duplicate i) ≡ Some g)
+  PatternFails w seen (alias_pattern p i x) g =
+      PatternFails w seen p g
+      ⊎ (fault_if (is_some (place_of x (seen ++ pattern_names p))) (Duplicate i) ≡ Some g)
 
   pub PatternsFail : Where → List Word → Patterns → NamingFault → Type 0
   PatternsFail w seen no_patterns g = ⊥
-  PatternsFail w seen (more_patterns p ps) g = PatternFails w seen p g ⊎ PatternsFail w (seen ++ pattern_names p) ps g
+  PatternsFail w seen (more_patterns p ps) g =
+      PatternFails w seen p g ⊎ PatternsFail w (seen ++ pattern_names p) ps g
 
 -- each later alternative binds the names of the first one
 abbrev pub LaterFail : Where → List Word → Alternatives → NamingFault → Type 0
 LaterFail w names no_alternatives g = ⊥
-LaterFail w names (more_alternatives i p ps) g = (fault_if (not (same_names names (pattern_names p))) (WrongKind i) ≡ Some g) ⊎ (PatternFails w [] p g ⊎ LaterFail w names ps g)
+LaterFail w names (more_alternatives i p ps) g =
+    (fault_if (not (same_names names (pattern_names p))) (WrongKind i) ≡ Some g)
+    ⊎ (PatternFails w [] p g ⊎ LaterFail w names ps g)
 
 abbrev pub AlternativesFail : Where → Alternatives → NamingFault → Type 0
 AlternativesFail w no_alternatives g = ⊥
-AlternativesFail w (more_alternatives i p ps) g = PatternFails w [] p g ⊎ LaterFail w (pattern_names p) ps g
+AlternativesFail w (more_alternatives i p ps) g =
+    PatternFails w [] p g ⊎ LaterFail w (pattern_names p) ps g
 
 -- under the variables of these names, innermost first, where a formula is due or a term
 abbrev mutual
   pub NamesFail : Where → Bool → List Word → Bool → Expression → NamingFault → Type 0
-  NamesFail w open_ ls due (applied_expression i qs x es) g = (name_fault w ls due i qs x (count_expressions es) ≡ Some g) ⊎ AllNamesFail w open_ ls es g
-  NamesFail w open_ ls due (infix_expression i x a b) g = NamesFail w open_ ls false a g ⊎ ((name_fault w ls due i [] x 2 ≡ Some g) ⊎ NamesFail w open_ ls false b g)
+  NamesFail w open_ ls due (applied_expression i qs x es) g =
+      (name_fault w ls due i qs x (count_expressions es) ≡ Some g) ⊎ AllNamesFail w open_ ls es g
+  NamesFail w open_ ls due (infix_expression i x a b) g =
+      NamesFail w open_ ls false a g
+      ⊎ ((name_fault w ls due i [] x 2 ≡ Some g) ⊎ NamesFail w open_ ls false b g)
   NamesFail w open_ ls due (integer_expression i z) g = fault_if due (WrongKind i) ≡ Some g
   NamesFail w open_ ls due (true_expression i) g = fault_if (not due) (WrongKind i) ≡ Some g
   NamesFail w open_ ls due (false_expression i) g = fault_if (not due) (WrongKind i) ≡ Some g
-  NamesFail w open_ ls due (tuple_expression i es) g = (fault_if due (WrongKind i) ≡ Some g) ⊎ AllNamesFail w open_ ls es g
-  NamesFail w open_ ls due (cast_expression i e f) g = (fault_if due (WrongKind i) ≡ Some g) ⊎ (NamesFail w open_ ls false e g ⊎ FormFails w open_ f g)
-  NamesFail w open_ ls due (not_expression i e) g = (fault_if (not due) (WrongKind i) ≡ Some g) ⊎ NamesFail w open_ ls true e g
-  NamesFail w open_ ls due (connected_expression i a o b) g = NamesFail w open_ ls true a g ⊎ ((fault_if (not due) (WrongKind i) ≡ Some g) ⊎ NamesFail w open_ ls true b g)
-  NamesFail w open_ ls due (equality_expression i same a b) g = NamesFail w open_ ls false a g ⊎ ((fault_if (not due) (WrongKind i) ≡ Some g) ⊎ NamesFail w open_ ls false b g)
-  NamesFail w open_ ls due (if_expression i c a b) g = NamesFail w open_ ls true c g ⊎ (NamesFail w open_ ls due a g ⊎ NamesFail w open_ ls due b g)
-  NamesFail w open_ ls due (let_expression i x a b) g = NamesFail w open_ ls false a g ⊎ NamesFail w open_ (x ∷ ls) due b g
-  NamesFail w open_ ls due (match_expression i is_let e bs) g = NamesFail w open_ ls false e g ⊎ ((fault_if (not (has_alternative bs)) (WrongKind i) ≡ Some g) ⊎ BranchesFail w open_ ls due bs g)
+  NamesFail w open_ ls due (tuple_expression i es) g =
+      (fault_if due (WrongKind i) ≡ Some g) ⊎ AllNamesFail w open_ ls es g
+  NamesFail w open_ ls due (cast_expression i e f) g =
+      (fault_if due (WrongKind i) ≡ Some g)
+      ⊎ (NamesFail w open_ ls false e g ⊎ FormFails w open_ f g)
+  NamesFail w open_ ls due (not_expression i e) g =
+      (fault_if (not due) (WrongKind i) ≡ Some g) ⊎ NamesFail w open_ ls true e g
+  NamesFail w open_ ls due (connected_expression i a o b) g =
+      NamesFail w open_ ls true a g
+      ⊎ ((fault_if (not due) (WrongKind i) ≡ Some g) ⊎ NamesFail w open_ ls true b g)
+  NamesFail w open_ ls due (equality_expression i same a b) g =
+      NamesFail w open_ ls false a g
+      ⊎ ((fault_if (not due) (WrongKind i) ≡ Some g) ⊎ NamesFail w open_ ls false b g)
+  NamesFail w open_ ls due (if_expression i c a b) g =
+      NamesFail w open_ ls true c g ⊎ (NamesFail w open_ ls due a g ⊎ NamesFail w open_ ls due b g)
+  NamesFail w open_ ls due (let_expression i x a b) g =
+      NamesFail w open_ ls false a g ⊎ NamesFail w open_ (x ∷ ls) due b g
+  NamesFail w open_ ls due (match_expression i is_let e bs) g =
+      NamesFail w open_ ls false e g
+      ⊎ ((fault_if (not (has_alternative bs)) (WrongKind i) ≡ Some g)
+      ⊎ BranchesFail w open_ ls due bs g)
   NamesFail w open_ ls due (quantified_expression i all bs gs b) g =
-      (fault_if (not due) (WrongKind i) ≡ Some g) ⊎ (BindersFail w open_ bs g ⊎ (TriggersFail w open_ (reverse (bound_names bs) ++ ls) gs g ⊎ NamesFail w open_ (reverse (bound_names bs) ++ ls) true b g))
+      (fault_if (not due) (WrongKind i) ≡ Some g)
+      ⊎ (BindersFail w open_ bs g
+      ⊎ (TriggersFail w open_ (reverse (bound_names bs) ++ ls) gs g
+      ⊎ NamesFail w open_ (reverse (bound_names bs) ++ ls) true b g))
 
   pub AllNamesFail : Where → Bool → List Word → Expressions → NamingFault → Type 0
   AllNamesFail w open_ ls no_expressions g = ⊥
-  AllNamesFail w open_ ls (more_expressions e es) g = NamesFail w open_ ls false e g ⊎ AllNamesFail w open_ ls es g
+  AllNamesFail w open_ ls (more_expressions e es) g =
+      NamesFail w open_ ls false e g ⊎ AllNamesFail w open_ ls es g
 
   pub TriggersFail : Where → Bool → List Word → Expressions → NamingFault → Type 0
   TriggersFail w open_ ls no_expressions g = ⊥
-  TriggersFail w open_ ls (more_expressions e es) g = NamesFail w open_ ls (is_formula_trigger w ls e) e g ⊎ TriggersFail w open_ ls es g
+  TriggersFail w open_ ls (more_expressions e es) g =
+      NamesFail w open_ ls (is_formula_trigger w ls e) e g ⊎ TriggersFail w open_ ls es g
 
   pub BranchesFail : Where → Bool → List Word → Bool → MatchBranches → NamingFault → Type 0
   BranchesFail w open_ ls due no_branches g = ⊥
-  BranchesFail w open_ ls due (more_branches ps b bs) g = AlternativesFail w ps g ⊎ (NamesFail w open_ (reverse (alternatives_names ps) ++ ls) due b g ⊎ BranchesFail w open_ ls due bs g)
+  BranchesFail w open_ ls due (more_branches ps b bs) g =
+      AlternativesFail w ps g
+      ⊎ (NamesFail w open_ (reverse (alternatives_names ps) ++ ls) due b g
+      ⊎ BranchesFail w open_ ls due bs g)

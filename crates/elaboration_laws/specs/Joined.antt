@@ -20,8 +20,11 @@ abbrev pub Agree : List DeclarationTree → List DeclarationTree → Type 0
 Agree ds es = All (λ (e : DeclarationTree). IsTrue (has_theory ds e.theory) → Contains ds e) es
 
 -- a theory's declarations over a signature are joined to others over a later one
-pub record AreJoined (earlier symbols : List SymbolTree) (ds es : List DeclarationTree) : Type 0 where
+pub record AreJoined (earlier symbols : List SymbolTree)
+    (ds es : List DeclarationTree) : Type 0 where
   pub sound : AreSound symbols (ds ++ fresh ds es)
   pub first : IsSubvocabulary (after symbols [] ds) (after symbols [] (ds ++ fresh ds es))
   pub second : IsSubvocabulary (after earlier [] es) (after symbols [] (ds ++ fresh ds es))
-  pub typed : IsTypedSignature (after symbols [] ds) symbols → IsTypedSignature (after earlier [] es) earlier → IsTypedSignature (after symbols [] (ds ++ fresh ds es)) symbols
+  pub typed : IsTypedSignature (after symbols [] ds) symbols
+      → IsTypedSignature (after earlier [] es) earlier
+      → IsTypedSignature (after symbols [] (ds ++ fresh ds es)) symbols

@@ -1,4 +1,5 @@
--- Declarations in the order in which they stand: what may be named after them, and when each is valid where it is.
+-- Declarations in the order in which they stand: what may be named after them, and when each is
+-- valid where it is.
 use Rattle.std.specs.Prelude.{◌≡◌, ℕ, ◌<◌, ◌==◌, not, ◌&&◌, ◌||◌, Bool, List, [], ◌∷◌, ◌++◌, length, slice_get, All, Some, None}
 use Rattle.std.specs.List.{list_any}
 use Rattle.std.specs.Option.{is_some}
@@ -19,19 +20,24 @@ use Rattle.elaboration_laws.specs.Scopes.{is_projection_kind, IsTypedSignature, 
 abbrev pub is_built : SymbolTree → Bool
 is_built e = bytes_eq e.theory builtin && not (is_projection_kind e.kind)
 
--- what declarations make may be named after them, and what is built in; of the type variables of goals, these
+-- what declarations make may be named after them, and what is built in; of the type variables of
+-- goals, these
 abbrev pub after : List SymbolTree → List ℕ → List DeclarationTree → Vocabulary
 after symbols rigid ds = record {
   symbols = symbols;
   rigid = λ k. list_any (λ j. j == k) rigid;
   usable = λ k. passes is_built (slice_get symbols k) || is_some (maker ds k);
-  matched = λ k. passes (λ e. is_built e && is_constructor_kind e.kind) (slice_get symbols k) || is_constructor (role_by k (maker ds k));
+  matched = λ k. passes (λ e. is_built e && is_constructor_kind e.kind) (slice_get symbols k)
+      || is_constructor (role_by k (maker ds k));
 }
 
--- each declaration after others is valid where it is: over what it makes itself and what those before it make
+-- each declaration after others is valid where it is: over what it makes itself and what those
+-- before it make
 abbrev pub AreValidAfter : List SymbolTree → List DeclarationTree → List DeclarationTree → Type 0
 AreValidAfter symbols before [] = Unit {0}
-AreValidAfter symbols before (d ∷ ds) = IsValidDecl (after symbols [] (before ++ d ∷ [])) d × AreValidAfter symbols (before ++ d ∷ []) ds
+AreValidAfter symbols before (d ∷ ds) =
+    IsValidDecl (after symbols [] (before ++ d ∷ [])) d
+    × AreValidAfter symbols (before ++ d ∷ []) ds
 
 -- a declaration that is no goal
 abbrev pub IsNoGoal : SyntaxDeclaration → Type 0
@@ -49,7 +55,8 @@ IsGroupWhole (predicate_decl a c ps None ms) = ms ≡ []
 IsGroupWhole _ = Unit {0}
 
 -- one more declaration is after others, over a store
-pub record IsNextDeclaration (s : List Tree) (symbols : List SymbolTree) (names : ScopeNames) (ds new : List DeclarationTree) : Type 0 where
+pub record IsNextDeclaration (s : List Tree) (symbols : List SymbolTree) (names : ScopeNames)
+    (ds new : List DeclarationTree) : Type 0 where
   pub signature : IsTypedSignature (after symbols [] (ds ++ new)) symbols
   pub scopes : AreTypedScopes (after symbols [] (ds ++ new)) s names
   pub valid : AreValidAfter symbols ds new
@@ -60,8 +67,10 @@ pub record IsRigidAt (symbols : List SymbolTree) (k : ℕ) : Type 0 where
   pub name : List ℕ
   pub entry : slice_get symbols k ≡ Some (rigid_symbol name)
 
--- a goal is after declarations, over a store: it makes nothing, and its type variables may be named in it alone
-pub record IsNextGoal (s : List Tree) (symbols : List SymbolTree) (names : ScopeNames) (ds : List DeclarationTree) (own : List ℕ) (said : List DeclarationTree) : Type 0 where
+-- a goal is after declarations, over a store: it makes nothing, and its type variables may be named
+-- in it alone
+pub record IsNextGoal (s : List Tree) (symbols : List SymbolTree) (names : ScopeNames)
+    (ds : List DeclarationTree) (own : List ℕ) (said : List DeclarationTree) : Type 0 where
   pub signature : IsTypedSignature (after symbols [] ds) symbols
   pub scopes : AreTypedScopes (after symbols [] ds) s names
   pub valid : All (IsValidDecl (after symbols own ds)) said

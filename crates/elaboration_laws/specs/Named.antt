@@ -36,19 +36,23 @@ pub record EntryNames (v : Vocabulary) (e : SymbolTree) : Type 0 where
 abbrev pub NumberNames : Vocabulary → List SymbolTree → ℕ → Type 0
 NumberNames v symbols k = EntryNames v (symbol_or symbols k)
 
-pub record DefinitionNames (v : Vocabulary) (symbols : List SymbolTree) (d : DefinitionTree) : Type 0 where
+pub record DefinitionNames (v : Vocabulary) (symbols : List SymbolTree)
+    (d : DefinitionTree) : Type 0 where
   pub signature : NumberNames v symbols d.symbol
   pub equation : TreeNames v d.equation
 
-pub record InductiveNames (v : Vocabulary) (symbols : List SymbolTree) (i : InductiveTree) : Type 0 where
+pub record InductiveNames (v : Vocabulary) (symbols : List SymbolTree)
+    (i : InductiveTree) : Type 0 where
   pub signature : NumberNames v symbols i.symbol
   pub clauses : All (TreeNames v) i.clauses
 
-pub record ConNames (v : Vocabulary) (symbols : List SymbolTree) (c : ConstructorTree) : Type 0 where
+pub record ConNames (v : Vocabulary) (symbols : List SymbolTree)
+    (c : ConstructorTree) : Type 0 where
   pub signature : NumberNames v symbols c.symbol
   pub projections : All (NumberNames v symbols) c.projections
 
-pub record AlgebraicNames (v : Vocabulary) (symbols : List SymbolTree) (a : AlgebraicTree) : Type 0 where
+pub record AlgebraicNames (v : Vocabulary) (symbols : List SymbolTree)
+    (a : AlgebraicTree) : Type 0 where
   pub signature : NumberNames v symbols a.symbol
   pub cons : All (ConNames v symbols) a.cons
 

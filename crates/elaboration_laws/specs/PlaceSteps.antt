@@ -20,7 +20,9 @@ step_of x k None d = copies d
 step_of x k (Some vars) d = step_as (kind_or (x.fates k) x.all) d
 
 abbrev pub copy_step_at : Copying → List DeclarationTree → ℕ → CopyStep
-copy_step_at x ds k = if is_own ds x.path k then (if is_replaced (x.fates k) then leaves (decl_or ds k) else step_of x k (x.axioms k) (decl_or ds k)) else joins (decl_or ds k)
+copy_step_at x ds k = if is_own ds x.path k
+    then (if is_replaced (x.fates k) then leaves (decl_or ds k) else step_of x k (x.axioms k)
+    (decl_or ds k)) else joins (decl_or ds k)
 
 abbrev pub copy_steps_at : Copying → List DeclarationTree → List ℕ → List CopyStep
 copy_steps_at x ds [] = []

@@ -1,4 +1,5 @@
--- A type on the right side of a clone's element, over a signature with the tuples that are seen in it.
+-- A type on the right side of a clone's element, over a signature with the tuples that are seen in
+-- it.
 use Rattle.std.specs.Prelude.{List, ◌++◌, length}
 use Rattle.elab_groups.specs.tasks.Task.{SymbolTree}
 use Rattle.elab_groups.specs.tasks.Vocabulary.{Vocabulary}
@@ -17,7 +18,9 @@ abbrev pub with_tuples : Setting → TypeExpression → List SymbolTree
 with_tuples c f = c.symbols ++ wanting_tuples c.symbols (form_seen unseen f).widths
 
 -- it is a type over that signature, which is typed, as the scopes are over it
-pub record IsTypedForm (base : Vocabulary) (c : Setting) (vars : List Word) (f : TypeExpression) : Type 0 where
-  pub type : IsTypeIn (with_entries base (with_tuples c f)) (length vars) (type_at (over c.trees (with_tuples c f) c.scope vars) f)
+pub record IsTypedForm (base : Vocabulary) (c : Setting) (vars : List Word)
+    (f : TypeExpression) : Type 0 where
+  pub type : IsTypeIn (with_entries base (with_tuples c f)) (length vars)
+      (type_at (over c.trees (with_tuples c f) c.scope vars) f)
   pub signature : IsTypedSignature base (with_tuples c f)
   pub scopes : AreTypedScopes (with_entries base (with_tuples c f)) c.trees c.scope

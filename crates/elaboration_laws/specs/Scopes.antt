@@ -1,4 +1,5 @@
--- Signatures and scopes that are typed: entries of types over the signature, and names that stand for entries of their kind.
+-- Signatures and scopes that are typed: entries of types over the signature, and names that stand
+-- for entries of their kind.
 use Rattle.std.specs.Prelude.{◌≡◌, ◌≢◌, ℕ, ◌<◌, ◌≤◌, Bool, true, false, not, ◌&&◌, List, length, slice_get, All, Some, IsSomeAnd, IsTrue}
 use Rattle.elab_groups.specs.trees.Tree.{Tree}
 use Rattle.elab_groups.specs.trees.Node.{tree_at, Holds}
@@ -23,16 +24,21 @@ pub record IsTypedEntry (v : Vocabulary) (e : SymbolTree) : Type 0 where
   pub types : HasTypes v e
   pub result : MakesTerms e.kind → IsSomeAnd e.result (λ t. Unit {0})
 
--- The first entry is `int`. The types of each entry hold its own type variables alone, and those of an entry that may be named
--- are over the vocabulary; of these a pattern may name each constructor, and no other entry; tuples may be named.
+-- The first entry is `int`. The types of each entry hold its own type variables alone, and those of
+-- an entry that may be named are over the vocabulary; of these a pattern may name each constructor,
+-- and no other entry; tuples may be named.
 pub record IsTypedSignature (base : Vocabulary) (symbols : List SymbolTree) : Type 0 where
   pub int : slice_get symbols 0 ≡ Some int_symbol
   pub int_usable : IsTrue (base.usable 0)
   pub scoped : All IsScopedEntry symbols
-  pub entries : (k : ℕ) (e : SymbolTree) → slice_get symbols k ≡ Some e → IsTrue (base.usable k) → IsTypedEntry (with_entries base symbols) e
-  pub constructors : (k : ℕ) (e : SymbolTree) → slice_get symbols k ≡ Some e → IsTrue (base.usable k) → e.kind ≡ Constructor → IsTrue (base.matched k)
-  pub patterns : (k : ℕ) (e : SymbolTree) → slice_get symbols k ≡ Some e → IsTrue (base.matched k) → IsTrue (base.usable k)
-  pub tuples : (n k : ℕ) (e : SymbolTree) → slice_get symbols k ≡ Some e → is_tuple n e ≡ true → IsTrue (base.usable k)
+  pub entries : (k : ℕ) (e : SymbolTree) → slice_get symbols k ≡ Some e → IsTrue (base.usable k)
+      → IsTypedEntry (with_entries base symbols) e
+  pub constructors : (k : ℕ) (e : SymbolTree) → slice_get symbols k ≡ Some e
+      → IsTrue (base.usable k) → e.kind ≡ Constructor → IsTrue (base.matched k)
+  pub patterns : (k : ℕ) (e : SymbolTree) → slice_get symbols k ≡ Some e → IsTrue (base.matched k)
+      → IsTrue (base.usable k)
+  pub tuples : (n k : ℕ) (e : SymbolTree) → slice_get symbols k ≡ Some e → is_tuple n e ≡ true
+      → IsTrue (base.usable k)
 
 abbrev pub is_projection_kind : SymbolKind → Bool
 is_projection_kind Projection = true
@@ -40,7 +46,8 @@ is_projection_kind _ = false
 
 -- what a source may name: an entry with a theory, but for the projections of tuples
 abbrev pub is_nameable : SymbolTree → Bool
-is_nameable e = not (is_empty e.theory) && not (is_projection_kind e.kind && bytes_eq e.theory builtin)
+is_nameable e =
+    not (is_empty e.theory) && not (is_projection_kind e.kind && bytes_eq e.theory builtin)
 
 -- it may be named, in a pattern if it is a constructor
 pub record IsNamedBy (base : Vocabulary) (k : ℕ) (e : SymbolTree) : Type 0 where
@@ -50,14 +57,18 @@ pub record IsNamedBy (base : Vocabulary) (k : ℕ) (e : SymbolTree) : Type 0 whe
 
 -- so may each entry from a number on
 abbrev pub NamesNew : Vocabulary → ℕ → List SymbolTree → Type 0
-NamesNew base n symbols = (k : ℕ) (e : SymbolTree) → n ≤ k → slice_get symbols k ≡ Some e → IsNamedBy base k e
+NamesNew base n symbols =
+    (k : ℕ) (e : SymbolTree) → n ≤ k → slice_get symbols k ≡ Some e → IsNamedBy base k e
 
 -- it has the other's entries, and may name what the other may name of them
 pub record IsSubvocabulary (v w : Vocabulary) : Type 0 where
   pub entries : (k : ℕ) (e : SymbolTree) → entry v k ≡ Some e → entry w k ≡ Some e
-  pub rigid : (k : ℕ) (e : SymbolTree) → entry v k ≡ Some e → IsTrue (v.rigid k) → IsTrue (w.rigid k)
-  pub usable : (k : ℕ) (e : SymbolTree) → entry v k ≡ Some e → IsTrue (v.usable k) → IsTrue (w.usable k)
-  pub matched : (k : ℕ) (e : SymbolTree) → entry v k ≡ Some e → IsTrue (v.matched k) → IsTrue (w.matched k)
+  pub rigid : (k : ℕ) (e : SymbolTree) → entry v k ≡ Some e → IsTrue (v.rigid k)
+      → IsTrue (w.rigid k)
+  pub usable : (k : ℕ) (e : SymbolTree) → entry v k ≡ Some e → IsTrue (v.usable k)
+      → IsTrue (w.usable k)
+  pub matched : (k : ℕ) (e : SymbolTree) → entry v k ≡ Some e → IsTrue (v.matched k)
+      → IsTrue (w.matched k)
 
 -- they may name the same of the numbers below one
 pub record AgreeBelow (v w : Vocabulary) (n : ℕ) : Type 0 where
@@ -94,4 +105,6 @@ IsTypedThing v s Symbols thing = IsSymbolNumber v (number_of thing)
 IsTypedThing v s _ thing = Unit {0}
 
 abbrev pub AreTypedScopes : Vocabulary → List Tree → ScopeNames → Type 0
-AreTypedScopes v s names = All (λ (es : List ScopeEntry). All (λ (e : ScopeEntry). IsTypedThing v s e.table e.thing) es) names.entries
+AreTypedScopes v s names = All
+    (λ (es : List ScopeEntry). All (λ (e : ScopeEntry). IsTypedThing v s e.table e.thing) es)
+    names.entries

@@ -1,4 +1,5 @@
--- The sides of a clone's elements where the clone stands, and the signature with the entries of its copies.
+-- The sides of a clone's elements where the clone stands, and the signature with the entries of its
+-- copies.
 use Rattle.std.specs.Prelude.{List, ◌++◌, map, length, None}
 use Rattle.elab_groups.specs.tasks.Task.{SymbolTree, symbol_or}
 use Rattle.elab_groups.specs.tasks.Vocabulary.{Vocabulary}
@@ -17,7 +18,8 @@ with_rights c es = record c { symbols = c.symbols ++ rights_tuples c.symbols es 
 
 -- the left sides name declarations of a theory
 abbrev pub left_sides_at : Setting → Origin → List Element → List SideTree
-left_sides_at c t es = sides_made (λ x. last_place c.symbols t x None t.own) c.trees c.symbols c.scope es
+left_sides_at c t es =
+    sides_made (λ x. last_place c.symbols t x None t.own) c.trees c.symbols c.scope es
 
 -- the type on the right is one at the type variables on the left
 abbrev pub IsTypedRight : Vocabulary → Element → RightTree → Type 0
@@ -32,7 +34,8 @@ abbrev pub copies_made : Setting → Origin → List Element → Word → Word �
 copies_made c t es theory within =
     let symbols = (with_rights c es).symbols in
     let xs = left_sides_at c t es in
-    map (λ k. entry_copied (clone_map symbols t xs) theory within (symbol_or symbols k)) (kept t (fates_of xs))
+    map (λ k. entry_copied (clone_map symbols t xs) theory within (symbol_or symbols k))
+    (kept t (fates_of xs))
 
 -- the signature with them
 abbrev pub with_copies : Setting → Origin → List Element → Word → Word → List SymbolTree

@@ -1,4 +1,5 @@
--- Where a declaration stands over a well-formed signature: what names stand for, and the constructors of its tuples.
+-- Where a declaration stands over a well-formed signature: what names stand for, and the
+-- constructors of its tuples.
 use Rattle.std.specs.Prelude.{◌≡◌, ℕ, List, [], ◌∷◌, length, slice_get, Some, IsSomeAnd, IfSome, IsTrue}
 use Rattle.elab_groups.specs.surface.Lexeme.{Word}
 use Rattle.elab_groups.specs.tasks.declared.signature.SymbolKind.TheVariants.{Constructor}
@@ -17,7 +18,8 @@ with_entries base symbols = record base { symbols = symbols }
 pub record IsSymbol (v : Vocabulary) (k : ℕ) : Type 0 where
   pub usable : IsTrue (v.usable k)
   pub signature : IsSignatureOf v k
-  pub result : MakesTerms (symbol_or v.symbols k).kind → IsSomeAnd (symbol_or v.symbols k).result (λ t. Unit {0})
+  pub result : MakesTerms (symbol_or v.symbols k).kind
+      → IsSomeAnd (symbol_or v.symbols k).result (λ t. Unit {0})
 
 -- the constructor of the tuples of a width
 pub record IsTuple (v : Vocabulary) (n k : ℕ) : Type 0 where
@@ -31,14 +33,17 @@ abbrev pub IsMeaning : Vocabulary → MeaningTree → Type 0
 IsMeaning v (Stands k) = IsTrue (v.usable k) × IsTypeEntry v k
 IsMeaning v (Abbreviates vars t) = IsTypeIn v vars t
 
--- entry 0 is `int` and may be named; names stand for types over the signature, and for symbols whose types are over it;
--- a pattern may name each constructor that may be named
+-- entry 0 is `int` and may be named; names stand for types over the signature, and for symbols
+-- whose types are over it; a pattern may name each constructor that may be named
 pub record IsWellFormed (base : Vocabulary) (w : Where) : Type 0 where
   pub int : slice_get w.symbols 0 ≡ Some int_symbol
   pub int_usable : IsTrue (base.usable 0)
-  pub types : (qs : List Word) (x : Word) → IfSome (w.types qs x) (IsMeaning (with_entries base w.symbols))
-  pub names : (qs : List Word) (x : Word) → IfSome (w.names qs x) (IsSymbol (with_entries base w.symbols))
-  pub constructors : (k : ℕ) → IsSymbol (with_entries base w.symbols) k → (symbol_or w.symbols k).kind ≡ Constructor → IsTrue (base.matched k)
+  pub types : (qs : List Word) (x : Word)
+      → IfSome (w.types qs x) (IsMeaning (with_entries base w.symbols))
+  pub names : (qs : List Word) (x : Word)
+      → IfSome (w.names qs x) (IsSymbol (with_entries base w.symbols))
+  pub constructors : (k : ℕ) → IsSymbol (with_entries base w.symbols) k
+      → (symbol_or w.symbols k).kind ≡ Constructor → IsTrue (base.matched k)
 
 abbrev pub HasTuple : Vocabulary → Where → ℕ → Type 0
 HasTuple base w n = IsSomeAnd (w.tuples n) (IsTuple (with_entries base w.symbols) n)
@@ -63,7 +68,8 @@ abbrev mutual
   PatternTuples base w (wildcard_pattern i) = Unit {0}
   PatternTuples base w (variable_pattern i x) = Unit {0}
   PatternTuples base w (constructor_pattern i qs x ps) = PatternsTuples base w ps
-  PatternTuples base w (tuple_pattern i ps) = HasTuple base w (count_patterns ps) × PatternsTuples base w ps
+  PatternTuples base w (tuple_pattern i ps) =
+      HasTuple base w (count_patterns ps) × PatternsTuples base w ps
   PatternTuples base w (alias_pattern p i x) = PatternTuples base w p
 
   pub PatternsTuples : Vocabulary → Where → Patterns → Type 0
@@ -72,7 +78,8 @@ abbrev mutual
 
 abbrev pub AlternativesTuples : Vocabulary → Where → Alternatives → Type 0
 AlternativesTuples base w no_alternatives = Unit {0}
-AlternativesTuples base w (more_alternatives i p ps) = PatternTuples base w p × AlternativesTuples base w ps
+AlternativesTuples base w (more_alternatives i p ps) =
+    PatternTuples base w p × AlternativesTuples base w ps
 
 abbrev mutual
   pub HasTuples : Vocabulary → Where → Expression → Type 0
@@ -81,15 +88,18 @@ abbrev mutual
   HasTuples base w (integer_expression i z) = Unit {0}
   HasTuples base w (true_expression i) = Unit {0}
   HasTuples base w (false_expression i) = Unit {0}
-  HasTuples base w (tuple_expression i es) = HasTuple base w (count_expressions es) × HaveTuples base w es
+  HasTuples base w (tuple_expression i es) =
+      HasTuple base w (count_expressions es) × HaveTuples base w es
   HasTuples base w (cast_expression i e f) = HasTuples base w e × FormTuples base w f
   HasTuples base w (not_expression i e) = HasTuples base w e
   HasTuples base w (connected_expression i a o b) = HasTuples base w a × HasTuples base w b
   HasTuples base w (equality_expression i same a b) = HasTuples base w a × HasTuples base w b
-  HasTuples base w (if_expression i c a b) = HasTuples base w c × HasTuples base w a × HasTuples base w b
+  HasTuples base w (if_expression i c a b) =
+      HasTuples base w c × HasTuples base w a × HasTuples base w b
   HasTuples base w (let_expression i x a b) = HasTuples base w a × HasTuples base w b
   HasTuples base w (match_expression i is_let e bs) = HasTuples base w e × BranchesTuples base w bs
-  HasTuples base w (quantified_expression i all bs gs b) = BindersTuples base w bs × HaveTuples base w gs × HasTuples base w b
+  HasTuples base w (quantified_expression i all bs gs b) =
+      BindersTuples base w bs × HaveTuples base w gs × HasTuples base w b
 
   pub HaveTuples : Vocabulary → Where → Expressions → Type 0
   HaveTuples base w no_expressions = Unit {0}
@@ -97,4 +107,5 @@ abbrev mutual
 
   pub BranchesTuples : Vocabulary → Where → MatchBranches → Type 0
   BranchesTuples base w no_branches = Unit {0}
-  BranchesTuples base w (more_branches ps b bs) = AlternativesTuples base w ps × HasTuples base w b × BranchesTuples base w bs
+  BranchesTuples base w (more_branches ps b bs) =
+      AlternativesTuples base w ps × HasTuples base w b × BranchesTuples base w bs

@@ -1,5 +1,6 @@
--- When what is known while a source is typed is sound: declarations are valid where they are, signature, scopes and moves are typed
--- over what they make, and each goal is well formed after the declarations before it.
+-- When what is known while a source is typed is sound: declarations are valid where they are,
+-- signature, scopes and moves are typed over what they make, and each goal is well formed after the
+-- declarations before it.
 use Rattle.std.specs.Prelude.{◌≡◌, ◌≢◌, ℕ, ◌<◌, ◌≤◌, not, Bool, false, List, [], ◌∷◌, ◌++◌, map, length, slice_get, take, All, AllPairs, Some}
 use Rattle.std.specs.List.{filter, Contains, range_with_len}
 use Rattle.std.specs.Str.{bytes_eq}
@@ -29,7 +30,8 @@ abbrev pub others : List ℕ → List DeclarationTree → List DeclarationTree
 others path ds = filter (is_other path) ds
 
 -- a goal among declarations, after the first of them
-pub record IsSoundAmong (symbols : List SymbolTree) (ds : List DeclarationTree) (g : GoalTree) : Type 0 where
+pub record IsSoundAmong (symbols : List SymbolTree) (ds : List DeclarationTree)
+    (g : GoalTree) : Type 0 where
   pub before : g.before ≤ length ds
   pub sound : IsSoundAfter symbols (take g.before ds) g
 
@@ -39,9 +41,11 @@ pub record IsSoundAxiom (decls : List DeclarationTree) (a : AxiomAt) : Type 0 wh
   pub count : (d : DeclarationTree) → slice_get decls a.decl ≡ Some d → d.vars ≡ length a.vars
   pub quoted : All IsQuoted a.vars
 
--- a theory over a signature, of which all entries by now are more, with the places of its declarations, its goals and moves; the
--- declarations of other theories are sound by themselves
-pub record IsSoundTheory (s : List Tree) (all symbols : List SymbolTree) (decls : List DeclarationTree) (path visible : List ℕ) (axioms : List AxiomAt) (goals : List GoalTree) (moves : List Move) : Type 0 where
+-- a theory over a signature, of which all entries by now are more, with the places of its
+-- declarations, its goals and moves; the declarations of other theories are sound by themselves
+pub record IsSoundTheory (s : List Tree) (all symbols : List SymbolTree)
+    (decls : List DeclarationTree) (path visible : List ℕ) (axioms : List AxiomAt)
+    (goals : List GoalTree) (moves : List Move) : Type 0 where
   pub sound : AreSound symbols (at_places decls visible)
   pub others : AreSound symbols (others path (at_places decls visible))
   pub signature : IsTypedSignature (after symbols [] (at_places decls visible)) symbols
@@ -53,7 +57,8 @@ pub record IsSoundTheory (s : List Tree) (all symbols : List SymbolTree) (decls 
   pub whole : IsWhole decls visible
 
 -- a theory before the open one
-pub record IsSoundKnown (s : List Tree) (all : List SymbolTree) (decls : List DeclarationTree) (t : KnownTree) : Type 0 where
+pub record IsSoundKnown (s : List Tree) (all : List SymbolTree) (decls : List DeclarationTree)
+    (t : KnownTree) : Type 0 where
   pub earlier : List SymbolTree
   pub later : List SymbolTree
   pub symbols : all ≡ earlier ++ later
@@ -64,12 +69,14 @@ abbrev pub IsApart : List DeclarationTree → List ℕ → KnownTree → Type 0
 IsApart decls path t = All (λ (d : DeclarationTree). d.theory ≢ path) (at_places decls t.visible)
 
 -- the open theory, whose own declarations are all visible
-pub record IsSoundOpened (s : List Tree) (all : List SymbolTree) (decls : List DeclarationTree) (o : OpenedTree) : Type 0 where
+pub record IsSoundOpened (s : List Tree) (all : List SymbolTree) (decls : List DeclarationTree)
+    (o : OpenedTree) : Type 0 where
   pub named : is_empty o.path ≡ false
   pub source : bytes_eq o.path builtin ≡ false
   pub theory : IsSoundTheory s all all decls o.path o.visible o.axioms o.goals o.moves
   pub scopes : AreTypedScopes (after all [] (at_places decls o.visible)) s o.scope
-  pub own : (k : ℕ) (d : DeclarationTree) → slice_get decls k ≡ Some d → d.theory ≡ o.path → Contains o.visible k
+  pub own : (k : ℕ) (d : DeclarationTree) → slice_get decls k ≡ Some d → d.theory ≡ o.path
+      → Contains o.visible k
 
 abbrev pub paths : List KnownTree → List (List ℕ)
 paths ts = map (λ (t : KnownTree). t.path) ts
@@ -85,14 +92,17 @@ pub record IsSoundState (c : StateTree) : Type 0 where
   pub of : AreOf (c.opened.path ∷ paths c.known) c.decls
 
 -- theories, where none is open
-pub record AreSoundTheories (s : List Tree) (symbols : List SymbolTree) (decls : List DeclarationTree) (ts : List KnownTree) : Type 0 where
+pub record AreSoundTheories (s : List Tree) (symbols : List SymbolTree)
+    (decls : List DeclarationTree) (ts : List KnownTree) : Type 0 where
   pub built : IsBuiltRight symbols
   pub scoped : All IsScopedEntry symbols
   pub known : All (IsSoundKnown s symbols decls) ts
   pub of : AreOf (paths ts) decls
 
--- a state after another one in the same theory, with further entries, declarations of the theory, axioms, goals and moves
-pub record IsAfter (c c' : StateTree) (more : List SymbolTree) (new : List DeclarationTree) (axioms : List AxiomAt) (goals : List GoalTree) (moves : List Move) : Type 0 where
+-- a state after another one in the same theory, with further entries, declarations of the theory,
+-- axioms, goals and moves
+pub record IsAfter (c c' : StateTree) (more : List SymbolTree) (new : List DeclarationTree)
+    (axioms : List AxiomAt) (goals : List GoalTree) (moves : List Move) : Type 0 where
   pub trees : Grows c.trees c'.trees
   pub symbols : c'.symbols ≡ c.symbols ++ more
   pub decls : c'.decls ≡ c.decls ++ new
@@ -105,7 +115,8 @@ pub record IsAfter (c c' : StateTree) (more : List SymbolTree) (new : List Decla
   pub moves_are : c'.opened.moves ≡ c.opened.moves ++ moves
 
 -- these, and the scope, are sound after what was visible
-pub record IsSoundAddition (c c' : StateTree) (new : List DeclarationTree) (axioms : List AxiomAt) (goals : List GoalTree) (moves : List Move) : Type 0 where
+pub record IsSoundAddition (c c' : StateTree) (new : List DeclarationTree) (axioms : List AxiomAt)
+    (goals : List GoalTree) (moves : List Move) : Type 0 where
   pub sound : AreSound c'.symbols (visible_now c ++ new)
   pub signature : IsTypedSignature (after c'.symbols [] (visible_now c ++ new)) c'.symbols
   pub scopes : AreTypedScopes (after c'.symbols [] (visible_now c ++ new)) c'.trees c'.opened.scope

@@ -1,4 +1,5 @@
--- What a clone makes of a theory's declarations, one after the other, beside what is there (Why3 manual, "theory cloning").
+-- What a clone makes of a theory's declarations, one after the other, beside what is there (Why3
+-- manual, "theory cloning").
 use Rattle.std.specs.Prelude.{◌≡◌, ◌≢◌, ℕ, if◌then◌else◌, false, List, [], ◌∷◌, ◌++◌, map, All}
 use Rattle.std.specs.List.{Contains}
 use Rattle.std.specs.Str.{bytes_eq}
@@ -13,7 +14,8 @@ use Rattle.elaboration_laws.specs.Tasks.{AreSound}
 use Rattle.elaboration_laws.specs.Joined.{has_theory, Agree}
 use Rattle.elaboration_laws.specs.Cloning.{IsImage, BecomesNew, IsFixed, KeepsBuilt}
 
--- an own declaration is copied or left out; one of another theory is joined, unless declarations of that theory are there
+-- an own declaration is copied or left out; one of another theory is joined, unless declarations of
+-- that theory are there
 pub data CopyStep : Type 0 where
   copies : DeclarationTree → CopyStep
   leaves : DeclarationTree → CopyStep
@@ -39,18 +41,28 @@ made_of m theory within first (copies d) = declaration_copied m theory within d 
 made_of m theory within first (leaves d) = []
 made_of m theory within first (joins d) = if has_theory first d.theory then [] else d ∷ []
 
-abbrev pub made_from : Map → List ℕ → List ℕ → List DeclarationTree → List CopyStep → List DeclarationTree
+abbrev pub made_from : Map → List ℕ → List ℕ → List DeclarationTree → List CopyStep
+    → List DeclarationTree
 made_from m theory within first [] = []
-made_from m theory within first (s ∷ ss) = made_of m theory within first s ++ made_from m theory within first ss
+made_from m theory within first (s ∷ ss) =
+    made_of m theory within first s ++ made_from m theory within first ss
 
--- a symbol of a copied declaration is new; one that is left out became a symbol that is there; one of another theory stays
-abbrev pub StepFits : List SymbolTree → Map → List SymbolTree → List ℕ → List ℕ → List DeclarationTree → CopyStep → Type 0
-StepFits xs m symbols theory within first (copies d) = All (λ (k : ℕ). BecomesNew xs symbols m theory within k × (Contains (made first) (m.symbols k) → ⊥)) (made_by d.body)
-StepFits xs m symbols theory within first (leaves d) = All (λ (k : ℕ). IsImage (after symbols [] first) m (symbol_or xs k) k (is_constructor (role_in k d.body))) (made_by d.body)
-StepFits xs m symbols theory within first (joins d) = All (IsFixed m) (made_by d.body) × (d.theory ≢ theory)
+-- a symbol of a copied declaration is new; one that is left out became a symbol that is there; one
+-- of another theory stays
+abbrev pub StepFits : List SymbolTree → Map → List SymbolTree → List ℕ → List ℕ
+    → List DeclarationTree → CopyStep → Type 0
+StepFits xs m symbols theory within first (copies d) =
+    All (λ (k : ℕ). BecomesNew xs symbols m theory within k
+    × (Contains (made first) (m.symbols k) → ⊥)) (made_by d.body)
+StepFits xs m symbols theory within first (leaves d) =
+    All (λ (k : ℕ). IsImage (after symbols [] first) m (symbol_or xs k) k
+    (is_constructor (role_in k d.body))) (made_by d.body)
+StepFits xs m symbols theory within first (joins d) =
+    All (IsFixed m) (made_by d.body) × (d.theory ≢ theory)
 
 -- sound declarations over a signature are cloned beside sound ones over a later signature
-pub record IsClone (xs more : List SymbolTree) (m : Map) (theory within : List ℕ) (first : List DeclarationTree) (ss : List CopyStep) : Type 0 where
+pub record IsClone (xs more : List SymbolTree) (m : Map) (theory within : List ℕ)
+    (first : List DeclarationTree) (ss : List CopyStep) : Type 0 where
   pub source : AreSound xs (declarations_of ss)
   pub others : AreSound xs (taken_of ss)
   pub first_sound : AreSound (xs ++ more) first

@@ -13,6 +13,7 @@ pub record IsFitMatch (symbols : List SymbolTree) (m : ℕ × List Tree) : Type 
   pub one_type : HaveOneType m.1
 
 -- the signature and scopes are typed, over a store
-pub record IsTypedOver (s : List Tree) (symbols : List SymbolTree) (names : ScopeNames) : Type 0 where
+pub record IsTypedOver (s : List Tree) (symbols : List SymbolTree)
+    (names : ScopeNames) : Type 0 where
   pub signature : IsTypedSignature (of_signature symbols) symbols
   pub scopes : AreTypedScopes (of_signature symbols) s names

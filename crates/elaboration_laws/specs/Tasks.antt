@@ -39,7 +39,8 @@ pub record IsQuotedAt (symbols : List SymbolTree) (k : ℕ) : Type 0 where
   pub entry : slice_get symbols k ≡ Some (rigid_symbol name)
 
 -- a goal after declarations
-pub record IsSoundGoal (symbols : List SymbolTree) (ds : List DeclarationTree) (g : GoalTree) : Type 0 where
+pub record IsSoundGoal (symbols : List SymbolTree) (ds : List DeclarationTree)
+    (g : GoalTree) : Type 0 where
   pub rigid : All (IsQuotedAt symbols) g.rigid
   pub once : AllPairs (λ j k. j ≢ k) g.rigid
   pub formula : IsFormulaOver (after symbols g.rigid ds) [] 0 g.prop
@@ -57,6 +58,7 @@ pub record IsGoalSaid (said : List DeclarationTree) (own : List ℕ) (g : GoalTr
   pub rigid : g.rigid ≡ own
 
 -- a goal is after sound declarations, and is well formed
-pub record IsSoundAfter (symbols : List SymbolTree) (ds : List DeclarationTree) (g : GoalTree) : Type 0 where
+pub record IsSoundAfter (symbols : List SymbolTree) (ds : List DeclarationTree)
+    (g : GoalTree) : Type 0 where
   pub before : AreSound symbols ds
   pub goal : IsSoundGoal symbols ds g

@@ -1,5 +1,5 @@
--- Two maps that agree on what becomes of symbols below a number: a trial map, under which all types that aren't replaced are new, and
--- the map of a clone.
+-- Two maps that agree on what becomes of symbols below a number: a trial map, under which all types
+-- that aren't replaced are new, and the map of a clone.
 use Rattle.std.specs.Prelude.{◌≡◌, ℕ, ◌<◌, None}
 use Rattle.clones.specs.Mapped.{Map}
 

@@ -27,14 +27,17 @@ pub record IsTypeOf (v : Vocabulary) (t : Tree) : Type 0 where
   pub typed : TypedUnder v [] t
 
 -- a term of this type, or a formula, under variables of these types
-pub record IsTypedAs (v : Vocabulary) (types : List Tree) (t : Option Tree) (e : Tree) : Type 0 where
+pub record IsTypedAs (v : Vocabulary) (types : List Tree) (t : Option Tree)
+    (e : Tree) : Type 0 where
   pub typed : TypedUnder v types e
   pub sort : sort_of e ≡ due_sort t
   pub type : type_of e ≡ t
   pub parameters : ParametersOf [] e
 
--- an expression whose names are there, under these variables, where a term of a type or a formula is due
-pub record IsNamedExpression (base : Vocabulary) (w : Where) (ls : List LocalTree) (t : Option Tree) (e : Expression) : Type 0 where
+-- an expression whose names are there, under these variables, where a term of a type or a formula
+-- is due
+pub record IsNamedExpression (base : Vocabulary) (w : Where) (ls : List LocalTree) (t : Option Tree)
+    (e : Expression) : Type 0 where
   pub signature : IsWellFormed base w
   pub tuples : HasTuples base w e
   pub named : fault w false (names ls) (is_none t) e ≡ None
@@ -53,12 +56,14 @@ pub record AreTypedLocals (v : Vocabulary) (ls : List LocalTree) (t : Option Tre
   pub wanted : IfSome t (IsTypeOf v)
 
 -- at the declaration's own type variables, of which there are so many
-pub record AreTypesIn (v : Vocabulary) (vars : ℕ) (ls : List LocalTree) (t : Option Tree) : Type 0 where
+pub record AreTypesIn (v : Vocabulary) (vars : ℕ) (ls : List LocalTree)
+    (t : Option Tree) : Type 0 where
   pub variables : All (λ (l : LocalTree). IsTypeIn v vars l.type) ls
   pub wanted : IfSome t (IsTypeIn v vars)
 
 -- well typed, with the declaration's own type variables alone
-pub record IsTypedIn (v : Vocabulary) (vars : ℕ) (types : List Tree) (t : Option Tree) (e : Tree) : Type 0 where
+pub record IsTypedIn (v : Vocabulary) (vars : ℕ) (types : List Tree) (t : Option Tree)
+    (e : Tree) : Type 0 where
   pub typed : IsTypedAs v types t e
   pub variables : VariablesBelow vars e
 

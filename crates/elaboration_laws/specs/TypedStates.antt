@@ -11,13 +11,22 @@ use Rattle.theory_states.specs.States.{KnownTree, StateTree}
 
 -- where a declaration stands
 abbrev pub state_setting : StateTree → Setting
-state_setting c = record { theory = c.opened.path; within = c.opened.within; decl = c.number; trees = c.trees; symbols = c.symbols; scope = c.opened.scope }
+state_setting c = record {
+  theory = c.opened.path;
+  within = c.opened.within;
+  decl =
+      c.number;
+  trees = c.trees;
+  symbols = c.symbols;
+  scope = c.opened.scope;
+}
 
 -- the signature is typed, and so are the names that the theories before pass on
 pub record AreTypedTheories (c : StateTree) : Type 0 where
   pub signature : IsTypedSignature (of_signature c.symbols) c.symbols
   pub built : IsBuiltRight c.symbols
-  pub known : All (λ (t : KnownTree). AreTypedMoves (of_signature c.symbols) c.trees t.moves) c.known
+  pub known : All (λ (t : KnownTree).
+      AreTypedMoves (of_signature c.symbols) c.trees t.moves) c.known
 
 -- and so are the names of the open theory, whose path isn't that of what is built in
 pub record IsTypedState (c : StateTree) : Type 0 where

@@ -1,4 +1,5 @@
--- The checks that fail of the names that a declaration uses, in no order, and of those that it makes (Why3 manual, "logical declarations").
+-- The checks that fail of the names that a declaration uses, in no order, and of those that it
+-- makes (Why3 manual, "logical declarations").
 use Rattle.std.specs.Prelude.{◌≡◌, Bool, true, false, ◌||◌, List, [], ◌∷◌, ◌++◌, reverse, Option, Some, None, ◌⊎◌}
 use Rattle.std.specs.Option.{is_none, is_some}
 use Rattle.elab_groups.specs.surface.Lexeme.{Word}
@@ -23,10 +24,13 @@ ParamsFail w (p ∷ ps) g = FormFails w true p.of_type g ⊎ ParamsFail w ps g
 
 abbrev pub BodyFails : Where → GroupMember → List Word → Option Expression → NamingFault → Type 0
 BodyFails w m vars None g = ⊥
-BodyFails w m vars (Some e) g = NamesFail (with_vars w vars) false (reverse (words_of_parameters m.params)) (is_none m.result) e g
+BodyFails w m vars (Some e) g =
+    NamesFail (with_vars w vars) false (reverse (words_of_parameters m.params))
+    (is_none m.result) e g
 
 abbrev pub MemberFails : Where → GroupMember → NamingFault → Type 0
-MemberFails w m g = ParamsFail w m.params g ⊎ (TypeFails w true m.result g ⊎ BodyFails w m (own_variables m) m.body g)
+MemberFails w m g = ParamsFail w m.params g
+    ⊎ (TypeFails w true m.result g ⊎ BodyFails w m (own_variables m) m.body g)
 
 abbrev pub MembersFail : Where → List GroupMember → NamingFault → Type 0
 MembersFail w [] g = ⊥
@@ -38,7 +42,8 @@ ConstructorsFail w (c ∷ cs) g = FormsFail w false c.fields g ⊎ ConstructorsF
 
 abbrev pub TypesFail : Where → List AlgebraicType → NamingFault → Type 0
 TypesFail w [] g = ⊥
-TypesFail w (a ∷ ts) g = ConstructorsFail (with_vars w (words a.vars)) a.constructors g ⊎ TypesFail w ts g
+TypesFail w (a ∷ ts) g =
+    ConstructorsFail (with_vars w (words a.vars)) a.constructors g ⊎ TypesFail w ts g
 
 -- the parameters of an inductive predicate aren't variables of its clauses
 abbrev pub ClausesFail : Where → List InductiveClause → NamingFault → Type 0
@@ -47,7 +52,8 @@ ClausesFail w (c ∷ cs) g = NamesFail w true [] true c.prop g ⊎ ClausesFail w
 
 abbrev pub InductivesFail : Where → List InductivePredicate → NamingFault → Type 0
 InductivesFail w [] g = ⊥
-InductivesFail w (d ∷ ds) g = ParamsFail w d.params g ⊎ (ClausesFail w d.clauses g ⊎ InductivesFail w ds g)
+InductivesFail w (d ∷ ds) g =
+    ParamsFail w d.params g ⊎ (ClausesFail w d.clauses g ⊎ InductivesFail w ds g)
 
 -- of the names that a declaration uses
 abbrev pub UsesFail : Setting → Declaration → NamingFault → Type 0
@@ -61,10 +67,15 @@ UsesFail c _ g = ⊥
 -- of names in a list, after these: the second of two equal ones
 abbrev pub ListFails : List Word → List TokenName → NamingFault → Type 0
 ListFails seen [] g = ⊥
-ListFails seen (c ∷ cs) g = (fault_if (is_some (place_of c.name seen)) (Duplicate c.at) ≡ Some g) ⊎ ListFails (seen ++ c.name ∷ []) cs g
+ListFails seen (c ∷ cs) g = (fault_if (is_some (place_of c.name seen)) (Duplicate c.at) ≡ Some g)
+    ⊎ ListFails (seen ++ c.name ∷ []) cs g
 
--- of the names that a declaration makes, after these: one that the scope declared or that was made before, or twice in a list
+-- of the names that a declaration makes, after these: one that the scope declared or that was made
+-- before, or twice in a list
 abbrev pub MadeFails : (Table → Word → Bool) → List Made → List Made → NamingFault → Type 0
 MadeFails declared before [] g = ⊥
-MadeFails declared before (makes t c ∷ ms) g = (fault_if (declared t c.name || made_before t c.name before) (Duplicate c.at) ≡ Some g) ⊎ MadeFails declared (makes t c ∷ before) ms g
-MadeFails declared before (binds_names cs ∷ ms) g = ListFails [] cs g ⊎ MadeFails declared (binds_names cs ∷ before) ms g
+MadeFails declared before (makes t c ∷ ms) g =
+    (fault_if (declared t c.name || made_before t c.name before) (Duplicate c.at) ≡ Some g)
+    ⊎ MadeFails declared (makes t c ∷ before) ms g
+MadeFails declared before (binds_names cs ∷ ms) g =
+    ListFails [] cs g ⊎ MadeFails declared (binds_names cs ∷ before) ms g

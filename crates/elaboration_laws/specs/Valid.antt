@@ -1,4 +1,5 @@
--- What a declaration makes is valid over the signature that it extends, and keeps signature and scopes typed.
+-- What a declaration makes is valid over the signature that it extends, and keeps signature and
+-- scopes typed.
 use Rattle.std.specs.Prelude.{ℕ, reverse, length, Some, IsTrue, ◌≡◌, false, List, ◌++◌, All}
 use Rattle.std.specs.Str.{bytes_eq}
 use Rattle.elab_groups.specs.trees.Tree.{Tree}
@@ -20,7 +21,8 @@ use Rattle.elaboration_laws.specs.Signature.{with_entries}
 use Rattle.elaboration_laws.specs.Typed.{IsTypedIn}
 use Rattle.elaboration_laws.specs.Scopes.{NamesNew, IsTypedSignature, AreTypedScopes}
 
--- where the signature and the scopes are typed, in a theory with a name, which isn't that of what is built in
+-- where the signature and the scopes are typed, in a theory with a name, which isn't that of what
+-- is built in
 pub record IsTypedSetting (base : Vocabulary) (c : Setting) : Type 0 where
   pub theory : is_empty c.theory ≡ false
   pub source : bytes_eq c.theory builtin ≡ false
@@ -47,7 +49,8 @@ abbrev pub MayName : Vocabulary → Setting → Outcome → Type 0
 MayName base c o = NamesNew base (length c.symbols) (c.symbols ++ o.symbols)
 
 -- signature and scopes are typed again, over a store
-pub record IsTypedOutcome (base : Vocabulary) (c : Setting) (s : List Tree) (o : Outcome) : Type 0 where
+pub record IsTypedOutcome (base : Vocabulary) (c : Setting) (s : List Tree)
+    (o : Outcome) : Type 0 where
   pub signature : IsTypedSignature base (c.symbols ++ o.symbols)
   pub scopes : AreTypedScopes (with_entries base (c.symbols ++ o.symbols)) s o.scope
 
@@ -57,24 +60,33 @@ MayNameRigid base (proposition_declaration Goal x e) ks = All (λ (k : ℕ). IsT
 MayNameRigid base _ ks = Unit {0}
 
 -- over a store
-pub record IsValidOutcome (base : Vocabulary) (c : Setting) (s : List Tree) (o : Outcome) : Type 0 where
+pub record IsValidOutcome (base : Vocabulary) (c : Setting) (s : List Tree)
+    (o : Outcome) : Type 0 where
   pub signature : IsTypedSignature base (c.symbols ++ o.symbols)
   pub scopes : AreTypedScopes (with_entries base (c.symbols ++ o.symbols)) s o.scope
   pub decls : All (IsValidDecl (with_entries base (c.symbols ++ o.symbols))) o.decls
 
--- a symbol of a vocabulary with a body of its type under its parameters, and the equation of these without its quantifiers
+-- a symbol of a vocabulary with a body of its type under its parameters, and the equation of these
+-- without its quantifiers
 pub record IsDefinedBy (v : Vocabulary) (k : ℕ) (body inner : Tree) : Type 0 where
   pub signature : IsSignatureOf v k
   pub usable : IsTrue (v.usable k)
-  pub equation : equated (symbol_or v.symbols k).kind k (cells (type_variables 0 (symbol_or v.symbols k).vars)) (cells (bound_variables (symbol_or v.symbols k).args)) (symbol_or v.symbols k).result body ≡ Some inner
-  pub typed : IsTypedIn v (symbol_or v.symbols k).vars (reverse (symbol_or v.symbols k).args) (symbol_or v.symbols k).result body
+  pub equation : equated (symbol_or v.symbols k).kind k
+      (cells (type_variables 0 (symbol_or v.symbols k).vars))
+      (cells (bound_variables (symbol_or v.symbols k).args)) (symbol_or v.symbols k).result body
+      ≡ Some inner
+  pub typed : IsTypedIn v (symbol_or v.symbols k).vars (reverse (symbol_or v.symbols k).args)
+      (symbol_or v.symbols k).result body
   pub fits : IndicesFit (for_all (symbol_or v.symbols k).args inner)
 
 abbrev pub definition_by : Vocabulary → ℕ → Tree → DefinitionTree
-definition_by v k inner = record { symbol = k; equation = for_all (symbol_or v.symbols k).args inner }
+definition_by v k inner =
+    record { symbol = k; equation = for_all (symbol_or v.symbols k).args inner }
 
 -- what is elaborated is valid over the signature afterwards
-pub record IsValidElaborated (base : Vocabulary) (s : List Tree) (g : Signature) (names : ScopeNames) (made : Elaborated) : Type 0 where
+pub record IsValidElaborated (base : Vocabulary) (s : List Tree) (g : Signature)
+    (names : ScopeNames) (made : Elaborated) : Type 0 where
   pub signature : IsTypedSignature base (symbols_at s g.symbols)
   pub scopes : AreTypedScopes (with_entries base (symbols_at s g.symbols)) s names
-  pub decls : All (IsValidDecl (with_entries base (symbols_at s g.symbols))) (declarations_at s made.decls)
+  pub decls : All (IsValidDecl (with_entries base (symbols_at s g.symbols)))
+      (declarations_at s made.decls)
