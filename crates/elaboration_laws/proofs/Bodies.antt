@@ -201,7 +201,7 @@ module _ (r own : ℕ) (f g : ℕ → Tree) where
   solved_narrowed [] x s = tt
   solved_narrowed (e ∷ es) x s = (tree_narrowed e.0 x.0.0 ∙ ap (narrow own) s.0 ∙ sym (tree_narrowed e.1 x.0.1), solved_narrowed es x.1 s.1)
 
-both_solved : (r : ℕ) (f : ℕ → Tree) (xs ys : List (Tree × Tree)) → SolvesAll r f xs → SolvesAll r f ys → SolvesAll r f (xs ++ ys)
+pub both_solved : (r : ℕ) (f : ℕ → Tree) (xs ys : List (Tree × Tree)) → SolvesAll r f xs → SolvesAll r f ys → SolvesAll r f (xs ++ ys)
 both_solved r f [] ys x y = y
 both_solved r f (e ∷ es) ys x y = (x.0, both_solved r f es ys x.1 y)
 

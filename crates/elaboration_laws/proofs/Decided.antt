@@ -15,6 +15,7 @@ use Rattle.elaboration_laws.specs.Typed.{IsNamedExpression}
 use Rattle.elaboration_laws.specs.Typings.{Choice, tokens, choices_from, chosen_types, ElaboratesTo, IsPieceAt, HasOwnTypes, IsFirstDifference, IsOnlyTyping}
 use Rattle.elaboration_laws.proofs.TypingSolutions.{is_piece_at}
 use Rattle.elaboration_laws.proofs.SolutionTypings.{has_typing}
+pub use Rattle.elaboration_laws.proofs.TypingSolutions.{some_same}
 
 pub tokens_from : (f : ℕ → Tree) (n : ℕ) (xs : List ℕ) → tokens (choices_from f n xs) ≡ xs
 tokens_from f n [] = refl
@@ -34,9 +35,6 @@ pub type_at : (cs : List Choice) (j : ℕ) (d : Choice) → j < length cs → sl
 type_at [] j d l = absurd (omega arith)
 type_at (c ∷ cs) zero d l = refl
 type_at (c ∷ cs) (suc j) d l = type_at cs j d (omega arith)
-
-pub some_same : (a b : Tree) → Some a ≡ Some b → a ≡ b
-some_same a b h = cc (h)
 
 pub first_solved : (r : ℕ) (f : ℕ → Tree) (k : ℕ) (es : List (Tree × Tree)) → SolvesAll r f es → SolvesAll r f (take k es)
 first_solved r f zero es h = tt

@@ -1,13 +1,12 @@
 -- What a map of a clone takes symbols and type symbols to: each is new, or is replaced, or stays.
 use Rattle.std.proofs.Common.{◌≡◌, ℕ, ◌+◌, ◌==◌, if◌then◌else◌, suc, Bool, true, false, List, [], ◌∷◌, slice_get, Some, IfSome, refl, subst, arith}
 use Rattle.std.specs.List.{Contains}
-use Rattle.std.proofs.lemmas.Bool.Decides.{nat_tests}
 use Rattle.elab_groups.specs.trees.Tree.{Tree}
 use Rattle.clones.specs.Mapped.{Map}
 use Rattle.clones.specs.clone_elements.Plans.{same_map, with_symbol, with_type, with_numbers, with_symbols, with_mapped_types, map_of}
 use Rattle.elab_groups.proofs.plain_laws.Bools.{same_number}
 
-here : {X : Type 0} (x : X) (xs : List X) → Contains (x ∷ xs) x
+pub here : {X : Type 0} (x : X) (xs : List X) → Contains (x ∷ xs) x
 here x xs = (0, omega arith, refl)
 
 pub later : {X : Type 0} (y x : X) (xs : List X) → Contains xs x → Contains (y ∷ xs) x

@@ -7,7 +7,7 @@ use Rattle.std.proofs.lemmas.Bool.Decides.{nat_tests}
 use Rattle.std.proofs.lemmas.List.Concat.{flat_map-append}
 use Rattle.std.proofs.lemmas.List.Elements.{All-head, All-tail, Contains-get_or, Contains-append_left, Contains-append_right, Contains-append_cases}
 use Rattle.elab_groups.specs.tasks.Task.{DeclarationTree}
-use Rattle.elaboration_laws.proofs.Words.{same_word, self_word}
+use Rattle.elaboration_laws.proofs.Words.{same_word}
 use Rattle.theory_states.specs.States.{at_places, joined_places}
 use Rattle.elaboration_laws.specs.Joined.{has_theory, fresh, Agree}
 use Rattle.elaboration_laws.proofs.Distinct.{IsDistinct}
@@ -15,6 +15,7 @@ use Rattle.elaboration_laws.specs.Whole.{IsWhole}
 use Rattle.elaboration_laws.proofs.Joined.{theory_there as in_theory}
 use Rattle.elaboration_laws.proofs.Names.{same_number as itself}
 use Rattle.elaboration_laws.proofs.Numbers.{later}
+pub use Rattle.elaboration_laws.proofs.Numbers.{here}
 
 -- ---- lists of numbers
 pub none_here : {X : Type 0} (x : X) → Contains [] x → ⊥
@@ -23,9 +24,6 @@ none_here x c = omega (arith, c.1)
 pub cases_of : {X : Type 0} (y x : X) (xs : List X) → Contains (y ∷ xs) x → (y ≡ x) ⊎ Contains xs x
 cases_of y x xs (zero, l, e) = inl e
 cases_of y x xs (suc j, l, e) = inr (j, omega (arith, l), e)
-
-pub here : {X : Type 0} (x : X) (xs : List X) → Contains (x ∷ xs) x
-here x xs = (0, omega arith, refl)
 
 same_number : (a b : ℕ) → nat_eq a b ≡ true → a ≡ b
 same_number a b q = grind (arith, nat_tests)

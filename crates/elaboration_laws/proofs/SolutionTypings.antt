@@ -38,6 +38,8 @@ use Rattle.elaboration_laws.specs.Typings.{IsDueResult, choices_from, Choice, ch
 use Rattle.elab_groups.specs.Groups.{typed_locals}
 use Rattle.elaboration_laws.proofs.TypingSolutions.{at_local, at_locals, at_use, use_same, UseScoped, use_scoped, names_at, inside_at, type_same, one_at, parameters_at, types_tree, count_variables, AreMatchedAt, first_at, arms_at, typed_at, form_at, quantify_at, equality_at, locals_own, wanted_own}
 use Rattle.elaboration_laws.proofs.Expressions.{names_inside}
+use Rattle.elaboration_laws.proofs.Patterns.{constructor_is as is_constructor}
+use Rattle.elaboration_laws.proofs.Signed.{is_predicate_kind}
 
 pub parts_solved : (r : ℕ) (f : ℕ → Tree) (es fs : List (Tree × Tree)) → SolvesAll r f (es ++ fs) → SolvesAll r f es × SolvesAll r f fs
 parts_solved r f [] fs h = (tt, h)
@@ -53,14 +55,6 @@ choices_both f n (x ∷ xs) ys =
 pub both_typed : {A B C : Type 0} {P : A → List Choice → Type 0} {Q : B → List Choice → Type 0} (make : A → B → C) (f : ℕ → Tree) (n : ℕ) (xs ys : List ℕ) (a : A) (b : B) (it : C) → it ≡ make a b
     → P a (choices_from f n xs) → Q b (choices_from f (n + length xs) ys) → Both P Q make it (choices_from f n (xs ++ ys))
 both_typed make f n xs ys a b it e x y = record { first = a; second = b; first_chosen = choices_from f n xs; second_chosen = choices_from f (n + length xs) ys; first_is = x; second_is = y; made = e; chosen = choices_both f n xs ys }
-
-is_predicate_kind : (k : SymbolKind) → is_predicate k ≡ true → k ≡ Predicate
-is_predicate_kind Predicate h = refl
-is_predicate_kind _ h = absurd (cc (h))
-
-is_constructor : (k : SymbolKind) → is_constructor_kind k ≡ true → k ≡ Constructor
-is_constructor Constructor h = refl
-is_constructor _ h = absurd (cc (h))
 
 makes_terms : (k : SymbolKind) → is_predicate k ≡ false → k ≢ Kind → MakesTerms k
 makes_terms Kind h g = absurd (g refl)

@@ -48,7 +48,7 @@ some_either : (o p : Option DeclarationTree) → IsTrue (is_some p) → IsTrue (
 some_either None p h = h
 some_either (Some d) p h = refl
 
-made_both : (xs ys : List DeclarationTree) → made (xs ++ ys) ≡ made xs ++ made ys
+pub made_both : (xs ys : List DeclarationTree) → made (xs ++ ys) ≡ made xs ++ made ys
 made_both [] ys = refl
 made_both (x ∷ xs) ys = ap (λ (ks : List ℕ). made_by x.body ++ ks) (made_both xs ys) ∙ sym (append_assoc (made_by x.body) (made xs) (made ys))
 

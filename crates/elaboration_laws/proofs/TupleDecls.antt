@@ -1,12 +1,12 @@
 -- The declarations of tuples: which symbols they make, as what, and that they are valid.
-use Rattle.std.proofs.Common.{◌≡◌, ◌≢◌, ◌⊎◌, inl, inr, ℕ, ◌+◌, ◌-◌, ◌<◌, ◌≤◌, ◌==◌, zero, suc, Bool, true, false, List, [], ◌∷◌, ◌++◌, drop, length, get_or, All, Some, IsTrue, codes, decimal, refl, sym, ap, subst, ◌∙◌, arith, append_assoc, append-nil}
+use Rattle.std.proofs.Common.{◌≡◌, ◌≢◌, ◌⊎◌, inl, inr, ℕ, ◌+◌, ◌-◌, ◌<◌, ◌≤◌, ◌==◌, zero, suc, Bool, true, false, List, [], ◌∷◌, ◌++◌, drop, length, get_or, All, Some, IsTrue, codes, decimal, refl, sym, ap, subst, ◌∙◌, arith, append-nil}
 use Rattle.std.specs.List.{flat_map, range_with_len, Contains}
 use Rattle.std.proofs.lemmas.Bool.Decides.{nat_tests}
 use Rattle.std.proofs.lemmas.List.{get_or-take, get_or-drop}
 use Rattle.std.proofs.lemmas.List.Elements.{All-nil, All-cons, Contains-append_left, Contains-append_right}
 use Rattle.elab_groups.specs.trees.Tree.{Tree}
 use Rattle.elab_groups.specs.tasks.declared.signature.SymbolKind.TheVariants.{Kind, Constructor, Projection}
-use Rattle.elab_groups.specs.tasks.Task.{SymbolTree, symbol_or, int_symbol, DeclarationTree, made, made_by}
+use Rattle.elab_groups.specs.tasks.Task.{SymbolTree, symbol_or, int_symbol, DeclarationTree, made}
 use Rattle.elab_groups.specs.tasks.Equations.{type_variables}
 use Rattle.elab_groups.specs.tasks.Vocabulary.{Vocabulary}
 use Rattle.elab_groups.specs.tasks.Typing.{IsTypeSymbol}
@@ -20,12 +20,9 @@ use Rattle.theory_states.specs.goal_tasks.Meaning.{IsTupleAt}
 use Rattle.elaboration_laws.proofs.Kept.{within}
 use Rattle.std.proofs.lemmas.Option.{slice_get-get_or as some_at}
 use Rattle.theory_states.proofs.goal_tasks.TuplesMade.{variables_count as count_variables}
+pub use Rattle.elaboration_laws.proofs.Steps.{made_both}
 
 -- ---- what lists of declarations make
-pub made_both : (xs ys : List DeclarationTree) → made (xs ++ ys) ≡ made xs ++ made ys
-made_both [] ys = refl
-made_both (x ∷ xs) ys = ap (λ (ks : List ℕ). made_by x.body ++ ks) (made_both xs ys) ∙ sym (append_assoc (made_by x.body) (made xs) (made ys))
-
 pub made_flat : (f : ℕ → List DeclarationTree) (xs : List ℕ) (n k : ℕ) → Contains xs n → Contains (made (f n)) k → Contains (made (flat_map f xs)) k
 made_flat f [] n k c d = absurd (omega (arith, c.1))
 made_flat f (x ∷ xs) n k c d = of (contains_cases x n xs c) (λ i. made_flat f xs n k i d)

@@ -33,6 +33,8 @@ use Rattle.elab_groups.proofs.open_types.Quantified.{in_quantified}
 use Rattle.elaboration_laws.proofs.Instances.{inst_assigned, cells_assigned}
 use Rattle.elaboration_laws.proofs.Ordered.{order_at}
 use Rattle.elaboration_laws.proofs.Reordering as order
+pub use Rattle.elaboration_laws.proofs.Bodies.{both_solved as solves_both}
+pub use Rattle.theory_states.proofs.goal_tasks.TuplesMade.{variables_count as count_variables}
 
 -- ---- lists
 pub tokens_both : (cs ds : List Choice) → tokens (cs ++ ds) ≡ tokens cs ++ tokens ds
@@ -48,15 +50,7 @@ count_tokens xs cs e = ap length e ∙ length-map cs (λ (c : Choice). c.token)
 count_choices : (i : ℕ) (ts : List Tree) → length (choices_at i ts) ≡ length ts
 count_choices i ts = length-map ts (λ (t : Tree). record { token = i; type = t })
 
-pub count_variables : (n k : ℕ) → length (type_variables n k) ≡ k
-count_variables n zero = refl
-count_variables n (suc k) = ap suc (count_variables (n + 1) k)
-
-pub solves_both : (r : ℕ) (f : ℕ → Tree) (es fs : List (Tree × Tree)) → SolvesAll r f es → SolvesAll r f fs → SolvesAll r f (es ++ fs)
-solves_both r f [] fs h k = k
-solves_both r f (e ∷ es) fs h k = (h.0, solves_both r f es fs h.1 k)
-
-some_same : (a b : Tree) → Some a ≡ Some b → a ≡ b
+pub some_same : (a b : Tree) → Some a ≡ Some b → a ≡ b
 some_same a b h = cc (h)
 
 module _ (w : Where) (sc : IsScoped w) (r : ℕ) (own : length w.vars ≤ r) (f : ℕ → Tree) (kinds : (j : ℕ) → IsKind (f j)) where

@@ -1,9 +1,8 @@
 -- Occurrences as they are gathered, each once.
-use Rattle.std.proofs.Common.{◌≡◌, ℕ, Bool, true, false, cond, ◌&&◌, ◌||◌, ◌==◌, if◌then◌else◌, List, [], ◌∷◌, ◌++◌, refl, sym, ap, subst, ◌∙◌, arith, IsTrue}
+use Rattle.std.proofs.Common.{◌≡◌, Bool, true, false, ◌||◌, ◌==◌, if◌then◌else◌, List, [], ◌∷◌, ◌++◌, refl, sym, ap, subst, ◌∙◌}
 use Rattle.std.specs.List.{list_any}
 use Rattle.std.proofs.lemmas.List.Folds.{list_any-append}
-use Rattle.std.proofs.lemmas.Bool.Decides.{nat_tests, Decides-eqb}
-use Rattle.trees.specs.Tree.{Tree}
+use Rattle.std.proofs.lemmas.Bool.Decides.{Decides-eqb}
 use Rattle.linear_leaf.specs.Valuations.{same_tree}
 use Rattle.linear_leaf.proofs.SameTree.{same_is, same_refl}
 use Rattle.name_tables.specs.Occurrences.{Occurrence, occurrence, in_type}
@@ -22,7 +21,7 @@ same_occurrence o p h =
 pub same_itself : (o : Occurrence) → is_same o o ≡ true
 same_itself o = let k = (Decides-eqb o.symbol o.symbol).1 refl in let t = same_refl o.types in rw (k, t) refl
 
-or_none : (a : Bool) → (a || false) ≡ a
+pub or_none : (a : Bool) → (a || false) ≡ a
 or_none true = refl
 or_none false = refl
 

@@ -21,6 +21,7 @@ use Rattle.printed_problems.proofs.Finding.{found_bare}
 use Rattle.printed_problems.proofs.First.{formula_rest}
 use Rattle.printed_problems.proofs.Forming.{pass_there, pass_marked}
 use Rattle.tasks.proofs.plain_laws.Bools.{and_first, and_second}
+use Rattle.tasks.proofs.plain_laws.Bools.{negated as not_true}
 
 module _ (s : List Tree) (keys : List (ℕ × ℕ)) (os : List Occurrence) where
   first_none : (places : List ℕ) → any_occurs s os (keys_at keys places) ≡ false → first_where (is_seen s keys os) places ≡ None
@@ -36,10 +37,6 @@ module _ (s : List Tree) (keys : List (ℕ × ℕ)) (os : List Occurrence) where
     | true ↦ λ h. absurd (cc)
     | false ↦ λ h. none_first ps h
   ] e
-
-not_true : (b : Bool) → not b ≡ true → b ≡ false
-not_true true h = absurd (cc)
-not_true false h = refl
 
 module _ (c : Checker) (can : CanCheck c) (e : Tree) (n : ℕ) where
   abbrev faultless_here : Bool

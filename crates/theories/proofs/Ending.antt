@@ -91,7 +91,7 @@ pub theories_are : (s : List Tree) (t : Typed) (n : ℕ) (ks : List KnownTheory)
 theories_are s t n [] = refl
 theories_are s t n (k ∷ ks) = ap (λ (x : KnownTheoryTree). x ∷ map (theory_at s t.decls) (map (λ (j : KnownTheory). j.theory) ks)) (theory_is s t.decls k) ∙ ap (λ (xs : List KnownTheoryTree). visible_theory (between_at s t n) (known_at s k) ∷ xs) (theories_are s t n ks)
 
-option_held : (s : List Tree) (o : Option TermId) → IfSome o (HoldsType s) → IfSome o (Holds s)
+pub option_held : (s : List Tree) (o : Option TermId) → IfSome o (HoldsType s) → IfSome o (Holds s)
 option_held s None h = tt
 option_held s (Some x) h = h.held
 

@@ -26,6 +26,7 @@ use Rattle.tr_discriminate.specs.wanted_instances.Discriminated.{is_monomorphic,
 use Rattle.tr_discriminate.proofs.wanted_instances.Nodes.{said_nodes}
 use Rattle.tr_discriminate.specs.instance_sets.Made.{IsTypeTree, AreTypeLists, IsSearchable, IsSearchableBody, polymorphic_formula, PutsDeclarations, IsAboveAllowed, instances_of}
 pub use Rattle.tr_discriminate.proofs.Early.{fault_there as fault_passed}
+pub use Rattle.tr_discriminate.proofs.Searching.{holds_all as types_held}
 
 two_nodes : (ds es : List DeclarationTree) → declaration_nodes (ds ++ es) ≡ declaration_nodes ds + declaration_nodes es
 two_nodes ds es = sum_by-append (λ (d : DeclarationTree). body_nodes d.body) ds es
@@ -71,10 +72,6 @@ pub type_lists : (s : List Tree) (yss : List (List TermId)) → All (All (Holds 
 type_lists s [] a k = All-nil (HoldTypes s)
 type_lists s (ids ∷ yss) a k =
     All-cons (HoldTypes s) ids yss (hold_types s ids (a 0 ids (omega arith)) (k 0 (trees_at s ids) (omega arith))) (type_lists s yss (λ i x l. a (suc i) x (omega arith)) (λ i x l. k (suc i) x (omega arith)))
-
-pub types_held : (s : List Tree) (ids : List TermId) → HoldTypes s ids → All (Holds s) ids
-types_held s [] h = All-nil (Holds s)
-types_held s (id ∷ ids) h = All-cons (Holds s) id ids h.0.0 (types_held s ids h.1)
 
 -- ---- what is in the place of a declaration
 pub says_many : (o : List Occurrence) (d : DeclarationTree) (b : BodyTree) (a : Tree) → Some a ≡ polymorphic_formula b → put_in_place o d b ≡ map (said_at d) (wanted_formulas o (proposition_of d.vars a))

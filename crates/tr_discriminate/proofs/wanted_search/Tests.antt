@@ -24,6 +24,7 @@ use Rattle.tr_discriminate.specs.wanted_search.Asking.{is_type_variable, asking_
 use Rattle.tr_discriminate.specs.wanted_search.Search.{may_ask}
 use Rattle.tr_discriminate.proofs.wanted_instances.Searching.{same_tests as told}
 use Rattle.tasks.proofs.outside.Bools.{or_grouped as either_way}
+use Rattle.name_tables.proofs.Gathering.{or_none}
 
 -- ---- tests over lists
 pub any_map : {A B : Type 0} (f : B → Bool) (g : A → B) (xs : List A) → list_any f (map g xs) ≡ list_any (λ x. f (g x)) xs
@@ -37,10 +38,6 @@ any_of_filter f p (x ∷ xs) = by (p x) (any_of_filter f p xs)
     by : (b : Bool) → list_any f (filter p xs) ≡ list_any (λ y. p y && f y) xs → list_any f (cond b (x ∷ filter p xs) (filter p xs)) ≡ ((b && f x) || list_any (λ y. p y && f y) xs)
     by true e = ap (λ b. f x || b) e
     by false e = e
-
-or_none : (a : Bool) → (a || false) ≡ a
-or_none true = refl
-or_none false = refl
 
 -- a member adds nothing to a test
 any_there : (f : Occurrence → Bool) (os : List Occurrence) (p : Occurrence) → has os p ≡ true → list_any f os ≡ (list_any f os || f p)

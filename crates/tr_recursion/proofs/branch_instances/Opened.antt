@@ -51,7 +51,7 @@ three_parts ws l m n e =
     let b = two_parts a.two m n a.two_many in
     record { before = a.one; middle = b.one; after = b.two; is = a.is ∙ ap (λ (z : List Tree). a.one ++ z) b.is; before_many = a.one_many; middle_many = b.one_many; after_many = b.two_many }
 
-closed_left : (xs ys : List Tree) → AreClosed (xs ++ ys) → AreClosed xs
+pub closed_left : (xs ys : List Tree) → AreClosed (xs ++ ys) → AreClosed xs
 closed_left [] ys c = tt
 closed_left (x ∷ xs) ys c = (c.0, closed_left xs ys c.1)
 

@@ -20,6 +20,7 @@ use Rattle.tr_inline.proofs.inlining.images.Laws.{many}
 use Rattle.tr_inline.proofs.inlining.images.Templates.{hole_typed}
 use Rattle.tr_inline.proofs.inlining.images.typing_laws.Changes.{many_variables}
 use Rattle.tr_recursion.proofs.branch_instances.Opened.{closed_right as closed_behind}
+use Rattle.tr_recursion.proofs.branch_instances.Opened.{closed_left as closed_before}
 
 -- ---- a place of a list
 here_or_not : (xs ys : List Tree) (b : Tree) (k : ℕ) (e : Tree) → ((k ≡ length xs) × (get_or (xs ++ b ∷ ys) k e ≡ b)) ⊎ ((a : Tree) → get_or (xs ++ b ∷ ys) k e ≡ get_or (xs ++ a ∷ ys) k e)
@@ -34,10 +35,6 @@ own_place (x ∷ xs) ys a e = own_place xs ys a e
 
 same_length : (xs ys : List Tree) (a b : Tree) → length (xs ++ a ∷ ys) ≡ length (xs ++ b ∷ ys)
 same_length xs ys a b = length-append xs (a ∷ ys) ∙ sym (length-append xs (b ∷ ys))
-
-closed_before : (xs ys : List Tree) → AreClosed (xs ++ ys) → AreClosed xs
-closed_before [] ys c = tt
-closed_before (x ∷ xs) ys c = (c.0, closed_before xs ys c.1)
 
 module _ (v : Vocabulary) (types before behind : List Tree) (a ty : Tree) (o : AreFor v types (before ++ a ∷ behind)) (q : type_of a ≡ Some ty) where
   own_type : (i k : ℕ) (u e : Tree) → slice_get types i ≡ Some u → i + k + 1 ≡ length (before ++ a ∷ behind) → k ≡ length before → u ≡ ty
