@@ -6,15 +6,15 @@ use Rattle.tasks.specs.trees.Binding.{inst_types, inst_many, TyVar, AreTypes, Ar
 use Rattle.tasks.specs.trees.Sorts.{sort_of, IsList}
 use Rattle.tasks.specs.trees.Facts.{Each}
 use Rattle.tasks.specs.trees.laws.Sorts.{term_no_vars, kind_no_vars}
-use Rattle.tasks.proofs.trees.Types.{loose_types}
-use Rattle.tasks.proofs.trees.Many.{inst_types_inst_many, inst_types_inst_types}
+use Rattle.trees.proofs.Types.{loose_types}
+use Rattle.trees.proofs.Many.{inst_types_inst_many, inst_types_inst_types}
 use Rattle.tasks.specs.Vocabulary.{Vocabulary}
 use Rattle.tasks.specs.Typing.{members}
 use Rattle.tasks.specs.Valid.{VariablesBelow}
 use Rattle.tasks.proofs.TypeInstances.{below}
 use Rattle.evidence.specs.images.typing_laws.HasTyping.{HasTyping, IsTypeAt}
-use Rattle.evidence.proofs.images.typing_laws.Sorted.{has_sorts, kinds_only}
-use Rattle.evidence.proofs.images.typing_laws.TypeInstances.{at_one, members_at}
+use Rattle.images.proofs.typing_laws.Sorted.{has_sorts, kinds_only}
+use Rattle.images.proofs.typing_laws.TypeInstances.{at_one, members_at}
 use Rattle.inlining.specs.Inlining.{use_body, unfold_rule}
 use Rattle.inlining.proofs.Bodies.{IsBody}
 use Rattle.inlining.proofs.Uses.{IsTermHere, member_terms, function_count, predicate_count}

@@ -13,7 +13,7 @@ use Rattle.tasks.specs.Vocabulary.{Vocabulary}
 use Rattle.tasks.specs.Typing.{entry}
 use Rattle.tasks.specs.Valid.{VariablesBelow, ParametersOf, IsDefinition}
 use Rattle.evidence.specs.images.typing_laws.HasTyping.{HasTyping}
-use Rattle.evidence.proofs.images.typing_laws.Sorted.{typed_has, formula_no_type}
+use Rattle.images.proofs.typing_laws.Sorted.{typed_has, formula_no_type}
 use Rattle.checks.specs.decl_checks.Structure.{defining_body}
 
 -- a list, last first, before another

@@ -4,9 +4,9 @@ use Rattle.std.proofs.Common.{◌≡◌, ℕ, List, [], ◌∷◌, ◌++◌, map
 use Rattle.tasks.specs.trees.declared.Op.TheVariants.{Iff}
 use Rattle.tasks.specs.trees.Tree.{Tree, Two, Three, HCell, HFun, HPred, HEq, HJoin, HForall, loose}
 use Rattle.tasks.specs.trees.Binding.{change, inst_types, inst, inst_many, instantiating_many, shift, AreClosed}
-use Rattle.tasks.proofs.trees.Laws.{shift_closed}
-use Rattle.tasks.proofs.trees.Many.{many_at, right_at, length_joined, inst_under, inst_many_closed}
-use Rattle.tasks.proofs.trees.Instances.{typing_any}
+use Rattle.trees.proofs.Laws.{shift_closed}
+use Rattle.trees.proofs.Many.{many_at, right_at, length_joined, inst_under, inst_many_closed}
+use Rattle.trees.proofs.Instances.{typing_any}
 use Rattle.rules.proofs.fact_rules.Putting.{types_are}
 use Rattle.tasks.specs.Equations.{cells, type_variables, bound_variables, for_all}
 

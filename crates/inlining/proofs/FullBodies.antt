@@ -11,8 +11,8 @@ use Rattle.tasks.specs.Vocabulary.{Vocabulary}
 use Rattle.tasks.proofs.TypeInstances.{IsSoundVocabulary}
 use Rattle.evidence.specs.images.Images.{image, IsOtherHead}
 use Rattle.evidence.specs.images.typing_laws.HasTyping.{HasTyping, IsTypeAt, KeepsTyping, IsTypedRule}
-use Rattle.evidence.proofs.images.typing_laws.TypeInstances.{at_one}
-use Rattle.evidence.proofs.images.TypedImages.{image_keeps_typing}
+use Rattle.images.proofs.typing_laws.TypeInstances.{at_one}
+use Rattle.images.proofs.TypedImages.{image_keeps_typing}
 use Rattle.inlining.specs.Inlining.{use_body}
 use Rattle.inlining.specs.FullBodies.{use_rule}
 use Rattle.inlining.proofs.Bodies.{IsBodyOf, IsBody}

@@ -4,15 +4,15 @@ use Rattle.tasks.specs.trees.declared.Sort.TheVariants.{Kind}
 use Rattle.tasks.specs.trees.Tree.{Tree, Leaf, One, Two, Three, Head, HTyVar, HBound, HParam, HArm, binders_over}
 use Rattle.tasks.specs.trees.Binding.{Change, change, leaf_by, Bound, shifting, shift, instantiating_many, inst_many, AreNoPatterns}
 use Rattle.tasks.specs.trees.Sorts.{sort_of}
-use Rattle.tasks.proofs.trees.Above.{types_left}
-use Rattle.tasks.proofs.trees.Many.{many_below, many_at, many_above, cases_many, mapped_at, length_map}
+use Rattle.trees.proofs.Above.{types_left}
+use Rattle.trees.proofs.Many.{many_below, many_at, many_above, cases_many, mapped_at, length_map}
 use Rattle.tasks.specs.trees.laws.Indices.{shifted}
 use Rattle.tasks.specs.Vocabulary.{Vocabulary}
 use Rattle.tasks.specs.Typing.{bound_types}
 use Rattle.evidence.specs.images.Images.{image}
 use Rattle.evidence.specs.images.typing_laws.HasTyping.{HasTyping, IsTypedRule}
-use Rattle.evidence.proofs.images.typing_laws.Sorted.{has_sorts, kinds_only}
-use Rattle.evidence.proofs.images.TypedImages.{image_type, image_patterns, over_typed}
+use Rattle.images.proofs.typing_laws.Sorted.{has_sorts, kinds_only}
+use Rattle.images.proofs.TypedImages.{image_type, image_patterns, over_typed}
 use Rattle.inlining.proofs.OpenInstances.{IsNatural, shifting_natural, many_natural}
 
 abbrev pub IsNoVariable : Tree → Type 0

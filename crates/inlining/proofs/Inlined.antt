@@ -7,7 +7,7 @@ use Rattle.tasks.specs.Vocabulary.{Vocabulary, of_task}
 use Rattle.tasks.specs.Valid.{IsDefinition, IsValidBody, IsValidDecl, IsValid}
 use Rattle.tasks.proofs.TypeInstances.{IsSoundVocabulary, sound_task}
 use Rattle.evidence.specs.images.typing_laws.HasTyping.{HasTyping, KeepsTyping}
-use Rattle.evidence.proofs.images.TypedImages.{image_keeps_typing}
+use Rattle.images.proofs.TypedImages.{image_keeps_typing}
 use Rattle.inlining.specs.declared.modes.InlineMode.{InlineMode}
 use Rattle.inlining.specs.declared.modes.InlineMode.TheVariants as mode
 use Rattle.checks.specs.decl_checks.Structure.{defining_body}

@@ -7,7 +7,7 @@ use Rattle.tasks.specs.Vocabulary.{Vocabulary}
 use Rattle.tasks.specs.Valid.{IsDefinition}
 use Rattle.tasks.proofs.TypeInstances.{IsSoundVocabulary}
 use Rattle.evidence.specs.images.typing_laws.HasTyping.{HasTyping, IsTypeAt}
-use Rattle.evidence.proofs.images.TypedImages.{image_at_types}
+use Rattle.images.proofs.TypedImages.{image_at_types}
 use Rattle.checks.specs.decl_checks.Structure.{defining_body}
 use Rattle.inlining.specs.Inlining.{unfold_rule, with_uses_unfolded, inlined}
 use Rattle.inlining.proofs.Bodies.{defined_body}

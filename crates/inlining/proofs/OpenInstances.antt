@@ -6,8 +6,8 @@ use Rattle.tasks.specs.trees.Tree.{Tree, Leaf, One, Two, Three, Head, HTyVar, HB
 use Rattle.tasks.specs.trees.Binding.{Change, change, leaf_by, one_by, Bound, Param, shifting, shift, instantiating_many, inst_many, AreNoPatterns}
 use Rattle.tasks.specs.trees.laws.Changes.{Keeps, binders_over-change, PutsTerms, Square, square, one_loose_le}
 use Rattle.tasks.specs.trees.laws.Indices.{shifted, shift_below, shift_above}
-use Rattle.tasks.proofs.trees.Laws.{puts_shifting, keeps_shifting}
-use Rattle.tasks.proofs.trees.Many.{Then, change_change, many_below, many_at, many_above, cases_many, puts_many, keeps_many, default_at, mapped_at, length_map}
+use Rattle.trees.proofs.Laws.{puts_shifting, keeps_shifting}
+use Rattle.trees.proofs.Many.{Then, change_change, many_below, many_at, many_above, cases_many, puts_many, keeps_many, default_at, mapped_at, length_map}
 
 -- a shift of what was shifted by at least as much: by both at once
 pub shift_more : (b c q : ℕ) (t : Tree) → q ≤ b → change (shifting c 0) q (shift t b 0) ≡ shift t (b + c) 0

@@ -14,11 +14,11 @@ use Rattle.tasks.specs.Valid.{IsDefinition}
 use Rattle.tasks.proofs.TypeInstances.{IsSoundVocabulary}
 use Rattle.checks.specs.decl_checks.Structure.{defining_body}
 use Rattle.evidence.specs.images.Images.{image, IsOtherHead}
-use Rattle.evidence.proofs.images.Images.{first_of}
+use Rattle.images.proofs.Images.{first_of}
 use Rattle.evidence.specs.images.typing_laws.HasTyping.{HasTyping, IsTypeAt}
-use Rattle.evidence.proofs.images.typing_laws.Sorted.{has_sorts}
-use Rattle.evidence.proofs.images.typing_laws.TypeInstances.{has_types}
-use Rattle.evidence.proofs.images.TypedImages.{image_type, image_keeps_typing, image_at_types, like}
+use Rattle.images.proofs.typing_laws.Sorted.{has_sorts}
+use Rattle.images.proofs.typing_laws.TypeInstances.{has_types}
+use Rattle.images.proofs.TypedImages.{image_type, image_keeps_typing, image_at_types, like}
 use Rattle.inlining.specs.Inlining.{use_body, unfold_rule, inlined}
 use Rattle.inlining.specs.FullBodies.{use_rule, next_rule, full_rule_from, full_rule}
 use Rattle.inlining.proofs.Bodies.{onto, IsBody, defined_body}

@@ -7,8 +7,8 @@ use Rattle.tasks.specs.trees.Tree.{Tree, Leaf, One, Two, Three, Head, HCell, HFu
 use Rattle.tasks.specs.trees.Binding.{inst_types, TyVar}
 use Rattle.tasks.specs.trees.Sorts.{WellSorted, sort_of, type_of, first_sort, IsList, IsListOf, IsExpression}
 use Rattle.tasks.specs.trees.Facts.{Each}
-use Rattle.tasks.proofs.trees.Many.{left_at, right_at, length_joined}
-use Rattle.tasks.proofs.trees.Sizes.{sorted_fits}
+use Rattle.trees.proofs.Many.{left_at, right_at, length_joined}
+use Rattle.trees.proofs.Sizes.{sorted_fits}
 use Rattle.tasks.specs.declared.signature.SymbolKind.{SymbolKind}
 use Rattle.tasks.specs.declared.signature.SymbolKind.TheVariants.{Function, Predicate}
 use Rattle.tasks.specs.declared.signature.SymbolKind.TheVariants as kinds
@@ -20,9 +20,9 @@ use Rattle.tasks.proofs.TypeInstances.{IsSoundVocabulary}
 use Rattle.tasks.proofs.KeptInstances.{parameters_longer, parameters_within}
 use Rattle.evidence.specs.images.Images.{IsOtherHead, KeepsTree, IsNodeRule}
 use Rattle.evidence.specs.images.typing_laws.HasTyping.{HasSorts, HasTyping, IsTypeAt, AreTermsFor, KeepsTyping, IsTypedRule}
-use Rattle.evidence.proofs.images.typing_laws.Sorted.{has_sorts, has_typed, typed_has, has_closed, has_further, kind_has}
-use Rattle.evidence.proofs.images.typing_laws.TypeInstances.{sort_at, type_at, has_types, variables_below_at, no_parameters_at}
-use Rattle.evidence.proofs.images.typing_laws.Changes.{many_has, many_sort, many_type, many_variables, many_above_params, many_parameters}
+use Rattle.images.proofs.typing_laws.Sorted.{has_sorts, has_typed, typed_has, has_closed, has_further, kind_has}
+use Rattle.images.proofs.typing_laws.TypeInstances.{sort_at, type_at, has_types, variables_below_at, no_parameters_at}
+use Rattle.images.proofs.typing_laws.Changes.{many_has, many_sort, many_type, many_variables, many_above_params, many_parameters}
 use Rattle.inlining.specs.Inlining.{use_body, unfold_rule}
 use Rattle.inlining.proofs.Bodies.{onto, map_onto, IsBodyOf, IsBody}
 

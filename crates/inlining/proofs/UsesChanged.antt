@@ -6,14 +6,14 @@ use Rattle.tasks.specs.trees.Tree.{Tree, Leaf, One, Two, Three, Head, HTyVar, HC
 use Rattle.tasks.specs.trees.Binding.{Change, change, leaf_by, inst_types, inst_many}
 use Rattle.tasks.specs.trees.declared.Sort.{Sort}
 use Rattle.tasks.specs.trees.Sorts.{sort_of, first_sort, IsList, IsListOf}
-use Rattle.tasks.proofs.trees.Types.{AreKinds}
-use Rattle.tasks.proofs.trees.Above.{types_left}
+use Rattle.trees.proofs.Types.{AreKinds}
+use Rattle.trees.proofs.Above.{types_left}
 use Rattle.tasks.specs.declared.signature.SymbolKind.TheVariants.{Predicate}
 use Rattle.tasks.specs.Vocabulary.{Vocabulary}
 use Rattle.tasks.specs.Typing.{members, entry, IsUse, HasResult, MakesTerms}
 use Rattle.tasks.proofs.TypeInstances.{IsSoundVocabulary}
 use Rattle.evidence.specs.images.typing_laws.HasTyping.{HasTyping}
-use Rattle.evidence.proofs.images.typing_laws.Sorted.{has_sorts, kinds_only}
+use Rattle.images.proofs.typing_laws.Sorted.{has_sorts, kinds_only}
 use Rattle.inlining.specs.Inlining.{use_body, unfold_rule}
 use Rattle.inlining.proofs.Bodies.{IsBody}
 use Rattle.inlining.proofs.Uses.{member_terms, entry_is, use_closed}

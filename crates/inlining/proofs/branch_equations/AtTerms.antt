@@ -4,10 +4,10 @@ use Rattle.std.proofs.Math.Seq.{get_or-append_seam}
 use Rattle.std.proofs.lemmas.List.{length-append, append-nil, map-append}
 use Rattle.tasks.specs.trees.Tree.{Tree, One, Two, Three, Head, HBound, HFun, HCell, binders_over, loose}
 use Rattle.tasks.specs.trees.Binding.{change, instantiating_many, inst_many, AreClosed, AreNoPatterns}
-use Rattle.tasks.proofs.trees.Laws.{shift_closed}
-use Rattle.tasks.proofs.trees.Many.{many_at, closed_at, inst_many_closed, length_map}
+use Rattle.trees.proofs.Laws.{shift_closed}
+use Rattle.trees.proofs.Many.{many_at, closed_at, inst_many_closed, length_map}
 use Rattle.tasks.specs.Equations.{cells}
-use Rattle.evidence.proofs.images.OpenInstances.{composed}
+use Rattle.images.proofs.OpenInstances.{composed}
 use Rattle.inlining.specs.branch_equations.Branches.{ConstructorBranch, field_type, is_variable_field, parameters_before, parameters_after, variables_above, branch_fields, built_term, branch_parameters, bound_fields, pattern_fields, branch_sides}
 use Rattle.inlining.specs.branch_equations.Laws.{terms_with, BranchesAtTerms}
 

@@ -2,12 +2,12 @@
 use Rattle.std.proofs.Common.{◌≡◌, ℕ, ◌+◌, Bool, true, false, if◌then◌else◌, List, [], ◌∷◌, ◌++◌, map, All, Some, inl, inr, subst, refl, sym, ap, ◌∙◌, append_assoc}
 use Rattle.std.specs.List.{list_all}
 use Rattle.std.proofs.lemmas.List.Elements.{All-cons, All-nil}
-use Rattle.tasks.proofs.plain_laws.Bools.{and_first, and_second}
+use Rattle.plain_laws.proofs.Bools.{and_first, and_second}
 use Rattle.tasks.specs.trees.declared.Sort.{Sort}
 use Rattle.tasks.specs.trees.declared.Sort.TheVariants as sort
 use Rattle.tasks.specs.trees.Tree.{Tree, Leaf, One, Two, Three, Head, HCell, HFun, HPatAny, HPatVar, HPatAlias, HPatCon}
 use Rattle.tasks.specs.trees.Sorts.{sort_of, type_of, IsList}
-use Rattle.tasks.proofs.trees.Types.{OnlyTypes}
+use Rattle.trees.proofs.Types.{OnlyTypes}
 use Rattle.tasks.specs.declared.signature.SymbolKind.TheVariants.{Constructor}
 use Rattle.tasks.specs.Task.{SymbolTree}
 use Rattle.tasks.specs.Vocabulary.{Vocabulary}
@@ -16,7 +16,7 @@ use Rattle.tasks.specs.Equations.{cells}
 use Rattle.tasks.specs.Valid.{VariablesBelow, ParametersOf}
 use Rattle.tasks.proofs.TypeInstances.{some_kept}
 use Rattle.evidence.specs.images.typing_laws.HasTyping.{HasTyping}
-use Rattle.evidence.proofs.images.typing_laws.Sorted.{has_sorts, kinds_only, kind_has, types_parameters}
+use Rattle.images.proofs.typing_laws.Sorted.{has_sorts, kinds_only, kind_has, types_parameters}
 use Rattle.inlining.proofs.Bodies.{onto}
 use Rattle.declarations.specs.spelled_groups.Spelled.{PatternsAreUsable}
 use Rattle.declarations.specs.spelled_groups.Formulas.{members_cells}

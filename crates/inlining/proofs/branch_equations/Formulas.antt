@@ -2,7 +2,7 @@
 use Rattle.std.proofs.Common.{◌≡◌, ◌⊎◌, ℕ, ◌<◌, ◌≤◌, suc, Bool, true, false, if◌then◌else◌, List, [], ◌∷◌, map, length, All, Option, Some, None, inl, inr, subst, refl, sym, ap, ◌∙◌, arith}
 use Rattle.std.specs.List.{flat_map}
 use Rattle.std.proofs.lemmas.List.Elements.{All-cons, All-nil, All-append, All-weaker}
-use Rattle.tasks.proofs.plain_laws.Lists.{All-left, All-right}
+use Rattle.plain_laws.proofs.Lists.{All-left, All-right}
 use Rattle.tasks.specs.trees.declared.Op.TheVariants.{Iff}
 use Rattle.tasks.specs.trees.declared.Sort.{Sort}
 use Rattle.tasks.specs.trees.Sorts.{sort_of}
@@ -15,7 +15,7 @@ use Rattle.tasks.specs.Vocabulary.{Vocabulary}
 use Rattle.tasks.specs.Equations.{equated, for_all}
 use Rattle.tasks.specs.Valid.{VariablesBelow, ParametersOf, IsFormulaOver, IsTypeIn, IsDefinition, IsValidBody}
 use Rattle.evidence.specs.images.typing_laws.HasTyping.{HasTyping}
-use Rattle.evidence.proofs.images.typing_laws.Sorted.{typed_has, small_typed}
+use Rattle.images.proofs.typing_laws.Sorted.{typed_has, small_typed}
 use Rattle.checks.specs.recursive_groups.Groups.{is_recursive}
 use Rattle.checks.specs.decl_checks.Structure.{defining_body}
 use Rattle.inlining.proofs.Bodies.{onto, under_typed, under_variables, under_parameters, under_body}

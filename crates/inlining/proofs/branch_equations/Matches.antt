@@ -9,7 +9,7 @@ use Rattle.tasks.specs.trees.Sorts.{sort_of, type_of}
 use Rattle.tasks.specs.Vocabulary.{Vocabulary}
 use Rattle.tasks.specs.Typing.{members, pattern_types, BranchesFit, BranchFits, first_body}
 use Rattle.tasks.specs.Valid.{VariablesBelow, ParametersOf}
-use Rattle.evidence.proofs.images.Images.{expression_sort, expression_type}
+use Rattle.images.proofs.Images.{expression_sort, expression_type}
 use Rattle.evidence.specs.images.typing_laws.HasTyping.{HasTyping}
 use Rattle.inlining.specs.branch_equations.Branches.{ConstructorBranch, is_plain_field, constructor_branch, add_branch, constructor_branches, are_different, if_different, matched_parameter}
 

@@ -3,19 +3,19 @@ use Rattle.std.proofs.Common.{◌≡◌, ℕ, ◌+◌, ◌-◌, ◌<◌, zero, s
 use Rattle.std.proofs.lemmas.List.{length-append, append-nil, take-append-drop}
 use Rattle.std.specs.List.{list_all}
 use Rattle.std.proofs.lemmas.List.Elements.{All-append}
-use Rattle.tasks.proofs.plain_laws.Lists.{All-left, All-right}
+use Rattle.plain_laws.proofs.Lists.{All-left, All-right}
 use Rattle.tasks.specs.trees.declared.Sort.TheVariants.{Formula}
 use Rattle.tasks.specs.trees.Tree.{Tree}
 use Rattle.tasks.specs.trees.Binding.{inst_many}
 use Rattle.tasks.specs.trees.Sorts.{sort_of, type_of}
-use Rattle.tasks.proofs.trees.Many.{length_map}
+use Rattle.trees.proofs.Many.{length_map}
 use Rattle.tasks.specs.Vocabulary.{Vocabulary}
 use Rattle.tasks.specs.Typing.{members, pattern_types}
 use Rattle.tasks.specs.Equations.{for_all}
 use Rattle.tasks.specs.Valid.{VariablesBelow, ParametersOf}
 use Rattle.evidence.specs.images.typing_laws.HasTyping.{HasTyping}
-use Rattle.evidence.proofs.images.typing_laws.Sorted.{has_sorts, has_further}
-use Rattle.evidence.proofs.images.typing_laws.Changes.{many_has, many_type, many_sort, many_variables, many_parameters}
+use Rattle.images.proofs.typing_laws.Sorted.{has_sorts, has_further}
+use Rattle.images.proofs.typing_laws.Changes.{many_has, many_type, many_sort, many_variables, many_parameters}
 use Rattle.inlining.proofs.Bodies.{onto}
 use Rattle.declarations.specs.spelled_groups.Spelled.{PatternsAreUsable}
 use Rattle.inlining.specs.branch_equations.Branches.{ConstructorBranch, is_plain_field, field_type, parameters_before, parameters_after, variables_above, branch_types, branch_fields, built_term, branch_parameters, pattern_fields}

@@ -9,7 +9,7 @@ use Rattle.tasks.specs.trees.Sorts.{sort_of, type_of}
 use Rattle.tasks.specs.Vocabulary.{Vocabulary}
 use Rattle.tasks.specs.Valid.{VariablesBelow, ParametersOf}
 use Rattle.evidence.specs.images.typing_laws.HasTyping.{HasSorts, HasTyping, AreTermsFor}
-use Rattle.evidence.proofs.images.typing_laws.Sorted.{has_sorts}
+use Rattle.images.proofs.typing_laws.Sorted.{has_sorts}
 use Rattle.inlining.proofs.Bodies.{onto}
 use Rattle.inlining.specs.branch_equations.Branches.{variables_above}
 
