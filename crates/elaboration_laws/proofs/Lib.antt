@@ -108,3 +108,4 @@ pub mod Least
 pub mod LeastUsed
 pub mod LeastMade
 pub mod GroupSolutions
+pub mod OpenNodes

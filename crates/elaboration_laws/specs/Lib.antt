@@ -41,3 +41,4 @@ pub mod Typings
 pub mod Checked
 pub mod UsedNames
 pub mod GroupTypings
+pub mod NodeTypes

@@ -43,6 +43,7 @@ pub use theory_states::goal_tasks::{GoalAt, TaskFault, Theories, Theory, task_of
 pub use typed_states::uses_typed;
 pub use typings_laws::{
     equations_decide, group_decides, solutions_are_typings, typings_are_solutions,
+    undetermined_is_first,
 };
 pub use valid::{
     agrees_typed, begins_typed, defines_valid, elaborates_patterns, elaborates_valid, lists_valid,

@@ -1,0 +1,5 @@
+use Rattle.elaboration_laws.proofs.OpenNodes.{first_open_node}
+use Rattle.elaboration_laws.proofs.typings_laws.undetermined_is_first.Goals as goal
+
+pub returns : goal.returns
+returns c = λ w r ls t a token o q f. first_open_node w r ls t a token o q f
