@@ -23,8 +23,14 @@ use Rattle.elab_groups.proofs.open_types.Branching.{in_cases, in_branches}
 use Rattle.elab_groups.proofs.open_types.Quantified.{in_quantified}
 use Rattle.elab_groups.specs.parts.Elaborated.{IsFixedUnknown, IsTypingFault}
 use Rattle.elab_groups.specs.declared.parts.solution.TypingFault.TheVariants.{Undetermined}
+use Rattle.elab_groups.specs.tasks.Vocabulary.{Vocabulary}
+use Rattle.elab_groups.specs.parts.Declarations.{GroupMember, with_vars}
+use Rattle.elab_groups.specs.members.Members.{SignatureTree}
+use Rattle.elab_groups.specs.Groups.{body_piece, member_piece, member_pieces, most_variables, bodies_pieces, pieces_notes}
+use Rattle.elaboration_laws.specs.Typed.{IsNamedExpression}
+use Rattle.elaboration_laws.specs.GroupTypings.{body_locals, AreNamedBodies}
 use Rattle.elaboration_laws.specs.Typings.{HasOwnTypes}
-use Rattle.elaboration_laws.specs.NodeTypes.{TypedNode, types_due, typed_node, of_symbol, pattern_nodes, patterns_nodes, later_nodes, alternatives_nodes, nodes_of, all_nodes, triggers_nodes, branches_nodes, Among, IsFixedType, IsFirstOpenNode}
+use Rattle.elaboration_laws.specs.NodeTypes.{TypedNode, types_due, typed_node, of_symbol, pattern_nodes, patterns_nodes, later_nodes, alternatives_nodes, nodes_of, all_nodes, triggers_nodes, branches_nodes, body_nodes, bodies_nodes, Among, IsFixedType, IsFirstOpenNode}
 
 -- ---- each node has types over earlier unknowns, and those that it takes
 abbrev Covered : ℕ → List TypedNode → List ℕ → Type 0
@@ -355,3 +361,26 @@ pub first_open_node : (w : Where) (r : ℕ) (ls : List LocalTree) (t : Option Tr
 first_open_node w r ls t a tok o q c =
     first_node r (piece w ls r t a).notes.equations r (nodes_of w ls r t a) (piece w ls r t a).notes.takers c.0 tok (omega arith) (covered w o.scoped a ls r t (names ls) (is_none t) o.variables o.wanted o.count q) c.1 c.2
     (λ j l k. let e : r + (j - r) ≡ j = omega (arith, l) in subst (IsFixedUnknown r (piece w ls r t a).notes.equations) e (c.3 (j - r) (omega (arith, l, k))))
+
+-- ---- of the bodies of a group
+module _ (v : Vocabulary) (r : ℕ) where
+  body_covered : (w : Where) (ls : List LocalTree) (n : ℕ) (t : Option Tree) (b : Option Expression) → r ≤ n → HasOwnTypes w r ls t → IfSome b (IsNamedExpression v w ls t) → Covered n (body_nodes w ls n t b) (body_piece w ls n t b).notes.takers
+  body_covered w ls n t None l o q = refl
+  body_covered w ls n t (Some a) l o q = covered w o.scoped a ls n t (names ls) (is_none t) (locals_more ls r n l o.variables) (wanted_more t r n l o.wanted) (omega (arith, l, o.count)) q.named
+
+  bodies_covered : (w : Where) (ms : List GroupMember) (gs : List SignatureTree) (n : ℕ) → r ≤ n → AreNamedBodies v w r ms gs → Covered n (bodies_nodes w n ms gs) (pieces_notes (member_pieces w n ms gs)).takers
+  bodies_covered w [] gs n l h = refl
+  bodies_covered w (m ∷ ms) [] n l h = refl
+  bodies_covered w (m ∷ ms) (g ∷ gs) n l h =
+      let p = member_piece w n m g in
+      let j = unknown_after n p in
+      parts_covered n p.notes (pieces_notes (member_pieces w j ms gs)) (body_nodes (with_vars w g.vars) (body_locals m g) n g.result m.body) (bodies_nodes w j ms gs)
+      (body_covered (with_vars w g.vars) (body_locals m g) n g.result m.body l h.0 h.1) (bodies_covered w ms gs j (omega (arith, l)) h.2)
+
+pub first_group_node : (v : Vocabulary) (w : Where) (ms : List GroupMember) (gs : List SignatureTree) (tok : ℕ) → AreNamedBodies v w (most_variables gs) ms gs → IsTypingFault (most_variables gs) (pieces_notes (bodies_pieces w ms gs)) (Undetermined tok)
+    → IsFirstOpenNode (most_variables gs) (pieces_notes (bodies_pieces w ms gs)).equations (bodies_nodes w (most_variables gs) ms gs) tok
+first_group_node v w ms gs tok h c =
+    let r = most_variables gs in
+    let ns = pieces_notes (bodies_pieces w ms gs) in
+    first_node r ns.equations r (bodies_nodes w r ms gs) ns.takers c.0 tok (omega arith) (bodies_covered v r w ms gs r (omega arith) h) c.1 c.2
+    (λ j l k. let e : r + (j - r) ≡ j = omega (arith, l) in subst (IsFixedUnknown r ns.equations) e (c.3 (j - r) (omega (arith, l, k))))

@@ -11,6 +11,10 @@ use Rattle.elab_groups.specs.name_resolution.Faults.{is_formula_trigger, token}
 use Rattle.elab_groups.specs.name_resolution.Where.{Where}
 use Rattle.elab_groups.specs.open_types.Patterns.{LocalTree, local, noted, taken, first_or_int, rest_of, entry_of, part_types, pattern_piece, alternatives_pieces, all_notes, first_variables}
 use Rattle.elab_groups.specs.open_types.Pieces.{type_at, unknown, unknown_after, piece, noted_before, triggers_notes, Use, Local', Symbol', use_of_name, tuple_use, use_vars, parameters, binders_vars, bound, names}
+use Rattle.elab_groups.specs.parts.Declarations.{GroupMember, with_vars}
+use Rattle.elab_groups.specs.members.Members.{SignatureTree}
+use Rattle.elab_groups.specs.Groups.{member_piece}
+use Rattle.elaboration_laws.specs.GroupTypings.{body_locals}
 
 pub record TypedNode : Type 0 where
   pub token : ℕ
@@ -140,6 +144,16 @@ abbrev mutual
       alternatives_nodes w n subject ps
       ++ (nodes_of w inside m t b
       ++ branches_nodes w ls (unknown_after m (piece w inside m t b)) subject t bs)
+
+-- of the bodies of a group, one after another
+abbrev pub body_nodes : Where → List LocalTree → ℕ → Option Tree → Option Expression → List TypedNode
+body_nodes w ls n t None = []
+body_nodes w ls n t (Some e) = nodes_of w ls n t e
+
+abbrev pub bodies_nodes : Where → ℕ → List GroupMember → List SignatureTree → List TypedNode
+bodies_nodes w n [] gs = []
+bodies_nodes w n (m ∷ ms) [] = []
+bodies_nodes w n (m ∷ ms) (g ∷ gs) = body_nodes (with_vars w g.vars) (body_locals m g) n g.result m.body ++ bodies_nodes w (unknown_after n (member_piece w n m g)) ms gs
 
 abbrev pub Among : Tree → List Tree → Type 0
 Among t [] = ⊥

@@ -17,7 +17,7 @@ ghost use Rattle.elab_groups.specs.members.Members.{SignatureTree};
 ghost use Rattle.elab_groups.specs.Groups.{most_variables, bodies_pieces, pieces_notes, pieces_trees, BodiesSolved};
 ghost use Rattle.elaboration_laws.specs.GroupTypings.{AreNamedBodies, ElaborateTo, ArePiecesAt, AreOnlyTypings, AreFirstDifferent};
 ghost use Rattle.elaboration_laws.specs.Typed.{IsNamedExpression};
-ghost use Rattle.elaboration_laws.specs.NodeTypes.{nodes_of, IsFirstOpenNode};
+ghost use Rattle.elaboration_laws.specs.NodeTypes.{nodes_of, bodies_nodes, IsFirstOpenNode};
 ghost use Rattle.elaboration_laws.specs.Typings.{Choice, ElaboratesTo, IsPieceAt, HasOwnTypes, choices_from, IsOnlyTyping, IsFirstDifference};
 
 /// A law: each typing of an expression is its piece at a solution of its type equations, where the
@@ -89,12 +89,20 @@ pub fn group_decides()
         (Undetermined token) → AreFirstDifferent w ms gs token }
 {}
 
-/// A law: the node that is told as undetermined is the first one in preorder, one of whose types differs
-/// between two solutions of the type equations; in the types of the nodes before it all solutions agree.
+/// A law: the node of an expression, or of the bodies of a group, that is told as undetermined is the first
+/// one in preorder, one of whose types differs between two solutions of the type equations; in the types of
+/// the nodes before it all solutions agree.
 pub fn undetermined_is_first()
-    ensures { (w : Where) (rigid : ℕ) (ls : List LocalTree) (t : Option Tree) (a : Expression)
-        (token : ℕ) → HasOwnTypes w rigid ls t → fault w false (names ls) (is_none t) a ≡ None
+    ensures expression { (w : Where) (rigid : ℕ) (ls : List LocalTree) (t : Option Tree)
+        (a : Expression) (token : ℕ) → HasOwnTypes w rigid ls t
+        → fault w false (names ls) (is_none t) a ≡ None
         → IsTypingFault rigid (piece w ls rigid t a).notes (Undetermined token)
         → IsFirstOpenNode rigid (piece w ls rigid t a).notes.equations
         (nodes_of w ls rigid t a) token }
+    ensures group { (v : Vocabulary) (w : Where) (ms : List GroupMember)
+        (gs : List SignatureTree) (token : ℕ) → AreNamedBodies v w (most_variables gs) ms gs
+        → IsTypingFault (most_variables gs) (pieces_notes (bodies_pieces w ms gs))
+        (Undetermined token)
+        → IsFirstOpenNode (most_variables gs) (pieces_notes (bodies_pieces w ms gs)).equations
+        (bodies_nodes w (most_variables gs) ms gs) token }
 {}
