@@ -30,7 +30,7 @@ use Rattle.elab_groups.specs.Groups.{body_piece, member_piece, member_pieces, mo
 use Rattle.elaboration_laws.specs.Typed.{IsNamedExpression}
 use Rattle.elaboration_laws.specs.GroupTypings.{body_locals, AreNamedBodies}
 use Rattle.elaboration_laws.specs.Typings.{HasOwnTypes}
-use Rattle.elaboration_laws.specs.NodeTypes.{TypedNode, types_due, typed_node, of_symbol, pattern_nodes, patterns_nodes, later_nodes, alternatives_nodes, nodes_of, all_nodes, triggers_nodes, branches_nodes, body_nodes, bodies_nodes, Among, IsFixedType, IsFirstOpenNode}
+use Rattle.elaboration_laws.specs.NodeTypes.{TypedNode, types_due, typed_node, of_symbol, pattern_nodes, patterns_nodes, later_nodes, alternatives_nodes, nodes_of, all_nodes, triggers_nodes, branches_nodes, member_nodes, bodies_nodes, Among, IsFixedType, IsFirstOpenNode}
 
 -- ---- each node has types over earlier unknowns, and those that it takes
 abbrev Covered : ℕ → List TypedNode → List ℕ → Type 0
@@ -364,7 +364,7 @@ first_open_node w r ls t a tok o q c =
 
 -- ---- of the bodies of a group
 module _ (v : Vocabulary) (r : ℕ) where
-  body_covered : (w : Where) (ls : List LocalTree) (n : ℕ) (t : Option Tree) (b : Option Expression) → r ≤ n → HasOwnTypes w r ls t → IfSome b (IsNamedExpression v w ls t) → Covered n (body_nodes w ls n t b) (body_piece w ls n t b).notes.takers
+  body_covered : (w : Where) (ls : List LocalTree) (n : ℕ) (t : Option Tree) (b : Option Expression) → r ≤ n → HasOwnTypes w r ls t → IfSome b (IsNamedExpression v w ls t) → Covered n (member_nodes w ls n t b) (body_piece w ls n t b).notes.takers
   body_covered w ls n t None l o q = refl
   body_covered w ls n t (Some a) l o q = covered w o.scoped a ls n t (names ls) (is_none t) (locals_more ls r n l o.variables) (wanted_more t r n l o.wanted) (omega (arith, l, o.count)) q.named
 
@@ -374,7 +374,7 @@ module _ (v : Vocabulary) (r : ℕ) where
   bodies_covered w (m ∷ ms) (g ∷ gs) n l h =
       let p = member_piece w n m g in
       let j = unknown_after n p in
-      parts_covered n p.notes (pieces_notes (member_pieces w j ms gs)) (body_nodes (with_vars w g.vars) (body_locals m g) n g.result m.body) (bodies_nodes w j ms gs)
+      parts_covered n p.notes (pieces_notes (member_pieces w j ms gs)) (member_nodes (with_vars w g.vars) (body_locals m g) n g.result m.body) (bodies_nodes w j ms gs)
       (body_covered (with_vars w g.vars) (body_locals m g) n g.result m.body l h.0 h.1) (bodies_covered w ms gs j (omega (arith, l)) h.2)
 
 pub first_group_node : (v : Vocabulary) (w : Where) (ms : List GroupMember) (gs : List SignatureTree) (tok : ℕ) → AreNamedBodies v w (most_variables gs) ms gs → IsTypingFault (most_variables gs) (pieces_notes (bodies_pieces w ms gs)) (Undetermined tok)

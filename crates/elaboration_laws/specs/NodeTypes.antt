@@ -146,14 +146,17 @@ abbrev mutual
       ++ branches_nodes w ls (unknown_after m (piece w inside m t b)) subject t bs)
 
 -- of the bodies of a group, one after another
-abbrev pub body_nodes : Where → List LocalTree → ℕ → Option Tree → Option Expression → List TypedNode
-body_nodes w ls n t None = []
-body_nodes w ls n t (Some e) = nodes_of w ls n t e
+abbrev pub member_nodes : Where → List LocalTree → ℕ → Option Tree → Option Expression
+    → List TypedNode
+member_nodes w ls n t None = []
+member_nodes w ls n t (Some e) = nodes_of w ls n t e
 
 abbrev pub bodies_nodes : Where → ℕ → List GroupMember → List SignatureTree → List TypedNode
 bodies_nodes w n [] gs = []
 bodies_nodes w n (m ∷ ms) [] = []
-bodies_nodes w n (m ∷ ms) (g ∷ gs) = body_nodes (with_vars w g.vars) (body_locals m g) n g.result m.body ++ bodies_nodes w (unknown_after n (member_piece w n m g)) ms gs
+bodies_nodes w n (m ∷ ms) (g ∷ gs) =
+    member_nodes (with_vars w g.vars) (body_locals m g) n g.result m.body
+    ++ bodies_nodes w (unknown_after n (member_piece w n m g)) ms gs
 
 abbrev pub Among : Tree → List Tree → Type 0
 Among t [] = ⊥
