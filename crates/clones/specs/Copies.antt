@@ -1,5 +1,6 @@
--- Copies of declarations and entries under a map of symbols: a declaration keeps its kind, and a clause, an equation and a
--- proposition keep their form (Why3 manual, "theory cloning"). A copy belongs to the theory that clones, under a longer name.
+-- Copies of declarations and entries under a map of symbols: a declaration keeps its kind, and a
+-- clause, an equation and a proposition keep their form (Why3 manual, "theory cloning"). A copy
+-- belongs to the theory that clones, under a longer name.
 use Rattle.std.specs.Prelude.{List, ◌++◌, map, ℕ}
 use Rattle.std.specs.Option.{option_map}
 use Rattle.trees.specs.Tree.{Tree}
@@ -15,7 +16,12 @@ abbrev pub inductive_mapped : Map → InductiveTree → InductiveTree
 inductive_mapped m i = record { symbol = m.symbols i.symbol; clauses = map (mapped m) i.clauses }
 
 abbrev pub con_mapped : Map → ConstructorTree → ConstructorTree
-con_mapped m c = record { symbol = m.symbols c.symbol; fields = map (mapped m) c.fields; projections = map m.symbols c.projections }
+con_mapped m c = record {
+  symbol = m.symbols c.symbol;
+  fields =
+      map (mapped m) c.fields;
+  projections = map m.symbols c.projections;
+}
 
 abbrev pub algebraic_mapped : Map → AlgebraicTree → AlgebraicTree
 algebraic_mapped m a = record { symbol = m.symbols a.symbol; cons = map (con_mapped m) a.cons }
@@ -30,10 +36,20 @@ body_mapped m (Says a) = Says (mapped m a)
 
 -- the scopes of the copy are before the name
 abbrev pub declaration_copied : Map → List ℕ → List ℕ → DeclarationTree → DeclarationTree
-declaration_copied m theory within d = record { theory = theory; name = within ++ d.name; vars = d.vars; body = body_mapped m d.body }
+declaration_copied m theory within d =
+    record { theory = theory; name = within ++ d.name; vars = d.vars; body = body_mapped m d.body }
 
 abbrev pub entry_copied : Map → List ℕ → List ℕ → SymbolTree → SymbolTree
-entry_copied m theory within e = record { theory = theory; name = within ++ e.name; kind = e.kind; vars = e.vars; args = map (mapped m) e.args; result = option_map (mapped m) e.result }
+entry_copied m theory within e =
+    record {
+      theory = theory;
+      name = within ++ e.name;
+      kind = e.kind;
+      vars = e.vars;
+      args =
+          map (mapped m) e.args;
+      result = option_map (mapped m) e.result;
+    }
 
 -- the equation of a definition is held
 abbrev pub DefHeld : List Tree → Def → Type 0

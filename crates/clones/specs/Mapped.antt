@@ -1,5 +1,5 @@
--- The map of a signature to another one: each symbol becomes a symbol, and some type symbols become types (signature morphisms;
--- Why3 manual, "theory cloning").
+-- The map of a signature to another one: each symbol becomes a symbol, and some type symbols become
+-- types (signature morphisms; Why3 manual, "theory cloning").
 use Rattle.std.specs.Prelude.{ℕ, Option, Some, None}
 use Rattle.trees.specs.Tree.{Tree, Leaf, One, Two, Three, Head, HTyApp, HFun, HPred, HPatCon}
 use Rattle.trees.specs.Binding.{inst_types}

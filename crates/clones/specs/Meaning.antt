@@ -11,11 +11,16 @@ use Rattle.clones.specs.declared.maps.SymbolMap.{SymbolMap}
 use Rattle.clones.specs.Mapped.{Map, mapped}
 
 abbrev pub map_at : List Tree → SymbolMap → Map
-map_at s m = record { symbols = λ k. unwrap_or (get nat_eq m.symbols k) k; types = λ k. option_map (tree_at s) (get nat_eq m.types k) }
+map_at s m = record {
+  symbols = λ k. unwrap_or (get nat_eq m.symbols k) k;
+  types =
+      λ k. option_map (tree_at s) (get nat_eq m.types k);
+}
 
 -- the types in it are held
 pub record MapHeld (s : List Tree) (m : SymbolMap) : Type 0 where
-  pub types : (k : ℕ) (v : TermId) → get nat_eq m.types k ≡ Some v → Holds s v × (sort_of (tree_at s v) ≡ Kind)
+  pub types : (k : ℕ) (v : TermId) → get nat_eq m.types k ≡ Some v
+      → Holds s v × (sort_of (tree_at s v) ≡ Kind)
 
 -- a tree of the same sort, which begins a list as the other does
 pub record IsAlike (e made : Tree) : Type 0 where
@@ -31,5 +36,7 @@ pub record IsMapped (m : Map) (e : Tree) (s : List Tree) (id : TermId) : Type 0 
   pub alike : IsAlike e (tree_at s id)
 
 -- each remembered number is that of a mapped tree
-pub record AreKnown {S : Type 0} (m : Map) (s : List Tree) (known : IndexMap ℕ TermId S) : Type 0 where
-  pub each : (k : ℕ) (v : TermId) → get nat_eq known k ≡ Some v → (k < length s) × IsMapped m (get_or s k (Leaf HEnd)) s v
+pub record AreKnown {S : Type 0} (m : Map) (s : List Tree)
+    (known : IndexMap ℕ TermId S) : Type 0 where
+  pub each : (k : ℕ) (v : TermId) → get nat_eq known k ≡ Some v
+      → (k < length s) × IsMapped m (get_or s k (Leaf HEnd)) s v

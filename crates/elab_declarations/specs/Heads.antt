@@ -12,7 +12,13 @@ use Rattle.elab_groups.specs.members.Sources.{parameters_of, result_form}
 
 -- the first member of a group, and those after `with`
 abbrev pub first_member : OpName → List ParamTree → Option TypeTree → Option Expr → GroupMember
-first_member n ps t b = record { called = symbol (declared_name n); params = parameters_of ps; result = result_form t; body = option_map expression_of b }
+first_member n ps t b = record {
+  called = symbol (declared_name n);
+  params =
+      parameters_of ps;
+  result = result_form t;
+  body = option_map expression_of b;
+}
 
 abbrev pub later_members : List MemberTree → List GroupMember
 later_members ms = map group_member (map member_of ms)

@@ -15,4 +15,5 @@ indexed_names s = map (λ v. v.items) s.keys
 
 -- it is declared, or was made before
 abbrev pub name_made : Bool → List Word → TokenName → Option NamingFault
-name_made declared before c = fault_if (declared || is_some (place_of c.name before)) (Duplicate c.at)
+name_made declared before c =
+    fault_if (declared || is_some (place_of c.name before)) (Duplicate c.at)

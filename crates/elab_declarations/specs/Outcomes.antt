@@ -1,4 +1,5 @@
--- What the elaboration of each kind of declaration gives, or its first fault (Why3 manual, "logical declarations").
+-- What the elaboration of each kind of declaration gives, or its first fault (Why3 manual, "logical
+-- declarations").
 use Rattle.std.specs.Prelude.{◌≡◌, ℕ, ◌+◌, true, false, All, List, [], ◌∷◌, ◌++◌, map, length, Option, Some, None}
 use Rattle.tasks.specs.trees.Tree.{Tree, Leaf, HTyRigid}
 use Rattle.tasks.specs.trees.Node.{tree_at}
@@ -51,10 +52,12 @@ abbrev pub alias_seen : TypeExpression → SeenTree
 alias_seen f = form_seen unseen f
 
 -- its name stands for a type of the store afterwards
-pub record IsAlias (c : Setting) (s' : List Tree) (x : TokenName) (vs : List TokenName) (f : TypeExpression) (o : Outcome) : Type 0 where
+pub record IsAlias (c : Setting) (s' : List Tree) (x : TokenName) (vs : List TokenName)
+    (f : TypeExpression) (o : Outcome) : Type 0 where
   pub type : ℕ
   pub held : HoldsType s' (record { 0 = type })
-  pub tree : tree_at s' (record { 0 = type }) ≡ type_at (over c.trees (c.symbols ++ tuples_wanting c (alias_seen f)) c.scope (words vs)) f
+  pub tree : tree_at s' (record { 0 = type })
+      ≡ type_at (over c.trees (c.symbols ++ tuples_wanting c (alias_seen f)) c.scope (words vs)) f
   pub symbols : o.symbols ≡ tuples_wanting c (alias_seen f)
   pub scope : o.scope ≡ with_name Types x.name (stands.Alias (length vs) type) true c.scope
   pub decls : o.decls ≡ []
@@ -66,7 +69,8 @@ abbrev pub proposition_seen : Expression → SeenTree
 proposition_seen e = seen unseen e
 
 abbrev pub proposition_piece : Setting → Expression → NotedTree
-proposition_piece c e = piece (where_tuples_are c (proposition_seen e)) [] (length (proposition_seen e).vars) None e
+proposition_piece c e =
+    piece (where_tuples_are c (proposition_seen e)) [] (length (proposition_seen e).vars) None e
 
 -- an axiom has no rigid type variables
 abbrev pub rigid_names : PropKind → List Word → List Word
@@ -90,13 +94,22 @@ schematic kind.Goal vs = 0
 schematic kind.Axiom vs = length vs
 schematic kind.Lemma vs = length vs
 
-pub record IsProposition (c : Setting) (k : PropKind) (x : TokenName) (e : Expression) (o : Outcome) : Type 0 where
+pub record IsProposition (c : Setting) (k : PropKind) (x : TokenName) (e : Expression)
+    (o : Outcome) : Type 0 where
   pub formula : Tree
   pub solved : IsSolved (length (proposition_seen e).vars) (proposition_piece c e) formula o.matches
-  pub symbols : o.symbols ≡ tuples_wanting c (proposition_seen e) ++ map rigid_symbol (rigid_names k (proposition_seen e).vars)
+  pub symbols : o.symbols ≡ tuples_wanting c (proposition_seen e)
+      ++ map rigid_symbol (rigid_names k (proposition_seen e).vars)
   pub scope : o.scope ≡ with_entry Propositions x.name c.decl true c.scope
-  pub rigid : o.rigid ≡ entry_numbers (length (c.symbols ++ tuples_wanting c (proposition_seen e))) (rigid_names k (proposition_seen e).vars)
-  pub decls : o.decls ≡ record { theory = c.theory; name = full_name c x; vars = schematic k (proposition_seen e).vars; body = Says (said_as k o.rigid formula) } ∷ []
+  pub rigid : o.rigid ≡ entry_numbers (length (c.symbols ++ tuples_wanting c (proposition_seen e)))
+      (rigid_names k (proposition_seen e).vars)
+  pub decls : o.decls ≡ record {
+    theory = c.theory;
+    name = full_name c x;
+    vars =
+        schematic k (proposition_seen e).vars;
+    body = Says (said_as k o.rigid formula);
+  } ∷ []
 
 -- ---- all
 -- a type with or without a definition
@@ -150,19 +163,38 @@ abbrev pub IsRefusal : Setting → Declaration → ElabFault → Type 0
 IsRefusal c d f = IsRefusalFor c.decl (names_fault c d) (rigid_of c d) (notes_of c d) f
 
 -- it is elaborated
-abbrev pub IsElaborated : Setting → Declaration → Signature → List Tree → Signature → ScopeNames → Elaborated → Type 0
-IsElaborated c d g s' g' scope' made = IsElaboratedAs (IsOutcome c s' d) (names_fault c d) c.symbols g s' g' scope' made
+abbrev pub IsElaborated : Setting → Declaration → Signature → List Tree → Signature → ScopeNames
+    → Elaborated → Type 0
+IsElaborated c d g s' g' scope' made =
+    IsElaboratedAs (IsOutcome c s' d) (names_fault c d) c.symbols g s' g' scope' made
 
 -- ---- the parts of a proposition
 abbrev pub solved_piece : List Tree → Signature → ScopeNames → SeenCode → Expression → NotedTree
-solved_piece s g names seen' e = piece (over s (symbols_at s g.symbols ++ wanting_tuples (symbols_at s g.symbols) seen'.widths) names seen'.vars) [] (length seen'.vars) None e
+solved_piece s g names seen' e =
+    piece (over s (symbols_at s g.symbols ++ wanting_tuples (symbols_at s g.symbols) seen'.widths)
+    names seen'.vars) [] (length seen'.vars) None e
 
 -- a proposition is made but for its name in the scope
-pub record IsTypedProposition (p : Place) (s : List Tree) (g : Signature) (names : ScopeNames) (k : PropKind) (x : Word) (e : Expression) (s' : List Tree) (g' : Signature) (made : Elaborated) : Type 0 where
-  pub extended : IsExtended s g s' g' (wanting_tuples (symbols_at s g.symbols) (proposition_seen e).widths ++ map rigid_symbol (rigid_names k (proposition_seen e).vars))
+pub record IsTypedProposition (p : Place) (s : List Tree) (g : Signature) (names : ScopeNames)
+    (k : PropKind) (x : Word) (e : Expression) (s' : List Tree) (g' : Signature)
+    (made : Elaborated) : Type 0 where
+  pub extended : IsExtended s g s' g'
+      (wanting_tuples (symbols_at s g.symbols) (proposition_seen e).widths
+      ++ map rigid_symbol (rigid_names k (proposition_seen e).vars))
   pub formula : Tree
-  pub solved : IsSolved (length (proposition_seen e).vars) (proposition_piece (setting p s g names) e) formula (map (match_at s') made.matches)
-  pub rigid : made.rigid ≡ entry_numbers (length (symbols_at s g.symbols ++ wanting_tuples (symbols_at s g.symbols) (proposition_seen e).widths)) (rigid_names k (proposition_seen e).vars)
-  pub decls : declarations_at s' made.decls ≡ record { theory = p.theory.now; name = p.within.now ++ x; vars = schematic k (proposition_seen e).vars; body = Says (said_as k made.rigid formula) } ∷ []
+  pub solved : IsSolved (length (proposition_seen e).vars)
+      (proposition_piece (setting p s g names) e) formula (map (match_at s') made.matches)
+  pub rigid : made.rigid ≡ entry_numbers
+      (length (symbols_at s g.symbols
+      ++ wanting_tuples (symbols_at s g.symbols) (proposition_seen e).widths))
+      (rigid_names k (proposition_seen e).vars)
+  pub decls : declarations_at s' made.decls
+      ≡ record {
+        theory = p.theory.now;
+        name = p.within.now ++ x;
+        vars =
+            schematic k (proposition_seen e).vars;
+        body = Says (said_as k made.rigid formula);
+      } ∷ []
   pub decls_held : All (DeclHeld s') made.decls
   pub matches_held : All (MatchHeld s') made.matches

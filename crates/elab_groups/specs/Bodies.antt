@@ -46,13 +46,16 @@ AllHaveBodies [] = Unit {0}
 AllHaveBodies (m ∷ ms) = is_some m.body ≡ true → AreDefined ms
 
 -- the number of the piece's tree, and its notes after those that were there
-pub record IsBodyWalked (p : NotedTree) (s : List Tree) (d : Constraints) (s' : List Tree) (d' : Constraints) (id : TermId) : Type 0 where
+pub record IsBodyWalked (p : NotedTree) (s : List Tree) (d : Constraints) (s' : List Tree)
+    (d' : Constraints) (id : TermId) : Type 0 where
   pub held : Holds s' id
   pub tree : tree_at s' id ≡ p.tree
   pub noted : IsNoted s d s' d' p.notes
 
 -- of pieces in order, after those that are there
-pub record AreBodiesWalked (ps : List NotedTree) (ms : List GroupMember) (its : List Signed) (s : List Tree) (d : Constraints) (ids : List TermId) (s' : List Tree) (d' : Constraints) (ids' : List TermId) : Type 0 where
+pub record AreBodiesWalked (ps : List NotedTree) (ms : List GroupMember) (its : List Signed)
+    (s : List Tree) (d : Constraints) (ids : List TermId) (s' : List Tree) (d' : Constraints)
+    (ids' : List TermId) : Type 0 where
   pub held : All (Holds s') ids'
   pub trees : trees_at s' ids' ≡ trees_at s ids ++ pieces_trees ps
   pub sorts : length ms ≡ length its → AreDefined ms → map sort_of (pieces_trees ps) ≡ sorts_due its
@@ -66,10 +69,12 @@ pub record BodiesHeld (s : List Tree) (it : Bodies) : Type 0 where
 -- the type variables of trees and matches are below those of the notes
 pub record AreBounded (rigid : ℕ) (ns : Notes) (es : List Tree) : Type 0 where
   pub trees : AllByRecursion (TyVarsBelow (rigid + taken ns)) es
-  pub matches : AllByRecursion (λ (m : ℕ × List Tree). AllByRecursion (TyVarsBelow (rigid + taken ns)) m.1) ns.matches
+  pub matches : AllByRecursion
+      (λ (m : ℕ × List Tree). AllByRecursion (TyVarsBelow (rigid + taken ns)) m.1) ns.matches
 
 -- a group whose names are there and whose entries stand from a number on
-pub record IsGroupMade (w : Where) (theory within : Word) (ms : List GroupMember) (k : ℕ) (gs : List SignatureTree) (s' : List Tree) (made : Elaborated) : Type 0 where
+pub record IsGroupMade (w : Where) (theory within : Word) (ms : List GroupMember) (k : ℕ)
+    (gs : List SignatureTree) (s' : List Tree) (made : Elaborated) : Type 0 where
   pub bodies : List Tree
   pub solved : BodiesSolved w ms gs bodies (map (match_at s') made.matches)
   pub decls : declarations_at s' made.decls ≡ group_decls theory within ms k gs bodies

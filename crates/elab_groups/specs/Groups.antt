@@ -1,5 +1,5 @@
--- Groups of functions, predicates and constants: what each makes, without a definition or with one (Why3 manual, "logical
--- declarations"). All type equations of a group are one list.
+-- Groups of functions, predicates and constants: what each makes, without a definition or with one
+-- (Why3 manual, "logical declarations"). All type equations of a group are one list.
 use Rattle.std.specs.Prelude.{◌≡◌, ℕ, suc, max, List, [], ◌∷◌, ◌++◌, map, reverse, length, Option, Some, None}
 use Rattle.tasks.specs.trees.Tree.{Tree, Leaf, HEnd}
 use Rattle.tasks.specs.Task.{SymbolTree, DefinitionTree, BodyTree, Makes, Defines, DeclarationTree}
@@ -35,9 +35,11 @@ abbrev pub body_piece : Where → List LocalTree → ℕ → Option Tree → Opt
 body_piece w ls n t None = bare_piece (Leaf HEnd)
 body_piece w ls n t (Some e) = piece w ls n t e
 
--- under its parameters, with its own type variables, where a value of its result's type is due, or a formula
+-- under its parameters, with its own type variables, where a value of its result's type is due, or
+-- a formula
 abbrev pub member_piece : Where → ℕ → GroupMember → SignatureTree → NotedTree
-member_piece w n m g = body_piece (with_vars w g.vars) (reverse (typed_locals (words_of_parameters m.params) g.args)) n g.result m.body
+member_piece w n m g = body_piece (with_vars w g.vars)
+    (reverse (typed_locals (words_of_parameters m.params) g.args)) n g.result m.body
 
 -- one counter of unknowns goes through all bodies
 abbrev pub member_pieces : Where → ℕ → List GroupMember → List SignatureTree → List NotedTree
@@ -63,28 +65,40 @@ abbrev pub pieces_trees : List NotedTree → List Tree
 pieces_trees ps = map (λ (p : NotedTree). p.tree) ps
 
 -- trees and matches over the unknowns of notes, at every solution of their equations
-pub record AreSolved (rigid : ℕ) (ns : Notes) (open_ : List Tree) (trees : List Tree) (ms : List (ℕ × List Tree)) : Type 0 where
+pub record AreSolved (rigid : ℕ) (ns : Notes) (open_ : List Tree) (trees : List Tree)
+    (ms : List (ℕ × List Tree)) : Type 0 where
   pub determined : IsDetermined rigid ns
-  pub trees_are : (f : ℕ → Tree) → IsSolution rigid f ns.equations → map (assign rigid f) open_ ≡ trees
+  pub trees_are : (f : ℕ → Tree) → IsSolution rigid f ns.equations
+      → map (assign rigid f) open_ ≡ trees
   pub matches : AreMatches rigid ns ms
 
-abbrev pub BodiesSolved : Where → List GroupMember → List SignatureTree → List Tree → List (ℕ × List Tree) → Type 0
-BodiesSolved w ms gs trees matches = AreSolved (most_variables gs) (pieces_notes (bodies_pieces w ms gs)) (pieces_trees (bodies_pieces w ms gs)) trees matches
+abbrev pub BodiesSolved : Where → List GroupMember → List SignatureTree → List Tree
+    → List (ℕ × List Tree) → Type 0
+BodiesSolved w ms gs trees matches =
+    AreSolved (most_variables gs) (pieces_notes (bodies_pieces w ms gs))
+    (pieces_trees (bodies_pieces w ms gs)) trees matches
 
 -- ---- definitions
 abbrev pub or_end : Option Tree → Tree
 or_end None = Leaf HEnd
 or_end (Some e) = e
 
--- a symbol on its parameters with its body: an equation for a function, an equivalence for a predicate
+-- a symbol on its parameters with its body: an equation for a function, an equivalence for a
+-- predicate
 abbrev pub inner_equation : ℕ → SignatureTree → Option Tree → Tree → Tree
-inner_equation k g None body = or_end (equated Predicate k (cells (type_variables 0 (length g.vars))) (cells (bound_variables g.args)) None body)
-inner_equation k g (Some t) body = or_end (equated Function k (cells (type_variables 0 (length g.vars))) (cells (bound_variables g.args)) (Some t) body)
+inner_equation k g None body =
+    or_end (equated Predicate k (cells (type_variables 0 (length g.vars)))
+    (cells (bound_variables g.args)) None body)
+inner_equation k g (Some t) body =
+    or_end (equated Function k (cells (type_variables 0 (length g.vars)))
+    (cells (bound_variables g.args)) (Some t) body)
 
 abbrev pub definitions : ℕ → List SignatureTree → List Tree → List DefinitionTree
 definitions k [] bs = []
 definitions k (g ∷ gs) [] = []
-definitions k (g ∷ gs) (b ∷ bs) = record { symbol = k; equation = for_all g.args (inner_equation k g g.result b) } ∷ definitions (suc k) gs bs
+definitions k (g ∷ gs) (b ∷ bs) =
+    record { symbol = k; equation = for_all g.args (inner_equation k g g.result b) }
+    ∷ definitions (suc k) gs bs
 
 -- a group defines its members, or makes the only one, which has no body
 abbrev pub group_body : Option Expression → ℕ → List SignatureTree → List Tree → BodyTree
@@ -92,10 +106,18 @@ group_body None k gs bs = Makes k
 group_body (Some e) k gs bs = Defines (definitions k gs bs)
 
 -- it has the name and the number of type variables of its first member
-abbrev pub group_decls : Word → Word → List GroupMember → ℕ → List SignatureTree → List Tree → List DeclarationTree
+abbrev pub group_decls : Word → Word → List GroupMember → ℕ → List SignatureTree → List Tree
+    → List DeclarationTree
 group_decls theory within [] k gs bs = []
 group_decls theory within (m ∷ ms) k [] bs = []
-group_decls theory within (m ∷ ms) k (g ∷ gs) bs = record { theory = theory; name = within ++ m.called.name; vars = length g.vars; body = group_body m.body k (g ∷ gs) bs } ∷ []
+group_decls theory within (m ∷ ms) k (g ∷ gs) bs =
+    record {
+      theory = theory;
+      name = within ++ m.called.name;
+      vars = length g.vars;
+      body =
+          group_body m.body k (g ∷ gs) bs;
+    } ∷ []
 
 -- ---- a group where it is: the entries of its tuples, then those of its members
 abbrev pub group_tuples : Setting → List GroupMember → List SymbolTree
@@ -119,7 +141,8 @@ pub record IsGroup (c : Setting) (ms : List GroupMember) (o : Outcome) : Type 0 
   pub solved : BodiesSolved (within_group c ms) ms (group_signatures c ms) bodies o.matches
   pub symbols : o.symbols ≡ group_tuples c ms ++ member_entries c (before_group c ms) ms
   pub scope : o.scope ≡ group_scope c ms
-  pub decls : o.decls ≡ group_decls c.theory c.within ms (length (before_group c ms)) (group_signatures c ms) bodies
+  pub decls : o.decls ≡ group_decls c.theory c.within ms (length (before_group c ms))
+      (group_signatures c ms) bodies
   pub rigid : o.rigid ≡ []
 
 -- the first fault of the names that it uses
@@ -128,14 +151,18 @@ group_used c ms = members_fault (within_group c ms) ms
 
 -- of those that it makes, and then of those that it uses
 abbrev pub group_fault : Setting → List GroupMember → Option NamingFault
-group_fault c ms = first_of (made_fault (declared_in c.scope) [] (made_by_members ms)) (group_used c ms)
+group_fault c ms =
+    first_of (made_fault (declared_in c.scope) [] (made_by_members ms)) (group_used c ms)
 
 -- the notes of its type equations
 abbrev pub group_notes : Setting → List GroupMember → Notes
 group_notes c ms = pieces_notes (bodies_pieces (within_group c ms) ms (group_signatures c ms))
 
-abbrev pub IsGroupElaborated : Setting → List GroupMember → Signature → List Tree → Signature → ScopeNames → Elaborated → Type 0
-IsGroupElaborated c ms g s' g' scope' made = IsElaboratedAs (IsGroup c ms) (group_fault c ms) c.symbols g s' g' scope' made
+abbrev pub IsGroupElaborated : Setting → List GroupMember → Signature → List Tree → Signature
+    → ScopeNames → Elaborated → Type 0
+IsGroupElaborated c ms g s' g' scope' made =
+    IsElaboratedAs (IsGroup c ms) (group_fault c ms) c.symbols g s' g' scope' made
 
 abbrev pub IsGroupRefusal : Setting → List GroupMember → ElabFault → Type 0
-IsGroupRefusal c ms f = IsRefusalFor c.decl (group_fault c ms) (most_variables (group_signatures c ms)) (group_notes c ms) f
+IsGroupRefusal c ms f = IsRefusalFor c.decl (group_fault c ms)
+    (most_variables (group_signatures c ms)) (group_notes c ms) f

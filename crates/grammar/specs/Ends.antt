@@ -14,16 +14,18 @@ pub record TakesAll (start : List Symbol) (xs : List Terminal) (n : ℕ) : Type 
 -- Of the token strings that the first terminals are, up to n of them, the longest.
 abbrev pub IsLongest : List Symbol → List Terminal → ℕ → Option ℕ → Type 0
 IsLongest k xs n None = (m : ℕ) → m ≤ n → accepts k (take m xs) ≡ false
-IsLongest k xs n (Some b) = (b ≤ n) × (accepts k (take b xs) ≡ true) × ((m : ℕ) → b < m → m ≤ n → accepts k (take m xs) ≡ false)
+IsLongest k xs n (Some b) = (b ≤ n) × (accepts k (take b xs) ≡ true)
+    × ((m : ℕ) → b < m → m ≤ n → accepts k (take m xs) ≡ false)
 
 -- terminals that complete others, or that nothing does
 abbrev pub Completes : List Symbol → List Terminal → Option (List Terminal) → Type 0
 Completes k xs None = (ys : List Terminal) → accepts k (xs ++ ys) ≡ false
 Completes k xs (Some ys) = accepts k (xs ++ ys) ≡ true
 
--- The terminals are no token string. The first n of them begin one, and with the next one they begin none; whether another
--- terminal could be in its place.
-pub record IsFault (k : List Symbol) (xs : List Terminal) (other : Terminal) (n : ℕ) (stands : Bool) : Type 0 where
+-- The terminals are no token string. The first n of them begin one, and with the next one they
+-- begin none; whether another terminal could be in its place.
+pub record IsFault (k : List Symbol) (xs : List Terminal) (other : Terminal) (n : ℕ)
+    (stands : Bool) : Type 0 where
   pub takes : TakesAll k xs n
   pub none : accepts k xs ≡ false
   pub other_stands : stands ≡ is_taken (run k (take n xs ++ other ∷ []))

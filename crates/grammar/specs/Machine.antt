@@ -1,4 +1,5 @@
--- The machine without trees: a stack of symbols, which takes a terminal or is stuck, and what completes it.
+-- The machine without trees: a stack of symbols, which takes a terminal or is stuck, and what
+-- completes it.
 use Rattle.std.specs.Prelude.{Bool, true, false, ◌&&◌, if◌then◌else◌, List, [], ◌∷◌, ◌++◌, Option, Some, None}
 use Rattle.grammar.specs.Common.{Terminal, Symbol}
 use Rattle.grammar.specs.declared.symbols.Symbol.TheVariants as s
@@ -25,20 +26,23 @@ is_seal _ = false
 abbrev pub sealed : Bool → Symbol → Bool
 sealed b s = b && is_tail s
 
-abbrev pub on_top : Option (List Symbol) → Bool → List Symbol → Option (List Symbol) → Option (List Symbol)
+abbrev pub on_top : Option (List Symbol) → Bool → List Symbol → Option (List Symbol)
+    → Option (List Symbol)
 on_top (Some ss) o k r = Some (ss ++ k)
 on_top None true k r = r
 on_top None false k r = None
 
 abbrev pub step : Bool → List Symbol → Terminal → Option (List Symbol)
 step b [] x = None
-step b (s ∷ k) x = if sealed b s then step true k x else on_top (takes s x) (optional s) k (step (is_seal s) k x)
+step b (s ∷ k) x =
+    if sealed b s then step true k x else on_top (takes s x) (optional s) k (step (is_seal s) k x)
 
 abbrev pub may_end : List Symbol → Bool
 may_end [] = true
 may_end (s ∷ k) = optional s && may_end k
 
-abbrev pub next_stack : (List Symbol → Option (List Symbol)) → Option (List Symbol) → Option (List Symbol)
+abbrev pub next_stack : (List Symbol → Option (List Symbol)) → Option (List Symbol)
+    → Option (List Symbol)
 next_stack f (Some k) = f k
 next_stack f None = None
 

@@ -40,10 +40,13 @@ stack_or_else None o = o
 
 -- what comes after a token with which an operand other than `not` and a prefix form begins
 abbrev pub operand_takes : ℕ → Terminal → Option (List Symbol)
-operand_takes m x = stack_or_else (find_production open_productions x) (option_map (λ ss. ss ++ s.Tail m 9 ∷ []) (find_production prim_productions x))
+operand_takes m x = stack_or_else (find_production open_productions x)
+    (option_map (λ ss. ss ++ s.Tail m 9 ∷ []) (find_production prim_productions x))
 
 abbrev pub tail_takes : ℕ → ℕ → Terminal → Option (List Symbol)
-tail_takes m u x = if is_infix x && (nat_le m (prec x) && nat_le (need x) u) then Some (s.Expr (right x) ∷ s.Tail m (prec x) ∷ []) else None
+tail_takes m u x = if is_infix x
+    && (nat_le m (prec x) && nat_le (need x) u) then Some
+    (s.Expr (right x) ∷ s.Tail m (prec x) ∷ []) else None
 
 abbrev pub HasShortest : Symbol → List Terminal → Type 0
 HasShortest (s.Take x) xs = Unit {0}

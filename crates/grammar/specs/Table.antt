@@ -1,4 +1,5 @@
--- The grammar (Why3 manual, "Syntax"): for each rule the terminals with which it begins, and the symbols that each leaves.
+-- The grammar (Why3 manual, "Syntax"): for each rule the terminals with which it begins, and the
+-- symbols that each leaves.
 use Rattle.std.specs.Prelude.{ℕ, Bool, true, false, ◌&&◌, nat_le, if◌then◌else◌, List, [], ◌∷◌, ◌++◌}
 use Rattle.grammar.specs.Common.{Terminal, Symbol, prec, need, right}
 use Rattle.tokens_why.specs.declared.terminal.Terminal.TheVariants as t
@@ -20,25 +21,35 @@ with_symbols_after (r ∷ rs) ss = production r.first (r.behind ++ ss) ∷ with_
 -- the operators that a tail takes
 abbrev pub tail_of : ℕ → ℕ → List Terminal → List Production
 tail_of m u [] = []
-tail_of m u (o ∷ os) = if nat_le m (prec o) && nat_le (need o) u then production o (s.Expr (right o) ∷ s.Tail m (prec o) ∷ []) ∷ tail_of m u os else tail_of m u os
+tail_of m u (o ∷ os) = if nat_le m (prec o)
+    && nat_le (need o) u then production o (s.Expr (right o) ∷ s.Tail m (prec o) ∷ [])
+    ∷ tail_of m u os else tail_of m u os
 
 abbrev pub not_productions : ℕ → List Production
-not_productions m = if nat_le m 3 then production t.NotWord (s.Expr 3 ∷ s.Tail m 3 ∷ []) ∷ [] else []
+not_productions m =
+    if nat_le m 3 then production t.NotWord (s.Expr 3 ∷ s.Tail m 3 ∷ []) ∷ [] else []
 
 abbrev pub atype_productions : List Production
-atype_productions = production t.TyVar [] ∷ production t.Lident [] ∷ production t.Uident (s.Take t.Dot ∷ s.Qlid ∷ []) ∷ production t.LParen (s.Ttuple ∷ []) ∷ []
+atype_productions = production t.TyVar [] ∷ production t.Lident []
+    ∷ production t.Uident (s.Take t.Dot ∷ s.Qlid ∷ []) ∷ production t.LParen (s.Ttuple ∷ []) ∷ []
 
 abbrev pub fields_productions : List Production
-fields_productions = (production t.Bar (s.Take t.Uident ∷ s.Fields ∷ []) ∷ production t.WithWord (s.Take t.Lident ∷ s.Algvars ∷ []) ∷ []) ++ with_symbols_after atype_productions (s.Fields ∷ [])
+fields_productions = (production t.Bar (s.Take t.Uident ∷ s.Fields ∷ [])
+    ∷ production t.WithWord (s.Take t.Lident ∷ s.Algvars ∷ []) ∷ [])
+    ++ with_symbols_after atype_productions (s.Fields ∷ [])
 
 abbrev pub op_productions : List Production
-op_productions = production t.Lident [] ∷ production t.StarName [] ∷ production t.LParen (s.Opname ∷ []) ∷ []
+op_productions =
+    production t.Lident [] ∷ production t.StarName [] ∷ production t.LParen (s.Opname ∷ []) ∷ []
 
 abbrev pub type_productions : List Production
-type_productions = production t.TyVar [] ∷ production t.Lident (s.Targs ∷ []) ∷ production t.Uident (s.Take t.Dot ∷ s.Qlid ∷ s.Targs ∷ []) ∷ production t.LParen (s.Ttuple ∷ []) ∷ []
+type_productions = production t.TyVar [] ∷ production t.Lident (s.Targs ∷ [])
+    ∷ production t.Uident (s.Take t.Dot ∷ s.Qlid ∷ s.Targs ∷ [])
+    ∷ production t.LParen (s.Ttuple ∷ []) ∷ []
 
 abbrev pub ttuple_productions : List Production
-ttuple_productions = (production t.RParen [] ∷ []) ++ with_symbols_after type_productions (s.Tmore ∷ [])
+ttuple_productions =
+    (production t.RParen [] ∷ []) ++ with_symbols_after type_productions (s.Tmore ∷ [])
 
 abbrev pub tmore_productions : List Production
 tmore_productions = production t.RParen [] ∷ production t.Comma (s.TypeOf ∷ s.Tmore ∷ []) ∷ []
@@ -47,62 +58,121 @@ abbrev pub qid_productions : List Production
 qid_productions = production t.Lident [] ∷ production t.Uident (s.Qids ∷ []) ∷ []
 
 abbrev pub pat_productions : List Production
-pat_productions = production t.Wild (s.AsPart ∷ []) ∷ production t.Lident (s.AsPart ∷ []) ∷ production t.Uident (s.Quids ∷ s.Patoms ∷ s.AsPart ∷ []) ∷ production t.LParen (s.Ptuple ∷ s.AsPart ∷ []) ∷ []
+pat_productions = production t.Wild (s.AsPart ∷ []) ∷ production t.Lident (s.AsPart ∷ [])
+    ∷ production t.Uident (s.Quids ∷ s.Patoms ∷ s.AsPart ∷ [])
+    ∷ production t.LParen (s.Ptuple ∷ s.AsPart ∷ []) ∷ []
 
 abbrev pub patom_productions : List Production
-patom_productions = production t.Wild [] ∷ production t.Lident [] ∷ production t.Uident (s.Quids ∷ []) ∷ production t.LParen (s.Ptuple ∷ []) ∷ []
+patom_productions = production t.Wild [] ∷ production t.Lident []
+    ∷ production t.Uident (s.Quids ∷ []) ∷ production t.LParen (s.Ptuple ∷ []) ∷ []
 
 abbrev pub binders_productions : List Production
-binders_productions = production t.Comma (s.Take t.Lident ∷ s.Binder ∷ []) ∷ production t.LBrack (s.Expr 0 ∷ s.Trigger ∷ []) ∷ production t.Dot (s.Expr 0 ∷ s.Seal ∷ []) ∷ []
+binders_productions = production t.Comma (s.Take t.Lident ∷ s.Binder ∷ [])
+    ∷ production t.LBrack (s.Expr 0 ∷ s.Trigger ∷ [])
+    ∷ production t.Dot (s.Expr 0 ∷ s.Seal ∷ []) ∷ []
 
 abbrev pub open_productions : List Production
-open_productions = production t.IfWord (s.Expr 0 ∷ s.Take t.ThenWord ∷ s.Expr 0 ∷ s.Take t.ElseWord ∷ s.Expr 0 ∷ s.Seal ∷ []) ∷ production t.LetWord (s.Pat ∷ s.Letpats ∷ []) ∷ production t.ForallWord (s.Take t.Lident ∷ s.Binder ∷ []) ∷ production t.ExistsWord (s.Take t.Lident ∷ s.Binder ∷ []) ∷ []
+open_productions = production t.IfWord
+    (s.Expr 0 ∷ s.Take t.ThenWord ∷ s.Expr 0 ∷ s.Take t.ElseWord ∷ s.Expr 0 ∷ s.Seal ∷ [])
+    ∷ production t.LetWord (s.Pat ∷ s.Letpats ∷ [])
+    ∷ production t.ForallWord (s.Take t.Lident ∷ s.Binder ∷ [])
+    ∷ production t.ExistsWord (s.Take t.Lident ∷ s.Binder ∷ []) ∷ []
 
 abbrev pub prim_productions : List Production
-prim_productions = production t.Lident (s.Args ∷ []) ∷ production t.Uident (s.Scoped ∷ s.Args ∷ []) ∷ production t.StarName (s.Args ∷ []) ∷ production t.LParen (s.Hparen ∷ []) ∷ production t.Int [] ∷ production t.TrueWord [] ∷ production t.FalseWord [] ∷ production t.MatchWord (s.Expr 0 ∷ s.Scrutinees ∷ []) ∷ []
+prim_productions = production t.Lident (s.Args ∷ []) ∷ production t.Uident (s.Scoped ∷ s.Args ∷ [])
+    ∷ production t.StarName (s.Args ∷ []) ∷ production t.LParen (s.Hparen ∷ [])
+    ∷ production t.Int [] ∷ production t.TrueWord [] ∷ production t.FalseWord []
+    ∷ production t.MatchWord (s.Expr 0 ∷ s.Scrutinees ∷ []) ∷ []
 
 abbrev pub atom_productions : List Production
-atom_productions = production t.Lident [] ∷ production t.Uident (s.Scoped ∷ []) ∷ production t.StarName [] ∷ production t.LParen (s.Aparen ∷ []) ∷ production t.Int [] ∷ production t.TrueWord [] ∷ production t.FalseWord [] ∷ production t.MatchWord (s.Expr 0 ∷ s.Scrutinees ∷ []) ∷ []
+atom_productions = production t.Lident [] ∷ production t.Uident (s.Scoped ∷ [])
+    ∷ production t.StarName [] ∷ production t.LParen (s.Aparen ∷ []) ∷ production t.Int []
+    ∷ production t.TrueWord [] ∷ production t.FalseWord []
+    ∷ production t.MatchWord (s.Expr 0 ∷ s.Scrutinees ∷ []) ∷ []
 
 abbrev pub expr_productions : ℕ → List Production
-expr_productions m = not_productions m ++ ((production t.Minus (s.Expr 8 ∷ s.Tail m 8 ∷ []) ∷ production t.PrefixOperator (s.Expr 8 ∷ s.Tail m 8 ∷ []) ∷ []) ++ (open_productions ++ with_symbols_after prim_productions (s.Tail m 9 ∷ [])))
+expr_productions m = not_productions m
+    ++ ((production t.Minus (s.Expr 8 ∷ s.Tail m 8 ∷ [])
+    ∷ production t.PrefixOperator (s.Expr 8 ∷ s.Tail m 8 ∷ []) ∷ [])
+    ++ (open_productions ++ with_symbols_after prim_productions (s.Tail m 9 ∷ [])))
 
 abbrev pub productions : Symbol → List Production
 productions (s.Take x) = production x [] ∷ []
 productions (s.Expr m) = expr_productions m
 productions (s.Tail m u) = tail_of m u operators
 productions s.Seal = []
-productions s.File = production t.TheoryWord (s.Take t.Uident ∷ s.Decls ∷ s.File ∷ []) ∷ production t.ModuleWord (s.Take t.Uident ∷ s.Decls ∷ s.File ∷ []) ∷ []
-productions s.Decls = production t.EndWord [] ∷ production t.ScopeWord (s.Take t.Uident ∷ s.Decls ∷ s.Decls ∷ []) ∷ production t.TypeWord (s.Take t.Lident ∷ s.Tvars ∷ s.Decls ∷ []) ∷ production t.FunctionWord (s.Op ∷ s.Params ∷ s.Take t.Colon ∷ s.TypeOf ∷ s.Body ∷ s.Decls ∷ []) ∷ production t.PredicateWord (s.Op ∷ s.Params ∷ s.Body ∷ s.Decls ∷ []) ∷ production t.ConstantWord (s.Op ∷ s.Take t.Colon ∷ s.TypeOf ∷ s.Value ∷ s.Decls ∷ []) ∷ production t.InductiveWord (s.Op ∷ s.Params ∷ s.Take t.Equal ∷ s.Clause ∷ s.Decls ∷ []) ∷ production t.AxiomWord (s.Ident ∷ s.Take t.Colon ∷ s.Expr 0 ∷ s.Decls ∷ []) ∷ production t.LemmaWord (s.Ident ∷ s.Take t.Colon ∷ s.Expr 0 ∷ s.Decls ∷ []) ∷ production t.GoalWord (s.Ident ∷ s.Take t.Colon ∷ s.Expr 0 ∷ s.Decls ∷ []) ∷ production t.UseWord (s.Used ∷ s.Decls ∷ []) ∷ production t.CloneWord (s.Cloned ∷ s.Decls ∷ []) ∷ []
+productions s.File = production t.TheoryWord (s.Take t.Uident ∷ s.Decls ∷ s.File ∷ [])
+    ∷ production t.ModuleWord (s.Take t.Uident ∷ s.Decls ∷ s.File ∷ []) ∷ []
+productions s.Decls = production t.EndWord []
+    ∷ production t.ScopeWord (s.Take t.Uident ∷ s.Decls ∷ s.Decls ∷ [])
+    ∷ production t.TypeWord (s.Take t.Lident ∷ s.Tvars ∷ s.Decls ∷ [])
+    ∷ production t.FunctionWord
+    (s.Op ∷ s.Params ∷ s.Take t.Colon ∷ s.TypeOf ∷ s.Body ∷ s.Decls ∷ [])
+    ∷ production t.PredicateWord (s.Op ∷ s.Params ∷ s.Body ∷ s.Decls ∷ [])
+    ∷ production t.ConstantWord (s.Op ∷ s.Take t.Colon ∷ s.TypeOf ∷ s.Value ∷ s.Decls ∷ [])
+    ∷ production t.InductiveWord (s.Op ∷ s.Params ∷ s.Take t.Equal ∷ s.Clause ∷ s.Decls ∷ [])
+    ∷ production t.AxiomWord (s.Ident ∷ s.Take t.Colon ∷ s.Expr 0 ∷ s.Decls ∷ [])
+    ∷ production t.LemmaWord (s.Ident ∷ s.Take t.Colon ∷ s.Expr 0 ∷ s.Decls ∷ [])
+    ∷ production t.GoalWord (s.Ident ∷ s.Take t.Colon ∷ s.Expr 0 ∷ s.Decls ∷ [])
+    ∷ production t.UseWord (s.Used ∷ s.Decls ∷ [])
+    ∷ production t.CloneWord (s.Cloned ∷ s.Decls ∷ []) ∷ []
 productions s.Tvars = production t.TyVar (s.Tvars ∷ []) ∷ production t.Equal (s.Typedef ∷ []) ∷ []
-productions s.Typedef = production t.TyVar [] ∷ production t.Lident (s.Targs ∷ []) ∷ production t.LParen (s.Ttuple ∷ []) ∷ production t.Uident (s.Upper ∷ []) ∷ production t.Bar (s.Take t.Uident ∷ s.Fields ∷ []) ∷ []
-productions s.Upper = (production t.Dot (s.Qlid ∷ s.Targs ∷ []) ∷ []) ++ with_symbols_after fields_productions []
+productions s.Typedef = production t.TyVar [] ∷ production t.Lident (s.Targs ∷ [])
+    ∷ production t.LParen (s.Ttuple ∷ []) ∷ production t.Uident (s.Upper ∷ [])
+    ∷ production t.Bar (s.Take t.Uident ∷ s.Fields ∷ []) ∷ []
+productions s.Upper =
+    (production t.Dot (s.Qlid ∷ s.Targs ∷ []) ∷ []) ++ with_symbols_after fields_productions []
 productions s.Algvars = production t.TyVar (s.Algvars ∷ []) ∷ production t.Equal (s.Con ∷ []) ∷ []
-productions s.Con = production t.Uident (s.Fields ∷ []) ∷ production t.Bar (s.Take t.Uident ∷ s.Fields ∷ []) ∷ []
+productions s.Con =
+    production t.Uident (s.Fields ∷ []) ∷ production t.Bar (s.Take t.Uident ∷ s.Fields ∷ []) ∷ []
 productions s.Op = op_productions
-productions s.Opname = production t.Equal (s.Opend ∷ []) ∷ production t.Minus (s.Opend ∷ []) ∷ production t.Operator1 (s.Opend ∷ []) ∷ production t.Operator2 (s.Opend ∷ []) ∷ production t.Operator3 (s.Opend ∷ []) ∷ production t.Operator4 (s.Opend ∷ []) ∷ production t.PrefixOperator (s.Opend ∷ []) ∷ []
+productions s.Opname = production t.Equal (s.Opend ∷ []) ∷ production t.Minus (s.Opend ∷ [])
+    ∷ production t.Operator1 (s.Opend ∷ []) ∷ production t.Operator2 (s.Opend ∷ [])
+    ∷ production t.Operator3 (s.Opend ∷ []) ∷ production t.Operator4 (s.Opend ∷ [])
+    ∷ production t.PrefixOperator (s.Opend ∷ []) ∷ []
 productions s.Opend = production t.RParen [] ∷ production t.Wild (s.Take t.RParen ∷ []) ∷ []
 productions s.Ident = production t.Lident [] ∷ production t.Uident [] ∷ []
-productions s.Params = (production t.LParen (s.Pparen ∷ s.Params ∷ []) ∷ []) ++ with_symbols_after atype_productions (s.Params ∷ [])
-productions s.Pparen = (production t.Lident (s.Pname ∷ []) ∷ []) ++ with_symbols_after ttuple_productions []
-productions s.Pname = ((production t.Colon (s.TypeOf ∷ s.Take t.RParen ∷ []) ∷ production t.Lident (s.Pname ∷ []) ∷ []) ++ with_symbols_after atype_productions (s.Targs ∷ s.Tmore ∷ [])) ++ with_symbols_after tmore_productions []
+productions s.Params = (production t.LParen (s.Pparen ∷ s.Params ∷ []) ∷ [])
+    ++ with_symbols_after atype_productions (s.Params ∷ [])
+productions s.Pparen =
+    (production t.Lident (s.Pname ∷ []) ∷ []) ++ with_symbols_after ttuple_productions []
+productions s.Pname = ((production t.Colon (s.TypeOf ∷ s.Take t.RParen ∷ [])
+    ∷ production t.Lident (s.Pname ∷ []) ∷ [])
+    ++ with_symbols_after atype_productions (s.Targs ∷ s.Tmore ∷ []))
+    ++ with_symbols_after tmore_productions []
 productions s.Body = production t.Equal (s.Expr 0 ∷ s.Members ∷ []) ∷ []
 productions s.Members = production t.WithWord (s.Op ∷ s.Params ∷ s.Member ∷ []) ∷ []
-productions s.Member = production t.Equal (s.Expr 0 ∷ s.Members ∷ []) ∷ production t.Colon (s.TypeOf ∷ s.Take t.Equal ∷ s.Expr 0 ∷ s.Members ∷ []) ∷ []
+productions s.Member = production t.Equal (s.Expr 0 ∷ s.Members ∷ [])
+    ∷ production t.Colon (s.TypeOf ∷ s.Take t.Equal ∷ s.Expr 0 ∷ s.Members ∷ []) ∷ []
 productions s.Value = production t.Equal (s.Expr 0 ∷ []) ∷ []
-productions s.Clause = production t.Lident (s.Take t.Colon ∷ s.Expr 0 ∷ s.Clauses ∷ []) ∷ production t.Uident (s.Take t.Colon ∷ s.Expr 0 ∷ s.Clauses ∷ []) ∷ production t.Bar (s.Ident ∷ s.Take t.Colon ∷ s.Expr 0 ∷ s.Clauses ∷ []) ∷ []
-productions s.Clauses = production t.Bar (s.Ident ∷ s.Take t.Colon ∷ s.Expr 0 ∷ s.Clauses ∷ []) ∷ production t.WithWord (s.Op ∷ s.Params ∷ s.Take t.Equal ∷ s.Clause ∷ []) ∷ []
-productions s.Used = production t.ExportWord (s.Path ∷ []) ∷ production t.ImportWord (s.Path ∷ s.Renamed ∷ []) ∷ production t.Lident (s.Take t.Dot ∷ s.Path ∷ s.Renamed ∷ []) ∷ production t.Uident (s.Renamed ∷ []) ∷ []
-productions s.Cloned = production t.ExportWord (s.Path ∷ s.Subst ∷ []) ∷ production t.ImportWord (s.Path ∷ s.Renamed ∷ s.Subst ∷ []) ∷ production t.Lident (s.Take t.Dot ∷ s.Path ∷ s.Renamed ∷ s.Subst ∷ []) ∷ production t.Uident (s.Renamed ∷ s.Subst ∷ []) ∷ []
+productions s.Clause = production t.Lident (s.Take t.Colon ∷ s.Expr 0 ∷ s.Clauses ∷ [])
+    ∷ production t.Uident (s.Take t.Colon ∷ s.Expr 0 ∷ s.Clauses ∷ [])
+    ∷ production t.Bar (s.Ident ∷ s.Take t.Colon ∷ s.Expr 0 ∷ s.Clauses ∷ []) ∷ []
+productions s.Clauses = production t.Bar (s.Ident ∷ s.Take t.Colon ∷ s.Expr 0 ∷ s.Clauses ∷ [])
+    ∷ production t.WithWord (s.Op ∷ s.Params ∷ s.Take t.Equal ∷ s.Clause ∷ []) ∷ []
+productions s.Used = production t.ExportWord (s.Path ∷ [])
+    ∷ production t.ImportWord (s.Path ∷ s.Renamed ∷ [])
+    ∷ production t.Lident (s.Take t.Dot ∷ s.Path ∷ s.Renamed ∷ [])
+    ∷ production t.Uident (s.Renamed ∷ []) ∷ []
+productions s.Cloned = production t.ExportWord (s.Path ∷ s.Subst ∷ [])
+    ∷ production t.ImportWord (s.Path ∷ s.Renamed ∷ s.Subst ∷ [])
+    ∷ production t.Lident (s.Take t.Dot ∷ s.Path ∷ s.Renamed ∷ s.Subst ∷ [])
+    ∷ production t.Uident (s.Renamed ∷ s.Subst ∷ []) ∷ []
 productions s.Path = production t.Lident (s.Take t.Dot ∷ s.Path ∷ []) ∷ production t.Uident [] ∷ []
 productions s.Renamed = production t.AsWord (s.Take t.Uident ∷ []) ∷ []
 productions s.Subst = production t.WithWord (s.Elem ∷ s.Elems ∷ []) ∷ []
 productions s.Elems = production t.Comma (s.Elem ∷ s.Elems ∷ []) ∷ []
-productions s.Elem = production t.TypeWord (s.Qlid ∷ s.Elvars ∷ []) ∷ production t.FunctionWord (s.Qop ∷ s.Take t.Equal ∷ s.Qop ∷ []) ∷ production t.ConstantWord (s.Qop ∷ s.Take t.Equal ∷ s.Qop ∷ []) ∷ production t.PredicateWord (s.Qop ∷ s.Take t.Equal ∷ s.Qop ∷ []) ∷ production t.LemmaWord (s.Qid ∷ []) ∷ production t.GoalWord (s.Qid ∷ []) ∷ production t.AxiomWord (s.Axioms ∷ []) ∷ []
+productions s.Elem = production t.TypeWord (s.Qlid ∷ s.Elvars ∷ [])
+    ∷ production t.FunctionWord (s.Qop ∷ s.Take t.Equal ∷ s.Qop ∷ [])
+    ∷ production t.ConstantWord (s.Qop ∷ s.Take t.Equal ∷ s.Qop ∷ [])
+    ∷ production t.PredicateWord (s.Qop ∷ s.Take t.Equal ∷ s.Qop ∷ [])
+    ∷ production t.LemmaWord (s.Qid ∷ []) ∷ production t.GoalWord (s.Qid ∷ [])
+    ∷ production t.AxiomWord (s.Axioms ∷ []) ∷ []
 productions s.Axioms = (production t.Dot [] ∷ []) ++ with_symbols_after qid_productions []
 productions s.Elvars = production t.TyVar (s.Elvars ∷ []) ∷ production t.Equal (s.TypeOf ∷ []) ∷ []
 productions s.Qlid = production t.Lident [] ∷ production t.Uident (s.Take t.Dot ∷ s.Qlid ∷ []) ∷ []
-productions s.Qop = (production t.Uident (s.Take t.Dot ∷ s.Qop ∷ []) ∷ []) ++ with_symbols_after op_productions []
+productions s.Qop =
+    (production t.Uident (s.Take t.Dot ∷ s.Qop ∷ []) ∷ []) ++ with_symbols_after op_productions []
 productions s.Qid = qid_productions
 productions s.Qids = production t.Dot (s.Qid ∷ []) ∷ []
 productions s.TypeOf = type_productions
@@ -113,31 +183,55 @@ productions s.Tmore = tmore_productions
 productions s.Pat = pat_productions
 productions s.AsPart = production t.AsWord (s.Take t.Lident ∷ []) ∷ []
 productions s.Quids = production t.Dot (s.Take t.Uident ∷ s.Quids ∷ []) ∷ []
-productions s.Ptuple = (production t.RParen [] ∷ []) ++ with_symbols_after pat_productions (s.Pmore ∷ [])
+productions s.Ptuple =
+    (production t.RParen [] ∷ []) ++ with_symbols_after pat_productions (s.Pmore ∷ [])
 productions s.Pmore = production t.RParen [] ∷ production t.Comma (s.Pat ∷ s.Pmore ∷ []) ∷ []
 productions s.Patoms = with_symbols_after patom_productions (s.Patoms ∷ [])
-productions s.GroupRest = production t.RParen [] ∷ production t.Comma (s.Expr 0 ∷ s.More ∷ []) ∷ production t.Colon (s.TypeOf ∷ s.Take t.RParen ∷ []) ∷ []
+productions s.GroupRest = production t.RParen [] ∷ production t.Comma (s.Expr 0 ∷ s.More ∷ [])
+    ∷ production t.Colon (s.TypeOf ∷ s.Take t.RParen ∷ []) ∷ []
 productions s.More = production t.RParen [] ∷ production t.Comma (s.Expr 0 ∷ s.More ∷ []) ∷ []
-productions s.Scrutinees = production t.Comma (s.Expr 0 ∷ s.Scrutinees ∷ []) ∷ production t.WithWord (s.Branch ∷ []) ∷ []
-productions s.Branch = (production t.Bar (s.Pat ∷ s.Arm ∷ []) ∷ []) ++ with_symbols_after pat_productions (s.Arm ∷ [])
-productions s.Arm = production t.Comma (s.Pat ∷ s.Arm ∷ []) ∷ production t.Bar (s.Pat ∷ s.Arm ∷ []) ∷ production t.Arrow (s.Expr 0 ∷ s.Branches ∷ []) ∷ []
+productions s.Scrutinees =
+    production t.Comma (s.Expr 0 ∷ s.Scrutinees ∷ []) ∷ production t.WithWord (s.Branch ∷ []) ∷ []
+productions s.Branch =
+    (production t.Bar (s.Pat ∷ s.Arm ∷ []) ∷ []) ++ with_symbols_after pat_productions (s.Arm ∷ [])
+productions s.Arm = production t.Comma (s.Pat ∷ s.Arm ∷ []) ∷ production t.Bar (s.Pat ∷ s.Arm ∷ [])
+    ∷ production t.Arrow (s.Expr 0 ∷ s.Branches ∷ []) ∷ []
 productions s.Branches = production t.Bar (s.Pat ∷ s.Arm ∷ []) ∷ production t.EndWord [] ∷ []
-productions s.Letpats = production t.Comma (s.Pat ∷ s.Letpats ∷ []) ∷ production t.Equal (s.Expr 0 ∷ s.Take t.InWord ∷ s.Expr 0 ∷ s.Seal ∷ []) ∷ []
-productions s.Binder = (production t.Lident (s.Binder ∷ []) ∷ production t.Colon (s.TypeOf ∷ s.Binders ∷ []) ∷ []) ++ with_symbols_after binders_productions []
+productions s.Letpats = production t.Comma (s.Pat ∷ s.Letpats ∷ [])
+    ∷ production t.Equal (s.Expr 0 ∷ s.Take t.InWord ∷ s.Expr 0 ∷ s.Seal ∷ []) ∷ []
+productions s.Binder = (production t.Lident (s.Binder ∷ [])
+    ∷ production t.Colon (s.TypeOf ∷ s.Binders ∷ []) ∷ [])
+    ++ with_symbols_after binders_productions []
 productions s.Binders = binders_productions
-productions s.Trigger = production t.Comma (s.Expr 0 ∷ s.Trigger ∷ []) ∷ production t.Bar (s.Expr 0 ∷ s.Trigger ∷ []) ∷ production t.RBrack (s.Take t.Dot ∷ s.Expr 0 ∷ s.Seal ∷ []) ∷ []
+productions s.Trigger = production t.Comma (s.Expr 0 ∷ s.Trigger ∷ [])
+    ∷ production t.Bar (s.Expr 0 ∷ s.Trigger ∷ [])
+    ∷ production t.RBrack (s.Take t.Dot ∷ s.Expr 0 ∷ s.Seal ∷ []) ∷ []
 productions s.OpenForm = open_productions
 productions s.Fields = fields_productions
 productions s.Patom = patom_productions
 productions s.Prim = prim_productions
 productions s.Scoped = production t.Dot (s.Qhead ∷ []) ∷ []
-productions s.Qhead = production t.Lident [] ∷ production t.Uident (s.Scoped ∷ []) ∷ production t.StarName [] ∷ production t.LParen (s.Opname ∷ []) ∷ []
+productions s.Qhead = production t.Lident [] ∷ production t.Uident (s.Scoped ∷ [])
+    ∷ production t.StarName [] ∷ production t.LParen (s.Opname ∷ []) ∷ []
 productions s.Args = with_symbols_after atom_productions (s.Args ∷ [])
 productions s.Atom = atom_productions
-productions s.Hparen = (production t.RParen [] ∷ production t.Equal (s.Opend ∷ s.Args ∷ []) ∷ production t.Operator1 (s.Opend ∷ s.Args ∷ []) ∷ production t.Operator2 (s.Opend ∷ s.Args ∷ []) ∷ production t.Operator3 (s.Opend ∷ s.Args ∷ []) ∷ production t.Operator4 (s.Opend ∷ s.Args ∷ []) ∷ production t.Minus (s.Hminus ∷ []) ∷ production t.PrefixOperator (s.Hminus ∷ []) ∷ []) ++ with_symbols_after (expr_productions 0) (s.GroupRest ∷ [])
-productions s.Hminus = (production t.RParen (s.Args ∷ []) ∷ production t.Wild (s.Take t.RParen ∷ s.Args ∷ []) ∷ []) ++ with_symbols_after (expr_productions 8) (s.Tail 0 8 ∷ s.GroupRest ∷ [])
-productions s.Aparen = (production t.RParen [] ∷ production t.Equal (s.Opend ∷ []) ∷ production t.Operator1 (s.Opend ∷ []) ∷ production t.Operator2 (s.Opend ∷ []) ∷ production t.Operator3 (s.Opend ∷ []) ∷ production t.Operator4 (s.Opend ∷ []) ∷ production t.Minus (s.Aminus ∷ []) ∷ production t.PrefixOperator (s.Aminus ∷ []) ∷ []) ++ with_symbols_after (expr_productions 0) (s.GroupRest ∷ [])
-productions s.Aminus = (production t.RParen [] ∷ production t.Wild (s.Take t.RParen ∷ []) ∷ []) ++ with_symbols_after (expr_productions 8) (s.Tail 0 8 ∷ s.GroupRest ∷ [])
+productions s.Hparen = (production t.RParen [] ∷ production t.Equal (s.Opend ∷ s.Args ∷ [])
+    ∷ production t.Operator1 (s.Opend ∷ s.Args ∷ [])
+    ∷ production t.Operator2 (s.Opend ∷ s.Args ∷ [])
+    ∷ production t.Operator3 (s.Opend ∷ s.Args ∷ [])
+    ∷ production t.Operator4 (s.Opend ∷ s.Args ∷ []) ∷ production t.Minus (s.Hminus ∷ [])
+    ∷ production t.PrefixOperator (s.Hminus ∷ []) ∷ [])
+    ++ with_symbols_after (expr_productions 0) (s.GroupRest ∷ [])
+productions s.Hminus = (production t.RParen (s.Args ∷ [])
+    ∷ production t.Wild (s.Take t.RParen ∷ s.Args ∷ []) ∷ [])
+    ++ with_symbols_after (expr_productions 8) (s.Tail 0 8 ∷ s.GroupRest ∷ [])
+productions s.Aparen = (production t.RParen [] ∷ production t.Equal (s.Opend ∷ [])
+    ∷ production t.Operator1 (s.Opend ∷ []) ∷ production t.Operator2 (s.Opend ∷ [])
+    ∷ production t.Operator3 (s.Opend ∷ []) ∷ production t.Operator4 (s.Opend ∷ [])
+    ∷ production t.Minus (s.Aminus ∷ []) ∷ production t.PrefixOperator (s.Aminus ∷ []) ∷ [])
+    ++ with_symbols_after (expr_productions 0) (s.GroupRest ∷ [])
+productions s.Aminus = (production t.RParen [] ∷ production t.Wild (s.Take t.RParen ∷ []) ∷ [])
+    ++ with_symbols_after (expr_productions 8) (s.Tail 0 8 ∷ s.GroupRest ∷ [])
 
 -- a shortest string
 abbrev pub shortest : Symbol → List Terminal

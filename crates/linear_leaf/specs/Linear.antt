@@ -1,12 +1,14 @@
--- The linear leaf: a weighted sum of formulas over the integers that can't hold (Farkas).
--- Terms are read as sums of atoms; whatever integers the atoms stand for, the weighted sum is one constant above 0.
+-- The linear leaf: a weighted sum of formulas over the integers that can't hold (Farkas). Terms are
+-- read as sums of atoms; whatever integers the atoms stand for, the weighted sum is one constant
+-- above 0.
 use Rattle.std.specs.Prelude.{◌≡◌, ℕ, ℤ, pos, ◌+◌, ◌*◌, ◌≤◌, ◌^◌, ◌==◌, ◌+ℤ◌, ◌-ℤ◌, ◌*ℤ◌, neg_ℤ, nat_abs, ◌≤ℤ◌, ◌<ℤ◌, Bool, true, false, ◌&&◌, if◌then◌else◌, List, [], ◌∷◌, ◌++◌, Option, Some, None, slice_get, max, IsSomeAnd, IsTrue, ◌⊎◌}
 use Rattle.std.specs.Option.{option_and_then}
 use Rattle.trees.specs.Tree.{Tree, Leaf, One, Two, Three, HEnd, HNum, HCell, HFun, HPred, HEq, HNot}
 use Rattle.trees.specs.Sorts.{type_of, int_type}
 use Rattle.trees.specs.declared.ints.Ints.{Ints}
 
--- a term read as a sum: its value where its atoms have values, its weight, and the atoms that are in it
+-- a term read as a sum: its value where its atoms have values, its weight, and the atoms that are
+-- in it
 pub record Sum : Type 0 where
   pub value : ℤ
   pub weight : ℕ
@@ -19,7 +21,8 @@ abbrev pub negated_sum : Sum → Sum
 negated_sum a = record { value = neg_ℤ a.value; weight = a.weight; atoms = a.atoms }
 
 abbrev pub sum : Sum → Sum → Sum
-sum a b = record { value = a.value +ℤ b.value; weight = a.weight + b.weight; atoms = a.atoms ++ b.atoms }
+sum a b =
+    record { value = a.value +ℤ b.value; weight = a.weight + b.weight; atoms = a.atoms ++ b.atoms }
 
 abbrev pub has_any : List Tree → Bool
 has_any [] = false
@@ -36,7 +39,8 @@ pub data SumOperation : Type 0 where
   Other : SumOperation
 
 abbrev pub sum_operation : Ints → ℕ → SumOperation
-sum_operation z f = if f == z.add then Add else (if f == z.sub then Subtract else (if f == z.mul then Multiply else Other))
+sum_operation z f = if f == z.add then Add
+    else (if f == z.sub then Subtract else (if f == z.mul then Multiply else Other))
 
 module _ (v : Tree → ℤ) where
   abbrev pub atom : Tree → Sum
@@ -45,7 +49,12 @@ module _ (v : Tree → ℤ) where
   -- a product with an atom on both sides is an atom
   abbrev pub product_by : Bool → Tree → Sum → Sum → Sum
   product_by true e a b = atom e
-  product_by false e a b = record { value = a.value *ℤ b.value; weight = a.weight * b.weight; atoms = a.atoms ++ b.atoms }
+  product_by false e a b = record {
+    value = a.value *ℤ b.value;
+    weight =
+        a.weight * b.weight;
+    atoms = a.atoms ++ b.atoms;
+  }
 
   abbrev pub negated_or_same : Bool → Tree → Sum → Sum
   negated_or_same true e a = negated_sum a
@@ -60,8 +69,12 @@ module _ (v : Tree → ℤ) where
 -- a term read as a sum; what is no sum is an atom
 unfoldable pub reading : Ints → (Tree → ℤ) → Tree → Sum
 reading z v (Leaf (HNum n)) = constant_sum n
-reading z v (Three (HFun f) types (Two HCell a (Leaf HEnd)) ty) = negated_or_same v (f == z.neg) (Three (HFun f) types (Two HCell a (Leaf HEnd)) ty) (reading z v a)
-reading z v (Three (HFun f) types (Two HCell a (Two HCell b (Leaf HEnd))) ty) = with_two v (sum_operation z f) (Three (HFun f) types (Two HCell a (Two HCell b (Leaf HEnd))) ty) (reading z v a) (reading z v b)
+reading z v (Three (HFun f) types (Two HCell a (Leaf HEnd)) ty) =
+    negated_or_same v (f == z.neg) (Three (HFun f) types (Two HCell a (Leaf HEnd)) ty)
+    (reading z v a)
+reading z v (Three (HFun f) types (Two HCell a (Two HCell b (Leaf HEnd))) ty) =
+    with_two v (sum_operation z f) (Three (HFun f) types (Two HCell a (Two HCell b (Leaf HEnd))) ty)
+    (reading z v a) (reading z v b)
 reading z v e = atom v e
 
 -- a formula that may be in the sum: `left - right`, and 1 where it is strict, is at most 0, or is 0
@@ -83,10 +96,14 @@ at_most a b = Some (record { left = a; right = b; strict = false; equation = fal
 
 -- `a < b`, `a <= b`, `a > b`, `a >= b`, or their negations
 abbrev pub comparison_bound : Ints → ℕ → Tree → Tree → Option Bounded
-comparison_bound z p a b = if p == z.lt then less a b else (if p == z.le then at_most a b else (if p == z.gt then less b a else (if p == z.ge then at_most b a else None)))
+comparison_bound z p a b = if p == z.lt then less a b
+    else (if p == z.le then at_most a b
+    else (if p == z.gt then less b a else (if p == z.ge then at_most b a else None)))
 
 abbrev pub uncompared : Ints → ℕ → Tree → Tree → Option Bounded
-uncompared z p a b = if p == z.lt then at_most b a else (if p == z.le then less b a else (if p == z.gt then at_most a b else (if p == z.ge then less a b else None)))
+uncompared z p a b = if p == z.lt then at_most b a
+    else (if p == z.le then less b a
+    else (if p == z.gt then at_most a b else (if p == z.ge then less a b else None)))
 
 -- the members of a list of two
 abbrev pub pair_of : Tree → Option (Tree × Tree)
@@ -95,8 +112,10 @@ pair_of e = None
 
 abbrev pub bounded : Ints → Tree → Option Bounded
 bounded z (Two HEq a b) = Some (record { left = a; right = b; strict = false; equation = true })
-bounded z (Two (HPred p) types args) = option_and_then (λ q. comparison_bound z p q.0 q.1) (pair_of args)
-bounded z (One HNot (Two (HPred p) types args)) = option_and_then (λ q. uncompared z p q.0 q.1) (pair_of args)
+bounded z (Two (HPred p) types args) =
+    option_and_then (λ q. comparison_bound z p q.0 q.1) (pair_of args)
+bounded z (One HNot (Two (HPred p) types args)) =
+    option_and_then (λ q. uncompared z p q.0 q.1) (pair_of args)
 bounded z e = None
 
 abbrev pub bounded_at : Ints → List Tree → ℕ → Option Bounded
@@ -104,12 +123,14 @@ bounded_at z s i = option_and_then (bounded z) (slice_get s i)
 
 -- an equation is one of integers, and the multiplier of an inequality is at least 0
 abbrev pub IsRightMultiplier : Bounded → ℤ → Type 0
-IsRightMultiplier b m = (IsTrue b.equation × (type_of b.left ≡ Some int_type)) ⊎ ((b.equation ≡ false) × (pos 0 ≤ℤ m))
+IsRightMultiplier b m =
+    (IsTrue b.equation × (type_of b.left ≡ Some int_type)) ⊎ ((b.equation ≡ false) × (pos 0 ≤ℤ m))
 
 -- each place has a formula that may be in the sum
 abbrev pub AreUses : Ints → List Tree → List (ℕ × ℤ) → Type 0
 AreUses z s [] = Unit {0}
-AreUses z s (u ∷ us) = IsSomeAnd (bounded_at z s u.0) (λ b. IsRightMultiplier b u.1) × AreUses z s us
+AreUses z s (u ∷ us) =
+    IsSomeAnd (bounded_at z s u.0) (λ b. IsRightMultiplier b u.1) × AreUses z s us
 
 -- what is at most 0, or is 0, where the atoms have values
 abbrev pub difference : Ints → (Tree → ℤ) → Bounded → ℤ

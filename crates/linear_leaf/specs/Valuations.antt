@@ -13,7 +13,8 @@ abbrev pub same_tree : Tree → Tree → Bool
 same_tree (Leaf g) (Leaf h) = same_head g h
 same_tree (One g a) (One h x) = same_head g h && same_tree a x
 same_tree (Two g a b) (Two h x y) = same_head g h && (same_tree a x && same_tree b y)
-same_tree (Three g a b c) (Three h x y u) = same_head g h && (same_tree a x && (same_tree b y && same_tree c u))
+same_tree (Three g a b c) (Three h x y u) =
+    same_head g h && (same_tree a x && (same_tree b y && same_tree c u))
 same_tree _ _ = false
 
 abbrev pub unit : Bool → ℤ

@@ -1,4 +1,5 @@
--- What a term is at its top, as a sum: the definition's cases as data, and what the code has of them.
+-- What a term is at its top, as a sum: the definition's cases as data, and what the code has of
+-- them.
 use Rattle.std.specs.Prelude.{ℕ, ℤ, Bool, true, false, ◌==◌, ◌<◌, List}
 use Rattle.trees.specs.declared.TermId.{TermId}
 use Rattle.trees.specs.Tree.{Tree, Leaf, Two, Three, HEnd, HNum, HCell, HFun}
@@ -27,7 +28,8 @@ two_top Other a b = Atom
 abbrev pub top_of : Ints → Tree → Top
 top_of z (Leaf (HNum n)) = Number n
 top_of z (Three (HFun f) types (Two HCell a (Leaf HEnd)) ty) = one_top (f == z.neg) a
-top_of z (Three (HFun f) types (Two HCell a (Two HCell b (Leaf HEnd))) ty) = two_top (sum_operation z f) a b
+top_of z (Three (HFun f) types (Two HCell a (Two HCell b (Leaf HEnd))) ty) =
+    two_top (sum_operation z f) a b
 top_of z e = Atom
 
 abbrev pub top_at : List Tree → Summand → Top

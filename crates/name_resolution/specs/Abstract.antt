@@ -1,6 +1,7 @@
--- The abstract syntax of types, patterns, terms and formulas: what a source means, without parentheses and spellings. Each node has
--- the token that stands for it, its operator's or else its first one. An operator is its symbol's own name; one pattern or term in
--- parentheses is itself, any other number of them is a tuple.
+-- The abstract syntax of types, patterns, terms and formulas: what a source means, without
+-- parentheses and spellings. Each node has the token that stands for it, its operator's or else its
+-- first one. An operator is its symbol's own name; one pattern or term in parentheses is itself,
+-- any other number of them is a tuple.
 use Rattle.std.specs.Prelude.{ℕ, ℤ, pos, codes, Bool, true, false, cond, suc, List, [], ◌∷◌, ◌++◌, map, Option, Some, None, option_map}
 use Rattle.std.specs.Str.{bytes_eq}
 use Rattle.tokens_why.specs.declared.terminal.Terminal.{Terminal}
@@ -33,7 +34,8 @@ mutual
     more_types : TypeExpression → TypeExpressions → TypeExpressions
 
 mutual
-  -- a wildcard, a variable, a constructor with its parts, a tuple, or `p as x`, where the name has its own token
+  -- a wildcard, a variable, a constructor with its parts, a tuple, or `p as x`, where the name has
+  -- its own token
   pub data Pattern : Type 0 where
     wildcard_pattern : ℕ → Pattern
     variable_pattern : ℕ → Word → Pattern
@@ -71,7 +73,8 @@ mutual
     equality_expression : ℕ → Bool → Expression → Expression → Expression
     if_expression : ℕ → Expression → Expression → Expression → Expression
     let_expression : ℕ → Word → Expression → Expression → Expression
-    -- a `match`, or with `true` a `let` of a pattern: its one branch, whose pattern is before the value
+    -- a `match`, or with `true` a `let` of a pattern: its one branch, whose pattern is before the
+    -- value
     match_expression : ℕ → Bool → Expression → MatchBranches → Expression
     -- `forall` or else `exists`, with its triggers
     quantified_expression : ℕ → Bool → List BoundNames → Expressions → Expression → Expression
@@ -138,7 +141,8 @@ operator_meaning t.OrOr w = connective_operator OrElse
 operator_meaning t.Arrow w = connective_operator Imp
 operator_meaning t.Equiv w = connective_operator Iff
 operator_meaning t.Equal w = equality_operator true
-operator_meaning t.Operator1 w = cond (bytes_eq w (codes "<>")) (equality_operator false) (symbol_operator w)
+operator_meaning t.Operator1 w =
+    cond (bytes_eq w (codes "<>")) (equality_operator false) (symbol_operator w)
 operator_meaning o w = symbol_operator (spelled o w)
 
 abbrev pub operated : ℕ → Expression → OperatorMeaning → Expression → Expression
@@ -154,7 +158,8 @@ grouped_forms i fs = product_type i fs
 abbrev mutual
   pub type_expression : surface.SyntaxForm → TypeExpression
   type_expression (surface.type_variable a w) = variable_type a.main w
-  type_expression (surface.composed a c fs) = composed_type a.main c.scopes (text_of_own c.own) (type_expressions fs)
+  type_expression (surface.composed a c fs) =
+      composed_type a.main c.scopes (text_of_own c.own) (type_expressions fs)
   type_expression (surface.enclosed a fs) = grouped_forms a.main (type_expressions fs)
   type_expression f = product_type 0 no_types
 
@@ -171,7 +176,8 @@ abbrev mutual
   pub pattern : surface.SyntaxForm → Pattern
   pattern (surface.wild a) = wildcard_pattern a.main
   pattern (surface.variable a n) = variable_pattern a.main n.text
-  pattern (surface.composed a c ps) = constructor_pattern a.main c.scopes (text_of_own c.own) (pattern_list ps)
+  pattern (surface.composed a c ps) =
+      constructor_pattern a.main c.scopes (text_of_own c.own) (pattern_list ps)
   pattern (surface.enclosed a ps) = grouped_patterns a.main (pattern_list ps)
   pattern (surface.aliased a p n) = alias_pattern (pattern p) n.at n.text
   pattern p = wildcard_pattern 0
@@ -198,14 +204,16 @@ side_by_side ps = grouped_patterns (first_form ps) (pattern_list ps)
 
 abbrev pub branch_alternatives : List surface.SyntaxForms → Alternatives
 branch_alternatives [] = no_alternatives
-branch_alternatives (ps ∷ pss) = more_alternatives (first_form ps) (side_by_side ps) (branch_alternatives pss)
+branch_alternatives (ps ∷ pss) =
+    more_alternatives (first_form ps) (side_by_side ps) (branch_alternatives pss)
 
 -- ---- terms and formulas
 abbrev pub texts_of_names : List Name → List Word
 texts_of_names ns = map (λ (n : Name). n.text) ns
 
 abbrev pub binder : tree.TypedBinder → BoundNames
-binder (tree.binds ns f) = record { names = texts_of_names ns; of_type = option_map type_expression f }
+binder (tree.binds ns f) =
+    record { names = texts_of_names ns; of_type = option_map type_expression f }
 
 -- the value of an integer's token
 abbrev pub integer_value : Word → ℤ
@@ -242,23 +250,32 @@ let_name _ = None
 
 abbrev pub let_by : Option Word → ℕ → surface.SyntaxForms → Expression → Expression → Expression
 let_by (Some x) i ps e f = let_expression i x e f
-let_by None i ps e f = match_expression i true e (more_branches (more_alternatives (first_form ps) (side_by_side ps) no_alternatives) f no_branches)
+let_by None i ps e f = match_expression i true e
+    (more_branches (more_alternatives (first_form ps) (side_by_side ps) no_alternatives) f
+    no_branches)
 
 abbrev mutual
   pub expression : tree.SyntaxTree → Expression
-  expression (tree.apply a c es) = applied_expression a.main c.scopes (text_of_own c.own) (expressions es)
+  expression (tree.apply a c es) =
+      applied_expression a.main c.scopes (text_of_own c.own) (expressions es)
   expression (tree.literal a w) = integer_expression a.main (integer_value w)
   expression (tree.truth a) = true_expression a.main
   expression (tree.falsity a) = false_expression a.main
   expression (tree.group a es) = grouped a.main (expressions es)
   expression (tree.cast a e f) = cast_expression a.main (expression e) (type_expression f)
-  expression (tree.prefixed a o e) = applied_expression a.main [] (prefix_name (spelled o.terminal o.text)) (more_expressions (expression e) no_expressions)
+  expression (tree.prefixed a o e) =
+      applied_expression a.main [] (prefix_name (spelled o.terminal o.text))
+      (more_expressions (expression e) no_expressions)
   expression (tree.negation a e) = not_expression a.main (expression e)
-  expression (tree.binary a e o f) = operated a.main (expression e) (operator_meaning o.terminal o.text) (expression f)
-  expression (tree.choice a c e f) = if_expression a.main (expression c) (expression e) (expression f)
-  expression (tree.cases a es bar bs) = match_expression a.main false (grouped (first_tree es) (expressions es)) (match_branches bs)
+  expression (tree.binary a e o f) =
+      operated a.main (expression e) (operator_meaning o.terminal o.text) (expression f)
+  expression (tree.choice a c e f) =
+      if_expression a.main (expression c) (expression e) (expression f)
+  expression (tree.cases a es bar bs) =
+      match_expression a.main false (grouped (first_tree es) (expressions es)) (match_branches bs)
   expression (tree.binding a ps e f) = let_by (let_name ps) a.main ps (expression e) (expression f)
-  expression (tree.quantified a all bs g e) = quantified_expression a.main all (map binder bs) (triggers g) (expression e)
+  expression (tree.quantified a all bs g e) =
+      quantified_expression a.main all (map binder bs) (triggers g) (expression e)
 
   pub expressions : tree.SyntaxTrees → Expressions
   expressions tree.none = no_expressions
@@ -266,7 +283,8 @@ abbrev mutual
 
   pub match_branches : tree.Branches → MatchBranches
   match_branches tree.no_branch = no_branches
-  match_branches (tree.branch pss e bs) = more_branches (branch_alternatives pss) (expression e) (match_branches bs)
+  match_branches (tree.branch pss e bs) =
+      more_branches (branch_alternatives pss) (expression e) (match_branches bs)
 
   pub triggers : tree.SyntaxTrigger → Expressions
   triggers tree.untriggered = no_expressions
@@ -295,7 +313,8 @@ expressions_of [] = no_expressions
 expressions_of (e ∷ es) = more_expressions (expression_of e) (expressions_of es)
 
 abbrev pub bound_names_of : BinderTree → BoundNames
-bound_names_of b = record { names = texts_of_names b.names; of_type = option_map type_expression_of b.ty }
+bound_names_of b =
+    record { names = texts_of_names b.names; of_type = option_map type_expression_of b.ty }
 
 abbrev pub triggers_of : Option TriggerTree → Expressions
 triggers_of g = triggers (code.trigger (option_map code.terms_of g))
@@ -308,4 +327,5 @@ alternatives_of pss = branch_alternatives (code.alternatives pss)
 
 abbrev pub branches_of : List BranchTree → MatchBranches
 branches_of [] = no_branches
-branches_of (b ∷ bs) = more_branches (alternatives_of b.alternatives) (expression_of b.body) (branches_of bs)
+branches_of (b ∷ bs) =
+    more_branches (alternatives_of b.alternatives) (expression_of b.body) (branches_of bs)

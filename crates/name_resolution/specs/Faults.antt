@@ -1,5 +1,5 @@
--- The first fault of names: each check is at a token, and they go in the order of their tokens (Why3 manual, "logical
--- declarations"; a term and a formula are told apart by their place).
+-- The first fault of names: each check is at a token, and they go in the order of their tokens
+-- (Why3 manual, "logical declarations"; a term and a formula are told apart by their place).
 use Rattle.std.specs.Prelude.{ℕ, Bool, true, false, cond, not, ◌==◌, ◌&&◌, List, [], ◌∷◌, ◌++◌, reverse, length, Option, Some, None}
 use Rattle.std.specs.Option.{is_some, is_none}
 use Rattle.tasks.specs.Task.{SymbolTree, symbol_or}
@@ -31,8 +31,10 @@ meaning_fault w i n (Some (Abbreviates vars t)) = fault_if (not (vars == n)) (Ar
 -- in an open declaration a type variable is new where it isn't there
 abbrev mutual
   pub form_fault : Where → Bool → TypeExpression → Option NamingFault
-  form_fault w open_ (variable_type i v) = fault_if (cond open_ false (is_none (place_of v w.vars))) (Unknown i)
-  form_fault w open_ (composed_type i qs x fs) = first_of (meaning_fault w i (count_forms fs) (w.types qs x)) (forms_fault w open_ fs)
+  form_fault w open_ (variable_type i v) =
+      fault_if (cond open_ false (is_none (place_of v w.vars))) (Unknown i)
+  form_fault w open_ (composed_type i qs x fs) =
+      first_of (meaning_fault w i (count_forms fs) (w.types qs x)) (forms_fault w open_ fs)
   form_fault w open_ (product_type i fs) = forms_fault w open_ fs
 
   pub forms_fault : Where → Bool → TypeExpressions → Option NamingFault
@@ -50,7 +52,8 @@ differ false b = b
 
 -- a use of an entry with so many arguments, where a formula is due or not
 abbrev pub entry_fault : Bool → ℕ → ℕ → SymbolTree → Option NamingFault
-entry_fault due i n e = first_of (fault_if (differ due (is_predicate e.kind)) (WrongKind i)) (fault_if (not (length e.args == n)) (Arity i))
+entry_fault due i n e = first_of (fault_if (differ due (is_predicate e.kind)) (WrongKind i))
+    (fault_if (not (length e.args == n)) (Arity i))
 
 abbrev pub symbol_fault : Where → Bool → ℕ → ℕ → Option ℕ → Option NamingFault
 symbol_fault w due i n None = Some (Unknown i)
@@ -66,7 +69,8 @@ is_variable (q ∷ qs) x ls = false
 
 -- a name that is before so many arguments
 abbrev pub name_fault : Where → List Word → Bool → ℕ → List Word → Word → ℕ → Option NamingFault
-name_fault w ls due i qs x n = cond (is_variable qs x ls) (local_fault due i n) (symbol_fault w due i n (w.names qs x))
+name_fault w ls due i qs x n =
+    cond (is_variable qs x ls) (local_fault due i n) (symbol_fault w due i n (w.names qs x))
 
 -- ---- binders
 abbrev pub type_fault : Where → Bool → Option TypeExpression → Option NamingFault
@@ -96,7 +100,9 @@ abbrev mutual
   patterns_names (more_patterns p ps) = pattern_names p ++ patterns_names ps
 
 abbrev pub constructor_entry_fault : ℕ → ℕ → SymbolTree → Option NamingFault
-constructor_entry_fault i n e = first_of (fault_if (not (is_constructor_kind e.kind)) (WrongKind i)) (fault_if (not (length e.args == n)) (Arity i))
+constructor_entry_fault i n e =
+    first_of (fault_if (not (is_constructor_kind e.kind)) (WrongKind i))
+    (fault_if (not (length e.args == n)) (Arity i))
 
 abbrev pub constructor_fault : Where → ℕ → ℕ → Option ℕ → Option NamingFault
 constructor_fault w i n None = Some (Unknown i)
@@ -107,13 +113,17 @@ abbrev mutual
   pub pattern_fault : Where → List Word → Pattern → Option NamingFault
   pattern_fault w seen (wildcard_pattern i) = None
   pattern_fault w seen (variable_pattern i x) = fault_if (is_some (place_of x seen)) (Duplicate i)
-  pattern_fault w seen (constructor_pattern i qs x ps) = first_of (constructor_fault w i (count_patterns ps) (w.names qs x)) (patterns_fault w seen ps)
+  pattern_fault w seen (constructor_pattern i qs x ps) =
+      first_of (constructor_fault w i (count_patterns ps) (w.names qs x)) (patterns_fault w seen ps)
   pattern_fault w seen (tuple_pattern i ps) = patterns_fault w seen ps
-  pattern_fault w seen (alias_pattern p i x) = first_of (pattern_fault w seen p) (fault_if (is_some (place_of x (seen ++ pattern_names p))) (Duplicate i))
+  pattern_fault w seen (alias_pattern p i x) =
+      first_of (pattern_fault w seen p)
+      (fault_if (is_some (place_of x (seen ++ pattern_names p))) (Duplicate i))
 
   pub patterns_fault : Where → List Word → Patterns → Option NamingFault
   patterns_fault w seen no_patterns = None
-  patterns_fault w seen (more_patterns p ps) = first_of (pattern_fault w seen p) (patterns_fault w (seen ++ pattern_names p) ps)
+  patterns_fault w seen (more_patterns p ps) =
+      first_of (pattern_fault w seen p) (patterns_fault w (seen ++ pattern_names p) ps)
 
 -- each of the first is among the others
 abbrev pub all_among : List Word → List Word → Bool
@@ -126,11 +136,14 @@ same_names xs ys = all_among xs ys && all_among ys xs
 -- each later alternative binds the names of the first one, which is told before its parts
 abbrev pub later_fault : Where → List Word → Alternatives → Option NamingFault
 later_fault w names no_alternatives = None
-later_fault w names (more_alternatives i p ps) = first_of (fault_if (not (same_names names (pattern_names p))) (WrongKind i)) (first_of (pattern_fault w [] p) (later_fault w names ps))
+later_fault w names (more_alternatives i p ps) =
+    first_of (fault_if (not (same_names names (pattern_names p))) (WrongKind i))
+    (first_of (pattern_fault w [] p) (later_fault w names ps))
 
 abbrev pub alternatives_fault : Where → Alternatives → Option NamingFault
 alternatives_fault w no_alternatives = None
-alternatives_fault w (more_alternatives i p ps) = first_of (pattern_fault w [] p) (later_fault w (pattern_names p) ps)
+alternatives_fault w (more_alternatives i p ps) =
+    first_of (pattern_fault w [] p) (later_fault w (pattern_names p) ps)
 
 abbrev pub alternatives_names : Alternatives → List Word
 alternatives_names no_alternatives = []
@@ -189,7 +202,8 @@ makes_formulas w (Some k) = is_predicate (symbol_or w.symbols k).kind
 
 -- a trigger is a formula where its head is a predicate that no variable hides, or `=`
 abbrev pub is_formula_head : Where → List Word → TriggerHeadTree → Bool
-is_formula_head w ls (trigger_named qs x) = cond (is_variable qs x ls) false (makes_formulas w (w.names qs x))
+is_formula_head w ls (trigger_named qs x) =
+    cond (is_variable qs x ls) false (makes_formulas w (w.names qs x))
 is_formula_head w ls (trigger_equality same) = same
 is_formula_head w ls trigger_other = false
 
@@ -197,37 +211,66 @@ abbrev pub is_formula_trigger : Where → List Word → Expression → Bool
 is_formula_trigger w ls e = is_formula_head w ls (trigger_head e)
 
 -- ---- terms and formulas
--- the first fault of an expression under the variables of these names, innermost first, where a formula is due or a term
+-- the first fault of an expression under the variables of these names, innermost first, where a
+-- formula is due or a term
 abbrev mutual
   pub fault : Where → Bool → List Word → Bool → Expression → Option NamingFault
-  fault w open_ ls due (applied_expression i qs x es) = first_of (name_fault w ls due i qs x (count_expressions es)) (faults w open_ ls es)
-  fault w open_ ls due (infix_expression i x a b) = first_of (fault w open_ ls false a) (first_of (name_fault w ls due i [] x 2) (fault w open_ ls false b))
+  fault w open_ ls due (applied_expression i qs x es) =
+      first_of (name_fault w ls due i qs x (count_expressions es)) (faults w open_ ls es)
+  fault w open_ ls due (infix_expression i x a b) =
+      first_of (fault w open_ ls false a)
+      (first_of (name_fault w ls due i [] x 2) (fault w open_ ls false b))
   fault w open_ ls due (integer_expression i z) = fault_if due (WrongKind i)
   fault w open_ ls due (true_expression i) = fault_if (not due) (WrongKind i)
   fault w open_ ls due (false_expression i) = fault_if (not due) (WrongKind i)
-  fault w open_ ls due (tuple_expression i es) = first_of (fault_if due (WrongKind i)) (faults w open_ ls es)
-  fault w open_ ls due (cast_expression i e f) = first_of (fault_if due (WrongKind i)) (first_of (fault w open_ ls false e) (form_fault w open_ f))
-  fault w open_ ls due (not_expression i e) = first_of (fault_if (not due) (WrongKind i)) (fault w open_ ls true e)
-  fault w open_ ls due (connected_expression i a o b) = first_of (fault w open_ ls true a) (first_of (fault_if (not due) (WrongKind i)) (fault w open_ ls true b))
-  fault w open_ ls due (equality_expression i same a b) = first_of (fault w open_ ls false a) (first_of (fault_if (not due) (WrongKind i)) (fault w open_ ls false b))
-  fault w open_ ls due (if_expression i c a b) = first_of (fault w open_ ls true c) (first_of (fault w open_ ls due a) (fault w open_ ls due b))
-  fault w open_ ls due (let_expression i x a b) = first_of (fault w open_ ls false a) (fault w open_ (x ∷ ls) due b)
+  fault w open_ ls due (tuple_expression i es) =
+      first_of (fault_if due (WrongKind i)) (faults w open_ ls es)
+  fault w open_ ls due (cast_expression i e f) =
+      first_of (fault_if due (WrongKind i))
+      (first_of (fault w open_ ls false e) (form_fault w open_ f))
+  fault w open_ ls due (not_expression i e) =
+      first_of (fault_if (not due) (WrongKind i)) (fault w open_ ls true e)
+  fault w open_ ls due (connected_expression i a o b) =
+      first_of (fault w open_ ls true a)
+      (first_of (fault_if (not due) (WrongKind i)) (fault w open_ ls true b))
+  fault w open_ ls due (equality_expression i same a b) =
+      first_of (fault w open_ ls false a)
+      (first_of (fault_if (not due) (WrongKind i)) (fault w open_ ls false b))
+  fault w open_ ls due (if_expression i c a b) =
+      first_of (fault w open_ ls true c)
+      (first_of (fault w open_ ls due a) (fault w open_ ls due b))
+  fault w open_ ls due (let_expression i x a b) =
+      first_of (fault w open_ ls false a) (fault w open_ (x ∷ ls) due b)
   fault w open_ ls due (match_expression i is_let e bs) =
-      first_of (first_pattern_fault w is_let bs) (first_of (fault w open_ ls false e) (first_of (fault_if (not (has_alternative bs)) (WrongKind i)) (branches_fault w open_ ls due bs)))
-  fault w open_ ls due (quantified_expression i all bs gs b) = first_of (fault_if (not due) (WrongKind i)) (first_of (binders_fault w open_ bs) (first_of (triggers_fault w open_ (reverse (bound_names bs) ++ ls) gs) (fault w open_ (reverse (bound_names bs) ++ ls) true b)))
+      first_of (first_pattern_fault w is_let bs)
+      (first_of (fault w open_ ls false e)
+      (first_of (fault_if (not (has_alternative bs)) (WrongKind i))
+      (branches_fault w open_ ls due bs)))
+  fault w open_ ls due (quantified_expression i all bs gs b) =
+      first_of (fault_if (not due) (WrongKind i))
+      (first_of (binders_fault w open_ bs)
+      (first_of (triggers_fault w open_ (reverse (bound_names bs) ++ ls) gs)
+      (fault w open_ (reverse (bound_names bs) ++ ls) true b)))
 
   pub faults : Where → Bool → List Word → Expressions → Option NamingFault
   faults w open_ ls no_expressions = None
-  faults w open_ ls (more_expressions e es) = first_of (fault w open_ ls false e) (faults w open_ ls es)
+  faults w open_ ls (more_expressions e es) =
+      first_of (fault w open_ ls false e) (faults w open_ ls es)
 
   pub triggers_fault : Where → Bool → List Word → Expressions → Option NamingFault
   triggers_fault w open_ ls no_expressions = None
-  triggers_fault w open_ ls (more_expressions e es) = first_of (fault w open_ ls (is_formula_trigger w ls e) e) (triggers_fault w open_ ls es)
+  triggers_fault w open_ ls (more_expressions e es) =
+      first_of (fault w open_ ls (is_formula_trigger w ls e) e) (triggers_fault w open_ ls es)
 
   pub branches_fault : Where → Bool → List Word → Bool → MatchBranches → Option NamingFault
   branches_fault w open_ ls due no_branches = None
-  branches_fault w open_ ls due (more_branches ps b bs) = first_of (alternatives_fault w ps) (first_of (fault w open_ (reverse (alternatives_names ps) ++ ls) due b) (branches_fault w open_ ls due bs))
+  branches_fault w open_ ls due (more_branches ps b bs) =
+      first_of (alternatives_fault w ps)
+      (first_of (fault w open_ (reverse (alternatives_names ps) ++ ls) due b)
+      (branches_fault w open_ ls due bs))
 
 -- of one branch
-abbrev pub branch_fault : Where → Bool → List Word → Bool → Alternatives → Expression → Option NamingFault
-branch_fault w open_ ls due ps b = first_of (alternatives_fault w ps) (fault w open_ (reverse (alternatives_names ps) ++ ls) due b)
+abbrev pub branch_fault : Where → Bool → List Word → Bool → Alternatives → Expression
+    → Option NamingFault
+branch_fault w open_ ls due ps b =
+    first_of (alternatives_fault w ps) (fault w open_ (reverse (alternatives_names ps) ++ ls) due b)

@@ -67,7 +67,8 @@ operation_at (Symbol w) = symbol_operator w.now
 
 abbrev pub head_at : TriggerHead → TriggerHeadTree
 head_at (head.Name q) = trigger_named q.now.scopes (text_of_own (own_of q.now.style q.now.text))
-head_at (head.Prefix o) = trigger_named [] (prefix_name (spelled (op_of o.now).terminal (op_of o.now).text))
+head_at (head.Prefix o) =
+    trigger_named [] (prefix_name (spelled (op_of o.now).terminal (op_of o.now).text))
 head_at (head.Infix w) = trigger_named [] w.now
 head_at (head.Equality same) = trigger_equality same
 head_at head.Other = trigger_other

@@ -11,8 +11,8 @@ pub data MeaningTree : Type 0 where
   Stands : ℕ → MeaningTree
   Abbreviates : ℕ → Tree → MeaningTree
 
--- the signature's entries; what the name of a type and of another symbol means after its scopes; the constructor of the tuples of
--- each width; and the declaration's type variables
+-- the signature's entries; what the name of a type and of another symbol means after its scopes;
+-- the constructor of the tuples of each width; and the declaration's type variables
 pub record Where : Type 0 where
   pub symbols : List SymbolTree
   pub types : List Word → Word → Option MeaningTree

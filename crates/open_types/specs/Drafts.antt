@@ -1,4 +1,5 @@
--- What the variables, equations and matches in code stand for, and what the walk asks for and gives.
+-- What the variables, equations and matches in code stand for, and what the walk asks for and
+-- gives.
 use Rattle.std.specs.Prelude.{◌≡◌, ℕ, length, Bool, true, false, List, [], ◌∷◌, ◌++◌, map, reverse, replicate, All, Option, Some, None, IfSome}
 use Rattle.trees.specs.declared.TermId.{TermId}
 use Rattle.trees.specs.declared.Sort.{Sort}
@@ -67,7 +68,8 @@ locals_at s (Inside' ls p outer) = reverse (map (local_at s) ls.now) ++ locals_a
 
 abbrev pub LocalsHeld : List Tree → Locals → Type 0
 LocalsHeld s Outside = Unit {0}
-LocalsHeld s (Inside' ls p outer) = All (λ (l : Local). HoldsType s l.ty) ls.now × LocalsHeld s outer
+LocalsHeld s (Inside' ls p outer) =
+    All (λ (l : Local). HoldsType s l.ty) ls.now × LocalsHeld s outer
 
 abbrev pub local_name : Local → List ℕ
 local_name l = l.name.now
@@ -83,7 +85,8 @@ place_pair_at s p = (p.0, tree_at s p.1)
 abbrev pub operands_at : Operands → Expressions
 operands_at (Many es) = expressions_of es.now
 operands_at (One e) = more_expressions (expression_of e.now) no_expressions
-operands_at (Two a b) = more_expressions (expression_of a.now) (more_expressions (expression_of b.now) no_expressions)
+operands_at (Two a b) =
+    more_expressions (expression_of a.now) (more_expressions (expression_of b.now) no_expressions)
 
 abbrev pub operands_size : Operands → ℕ
 operands_size (Many es) = sizes_of es.now
@@ -95,7 +98,12 @@ abbrev pub match_at : List Tree → MatchAt → ℕ × List Tree
 match_at s m = (m.token, trees_at s m.patterns)
 
 abbrev pub notes_at : List Tree → Constraints → Notes
-notes_at s d = record { equations = equations_at s d.equations; takers = d.takers; matches = map (match_at s) d.matches }
+notes_at s d = record {
+  equations = equations_at s d.equations;
+  takers = d.takers;
+  matches =
+      map (match_at s) d.matches;
+}
 
 abbrev pub MatchHeld : List Tree → MatchAt → Type 0
 MatchHeld s m = All (Holds s) m.patterns
@@ -105,25 +113,29 @@ pub record IsReady (s : List Tree) (d : Constraints) : Type 0 where
   pub matches : All (MatchHeld s) d.matches
 
 -- a node more, under which the draft stays
-pub record IsMade (s : List Tree) (d : Constraints) (s' : List Tree) (e : Tree) (id : TermId) : Type 0 where
+pub record IsMade (s : List Tree) (d : Constraints) (s' : List Tree) (e : Tree)
+    (id : TermId) : Type 0 where
   pub held : Holds s' id
   pub tree : tree_at s' id ≡ e
   pub notes : notes_at s' d ≡ notes_at s d
   pub ready : IsReady s' d
 
 -- these notes more
-pub record IsNoted (s : List Tree) (d : Constraints) (s' : List Tree) (d' : Constraints) (more : Notes) : Type 0 where
+pub record IsNoted (s : List Tree) (d : Constraints) (s' : List Tree) (d' : Constraints)
+    (more : Notes) : Type 0 where
   pub notes : notes_at s' d' ≡ follow (notes_at s d) more
   pub ready : IsReady s' d'
 
 -- unknowns that a node takes, from the next one on
-pub record IsTaken (s : List Tree) (d : Constraints) (s' : List Tree) (d' : Constraints) (token count : ℕ) (ids : List TermId) : Type 0 where
+pub record IsTaken (s : List Tree) (d : Constraints) (s' : List Tree) (d' : Constraints)
+    (token count : ℕ) (ids : List TermId) : Type 0 where
   pub held : All (HoldsType s') ids
   pub trees : trees_at s' ids ≡ type_variables (length d.takers) count
   pub noted : IsNoted s d s' d' (noted [] (replicate count token))
 
 -- variables after others, so many of which take an unknown
-pub record IsBound (s : List Tree) (d : Constraints) (ls : List Local) (s' : List Tree) (d' : Constraints) (ls' : List Local) (token count : ℕ) (more : List LocalTree) : Type 0 where
+pub record IsBound (s : List Tree) (d : Constraints) (ls : List Local) (s' : List Tree)
+    (d' : Constraints) (ls' : List Local) (token count : ℕ) (more : List LocalTree) : Type 0 where
   pub held : All (λ (l : Local). HoldsType s' l.ty) ls'
   pub locals : map (local_at s') ls' ≡ map (local_at s) ls ++ more
   pub noted : IsNoted s d s' d' (noted [] (replicate count token))
@@ -139,20 +151,23 @@ EarlierHeld s First = Unit {0}
 EarlierHeld s (Later ls) = All (λ (l : Local). HoldsType s l.ty) ls.now
 
 -- variables after others, and notes
-pub record AreBound (s : List Tree) (d : Constraints) (ls : List Local) (s' : List Tree) (d' : Constraints) (ls' : List Local) (notes : Notes) (more : List LocalTree) : Type 0 where
+pub record AreBound (s : List Tree) (d : Constraints) (ls : List Local) (s' : List Tree)
+    (d' : Constraints) (ls' : List Local) (notes : Notes) (more : List LocalTree) : Type 0 where
   pub held : All (λ (l : Local). HoldsType s' l.ty) ls'
   pub locals : map (local_at s') ls' ≡ map (local_at s) ls ++ more
   pub noted : IsNoted s d s' d' notes
 
 -- what a walk of a pattern asks for
-pub record CanMatch (s : List Tree) (d : Constraints) (w : World) (ls : List Local) (ty : TermId) (a : Alternative) : Type 0 where
+pub record CanMatch (s : List Tree) (d : Constraints) (w : World) (ls : List Local) (ty : TermId)
+    (a : Alternative) : Type 0 where
   pub world : WorldHeld s w
   pub ready : IsReady s d
   pub held : All (λ (l : Local). HoldsType s l.ty) ls
   pub wanted : HoldsType s ty
   pub earlier : EarlierHeld s a
 
-pub record CanMatchAll (s : List Tree) (d : Constraints) (w : World) (ls : List Local) (ts : List TermId) (a : Alternative) : Type 0 where
+pub record CanMatchAll (s : List Tree) (d : Constraints) (w : World) (ls : List Local)
+    (ts : List TermId) (a : Alternative) : Type 0 where
   pub world : WorldHeld s w
   pub ready : IsReady s d
   pub held : All (λ (l : Local). HoldsType s l.ty) ls
@@ -160,14 +175,16 @@ pub record CanMatchAll (s : List Tree) (d : Constraints) (w : World) (ls : List 
   pub earlier : EarlierHeld s a
 
 -- the number of the pattern's tree; its notes and variables after those that were there
-pub record IsMatched (m : Matched) (s : List Tree) (d : Constraints) (ls : List Local) (s' : List Tree) (d' : Constraints) (ls' : List Local) (id : TermId) : Type 0 where
+pub record IsMatched (m : Matched) (s : List Tree) (d : Constraints) (ls : List Local)
+    (s' : List Tree) (d' : Constraints) (ls' : List Local) (id : TermId) : Type 0 where
   pub held : Holds s' id
   pub tree : tree_at s' id ≡ m.tree
   pub sort : sort_of (tree_at s' id) ≡ Pattern
   pub bound : AreBound s d ls s' d' ls' m.notes m.variables
 
 -- the same of patterns side by side
-pub record AreMatched (m : Matched) (s : List Tree) (d : Constraints) (ls : List Local) (s' : List Tree) (d' : Constraints) (ls' : List Local) (id : TermId) : Type 0 where
+pub record AreMatched (m : Matched) (s : List Tree) (d : Constraints) (ls : List Local)
+    (s' : List Tree) (d' : Constraints) (ls' : List Local) (id : TermId) : Type 0 where
   pub held : Holds s' id
   pub tree : tree_at s' id ≡ m.tree
   pub patterns : IsList Pattern (tree_at s' id)
@@ -192,12 +209,15 @@ abbrev pub LaterHeld : List Tree → LaterPattern → Type 0
 LaterHeld s l = HoldsPattern s l.pattern
 
 -- a later alternative, and later ones after others, whose first one has these variables
-pub record IsLater (m : Matched) (first : List LocalTree) (s : List Tree) (d : Constraints) (s' : List Tree) (d' : Constraints) (l : LaterPattern) : Type 0 where
+pub record IsLater (m : Matched) (first : List LocalTree) (s : List Tree) (d : Constraints)
+    (s' : List Tree) (d' : Constraints) (l : LaterPattern) : Type 0 where
   pub held : LaterHeld s' l
   pub is : later_at s' l ≡ later_of first m
   pub noted : IsNoted s d s' d' m.notes
 
-pub record AreLater (ms : List Matched) (first : List LocalTree) (s : List Tree) (d : Constraints) (ls : List LaterPattern) (s' : List Tree) (d' : Constraints) (ls' : List LaterPattern) : Type 0 where
+pub record AreLater (ms : List Matched) (first : List LocalTree) (s : List Tree) (d : Constraints)
+    (ls : List LaterPattern) (s' : List Tree) (d' : Constraints)
+    (ls' : List LaterPattern) : Type 0 where
   pub held : All (LaterHeld s') ls'
   pub are : map (later_at s') ls' ≡ map (later_at s) ls ++ map (later_of first) ms
   pub noted : IsNoted s d s' d' (all_notes ms)
@@ -211,10 +231,12 @@ abbrev pub branch_trees : List Tree → BranchPatterns → List Tree
 branch_trees s b = tree_at s b.first ∷ map (λ (l : LaterPattern). tree_at s l.pattern) b.later
 
 abbrev pub branch_arms : List Tree → BranchPatterns → Tree → List Tree
-branch_arms s b body = Two HArm (tree_at s b.first) body ∷ map (later_arm body) (map (later_at s) b.later)
+branch_arms s b body =
+    Two HArm (tree_at s b.first) body ∷ map (later_arm body) (map (later_at s) b.later)
 
 -- alternatives; the variables of the first one stand by themselves
-pub record AreDraftedAlternatives (ms : List Matched) (s : List Tree) (d : Constraints) (s' : List Tree) (d' : Constraints) (ls : List Local) (b : BranchPatterns) : Type 0 where
+pub record AreDraftedAlternatives (ms : List Matched) (s : List Tree) (d : Constraints)
+    (s' : List Tree) (d' : Constraints) (ls : List Local) (b : BranchPatterns) : Type 0 where
   pub patterns : PatternsHeld s' b
   pub trees : branch_trees s' b ≡ pattern_trees ms
   pub arms : (body : Tree) → branch_arms s' b body ≡ arms body ms
@@ -227,21 +249,26 @@ abbrev pub instances : List Tree → List Tree → List Tree
 instances types args = map (λ (t : Tree). inst_types t types) args
 
 -- the unknowns of a use of an entry, and the equation of its result
-pub record IsBegun (s : List Tree) (d : Constraints) (s' : List Tree) (d' : Constraints) (token : ℕ) (e : SymbolTree) (t : Option Tree) (ids : List TermId) : Type 0 where
+pub record IsBegun (s : List Tree) (d : Constraints) (s' : List Tree) (d' : Constraints) (token : ℕ)
+    (e : SymbolTree) (t : Option Tree) (ids : List TermId) : Type 0 where
   pub held : All (HoldsType s') ids
   pub trees : trees_at s' ids ≡ type_variables (length d.takers) e.vars
-  pub noted : IsNoted s d s' d' (noted (wanting (at_unknowns (length d.takers) e (result_or_int e.result)) t) (replicate e.vars token))
+  pub noted : IsNoted s d s' d'
+      (noted (wanting (at_unknowns (length d.takers) e (result_or_int e.result)) t)
+      (replicate e.vars token))
 
 -- ---- walks
 -- the number of the piece's tree, and its notes after those that were there
-pub record IsWalked (p : NotedTree) (k : Sort) (s : List Tree) (d : Constraints) (s' : List Tree) (d' : Constraints) (id : TermId) : Type 0 where
+pub record IsWalked (p : NotedTree) (k : Sort) (s : List Tree) (d : Constraints) (s' : List Tree)
+    (d' : Constraints) (id : TermId) : Type 0 where
   pub held : Holds s' id
   pub tree : tree_at s' id ≡ p.tree
   pub sort : sort_of (tree_at s' id) ≡ k
   pub noted : IsNoted s d s' d' p.notes
 
 -- the same of arguments
-pub record AreWalked (p : NotedTree) (s : List Tree) (d : Constraints) (s' : List Tree) (d' : Constraints) (id : TermId) : Type 0 where
+pub record AreWalked (p : NotedTree) (s : List Tree) (d : Constraints) (s' : List Tree)
+    (d' : Constraints) (id : TermId) : Type 0 where
   pub walked : IsWalked p sorts.List s d s' d' id
   pub terms : IsList Term (tree_at s' id)
 
@@ -261,38 +288,45 @@ pub record IsSet (s : List Tree) (d : Constraints) (w : World) (ls : Locals) : T
   pub ready : IsReady s d
 
 -- what a walk of an expression asks for
-pub record CanWalk (s : List Tree) (d : Constraints) (w : World) (ls : Locals) (t : Option TermId) (e : Expression) : Type 0 where
+pub record CanWalk (s : List Tree) (d : Constraints) (w : World) (ls : Locals) (t : Option TermId)
+    (e : Expression) : Type 0 where
   pub set : IsSet s d w ls
   pub wanted : IfSome t (HoldsType s)
   pub resolved : fault (where_at s w) false (names_of_locals ls) (is_due t) e ≡ None
 
 -- what a walk of an entry's operands asks for
-pub record CanUse (s : List Tree) (d : Constraints) (w : World) (ls : Locals) (t : Option TermId) (es : Expressions) : Type 0 where
+pub record CanUse (s : List Tree) (d : Constraints) (w : World) (ls : Locals) (t : Option TermId)
+    (es : Expressions) : Type 0 where
   pub set : IsSet s d w ls
   pub wanted : IfSome t (HoldsType s)
   pub resolved : faults (where_at s w) false (names_of_locals ls) es ≡ None
 
 -- what a walk of arguments asks for
-pub record CanWalkAll (s : List Tree) (d : Constraints) (w : World) (ls : Locals) (ts : List TermId) (es : Expressions) : Type 0 where
+pub record CanWalkAll (s : List Tree) (d : Constraints) (w : World) (ls : Locals) (ts : List TermId)
+    (es : Expressions) : Type 0 where
   pub set : IsSet s d w ls
   pub wanted : All (HoldsType s) ts
   pub resolved : faults (where_at s w) false (names_of_locals ls) es ≡ None
 
 -- what a walk of triggers asks for
-pub record CanWalkTriggers (s : List Tree) (d : Constraints) (w : World) (ls : Locals) (es : Expressions) : Type 0 where
+pub record CanWalkTriggers (s : List Tree) (d : Constraints) (w : World) (ls : Locals)
+    (es : Expressions) : Type 0 where
   pub set : IsSet s d w ls
   pub resolved : triggers_fault (where_at s w) false (names_of_locals ls) es ≡ None
 
 -- what a walk of branches asks for, whose patterns have a type
-pub record CanWalkBranches (s : List Tree) (d : Constraints) (w : World) (ls : Locals) (t : Option TermId) (id : TermId) (ps : List TermId) (bs : MatchBranches) : Type 0 where
+pub record CanWalkBranches (s : List Tree) (d : Constraints) (w : World) (ls : Locals)
+    (t : Option TermId) (id : TermId) (ps : List TermId) (bs : MatchBranches) : Type 0 where
   pub set : IsSet s d w ls
   pub wanted : IfSome t (HoldsType s)
   pub subject : HoldsType s id
   pub patterns : All (Holds s) ps
   pub resolved : branches_fault (where_at s w) false (names_of_locals ls) (is_due t) bs ≡ None
 
--- the number of the arms' list, whose bodies are of a sort; and the numbers of their patterns after others
-pub record AreArms (a : Arms) (k : Sort) (s : List Tree) (d : Constraints) (ps : List TermId) (s' : List Tree) (d' : Constraints) (ps' : List TermId) (id : TermId) : Type 0 where
+-- the number of the arms' list, whose bodies are of a sort; and the numbers of their patterns after
+-- others
+pub record AreArms (a : Arms) (k : Sort) (s : List Tree) (d : Constraints) (ps : List TermId)
+    (s' : List Tree) (d' : Constraints) (ps' : List TermId) (id : TermId) : Type 0 where
   pub held : Holds s' id
   pub tree : tree_at s' id ≡ cells a.trees
   pub branches : IsList Branch (tree_at s' id)

@@ -1,4 +1,5 @@
--- What a pattern gives before its types are known: its tree over unknowns, what it notes, and its variables in order.
+-- What a pattern gives before its types are known: its tree over unknowns, what it notes, and its
+-- variables in order.
 use Rattle.std.specs.Prelude.{ℕ, suc, ◌+◌, ◌-◌, nat_lt, cond, if◌then◌else◌, List, [], ◌∷◌, ◌++◌, map, reverse, replicate, length, get_or, Option, Some, None}
 use Rattle.std.specs.Str.{bytes_eq}
 use Rattle.trees.specs.Tree.{Tree, Leaf, One, Two, Three, HEnd, HCell, HArm, HPatAny, HPatVar, HPatCon, HPatAlias}
@@ -10,8 +11,8 @@ use Rattle.surface.specs.Lexeme.{Word}
 use Rattle.name_resolution.specs.Abstract.{Pattern, Patterns, wildcard_pattern, variable_pattern, constructor_pattern, tuple_pattern, alias_pattern, no_patterns, more_patterns, Alternatives, no_alternatives, more_alternatives, count_patterns}
 use Rattle.name_resolution.specs.Where.{Where}
 
--- what is noted in preorder beside the tree: the type equations; for each unknown the token of the node that takes it; and the
--- matches, each by its token with its patterns
+-- what is noted in preorder beside the tree: the type equations; for each unknown the token of the
+-- node that takes it; and the matches, each by its token with its patterns
 pub record Notes : Type 0 where
   pub equations : List (Tree × Tree)
   pub takers : List ℕ
@@ -28,7 +29,12 @@ abbrev pub with_match : ℕ → List Tree → Notes
 with_match i ts = record { equations = []; takers = []; matches = (i, ts) ∷ [] }
 
 abbrev pub follow : Notes → Notes → Notes
-follow a b = record { equations = a.equations ++ b.equations; takers = a.takers ++ b.takers; matches = a.matches ++ b.matches }
+follow a b = record {
+  equations = a.equations ++ b.equations;
+  takers =
+      a.takers ++ b.takers;
+  matches = a.matches ++ b.matches;
+}
 
 -- the number of unknowns that are taken
 abbrev pub taken : Notes → ℕ
@@ -90,16 +96,19 @@ variable_equations (Some first) x t = (local_type x first, t) ∷ []
 abbrev pub constructed_by : ℕ → ℕ → Tree → NumberedEntry → Matched → Matched
 constructed_by n i t c parts =
     matched_piece (Three (HPatCon c.number) (cells (type_variables n c.symbol.vars)) parts.tree t)
-    (follow (noted ((at_unknowns n c.symbol (result_or_int c.symbol.result), t) ∷ []) (replicate c.symbol.vars i)) parts.notes) parts.variables
+    (follow (noted ((at_unknowns n c.symbol (result_or_int c.symbol.result), t) ∷ [])
+    (replicate c.symbol.vars i)) parts.notes) parts.variables
 
 abbrev pub part_types : ℕ → NumberedEntry → List Tree
 part_types n c = map (at_unknowns n c.symbol) c.symbol.args
 
--- Of a pattern that takes a type, with the next unknown n; `first` has the variables of the first alternative, in a later one.
+-- Of a pattern that takes a type, with the next unknown n; `first` has the variables of the first
+-- alternative, in a later one.
 abbrev mutual
   pub pattern_piece : Where → Option (List LocalTree) → ℕ → Tree → Pattern → Matched
   pattern_piece w first n t (wildcard_pattern i) = matched_piece (One HPatAny t) no_notes []
-  pattern_piece w first n t (variable_pattern i x) = matched_piece (One HPatVar t) (noted (variable_equations first x t) []) (local x t ∷ [])
+  pattern_piece w first n t (variable_pattern i x) =
+      matched_piece (One HPatVar t) (noted (variable_equations first x t) []) (local x t ∷ [])
   pattern_piece w first n t (constructor_pattern i qs x ps) =
       let c = entry_of w.symbols (w.names qs x) in
       constructed_by n i t c (patterns_piece w first (n + c.symbol.vars) (part_types n c) ps)
@@ -108,18 +117,23 @@ abbrev mutual
       constructed_by n i t c (patterns_piece w first (n + c.symbol.vars) (part_types n c) ps)
   pattern_piece w first n t (alias_pattern p i x) =
       let inner = pattern_piece w first n t p in
-      matched_piece (One HPatAlias inner.tree) (follow inner.notes (noted (variable_equations first x t) [])) (inner.variables ++ local x t ∷ [])
+      matched_piece (One HPatAlias inner.tree)
+      (follow inner.notes (noted (variable_equations first x t) []))
+      (inner.variables ++ local x t ∷ [])
 
   pub patterns_piece : Where → Option (List LocalTree) → ℕ → List Tree → Patterns → Matched
   patterns_piece w first n ts no_patterns = matched_piece (Leaf HEnd) no_notes []
   patterns_piece w first n ts (more_patterns p ps) =
       let one = pattern_piece w first n (first_or_int ts) p in
       let rest = patterns_piece w first (n + taken one.notes) (rest_of ts) ps in
-      matched_piece (Two HCell one.tree rest.tree) (follow one.notes rest.notes) (one.variables ++ rest.variables)
+      matched_piece (Two HCell one.tree rest.tree) (follow one.notes rest.notes)
+      (one.variables ++ rest.variables)
 
 -- a constructor's entry before its parts
-abbrev pub constructor_piece : Where → Option (List LocalTree) → ℕ → Tree → ℕ → NumberedEntry → Patterns → Matched
-constructor_piece w first n t i c ps = constructed_by n i t c (patterns_piece w first (n + c.symbol.vars) (part_types n c) ps)
+abbrev pub constructor_piece : Where → Option (List LocalTree) → ℕ → Tree → ℕ → NumberedEntry
+    → Patterns → Matched
+constructor_piece w first n t i c ps =
+    constructed_by n i t c (patterns_piece w first (n + c.symbol.vars) (part_types n c) ps)
 
 -- ---- alternatives
 -- the later ones
@@ -159,18 +173,21 @@ places_among (v ∷ vs) others = place_among v.name others ∷ places_among vs o
 -- `Bound (d + i)` becomes `Bound (d + p)` for the i-th of these places p
 abbrev pub reordering : List ℕ → Change
 reordering places = record {
-  bound = λ d i ty. Bound (if nat_lt i d then i else (if nat_lt i (d + length places) then d + get_or places (i - d) 0 else i)) ty;
+  bound = λ d i ty. Bound (if nat_lt i d then i
+      else (if nat_lt i (d + length places) then d + get_or places (i - d) 0 else i)) ty;
   param = λ d n ty. Param n ty;
   ty_var = λ j. TyVar j;
 }
 
 -- a body under the variables of the first alternative, with those of another in their order
 abbrev pub reordered : List LocalTree → List LocalTree → Tree → Tree
-reordered first later body = change (reordering (places_among (reverse first) (reverse later))) 0 body
+reordered first later body =
+    change (reordering (places_among (reverse first) (reverse later))) 0 body
 
 abbrev pub later_arms : List LocalTree → Tree → List Matched → List Tree
 later_arms first body [] = []
-later_arms first body (m ∷ ms) = Two HArm m.tree (reordered first m.variables body) ∷ later_arms first body ms
+later_arms first body (m ∷ ms) =
+    Two HArm m.tree (reordered first m.variables body) ∷ later_arms first body ms
 
 abbrev pub arms : Tree → List Matched → List Tree
 arms body [] = []

@@ -1,6 +1,7 @@
--- What an expression gives before its types are known: its tree over unknowns, and what it notes. Both are in preorder. A type
--- variable below the number of the declaration's own stands for itself; the others are the unknowns, numbered as they are taken
--- (rank-1 polymorphism: a use of a symbol takes fresh unknowns for its type variables).
+-- What an expression gives before its types are known: its tree over unknowns, and what it notes.
+-- Both are in preorder. A type variable below the number of the declaration's own stands for
+-- itself; the others are the unknowns, numbered as they are taken (rank-1 polymorphism: a use of a
+-- symbol takes fresh unknowns for its type variables).
 use Rattle.std.specs.Prelude.{ℕ, suc, ℤ, ◌+◌, Bool, true, false, cond, List, [], ◌∷◌, ◌++◌, map, reverse, replicate, length, Option, Some, None}
 use Rattle.std.specs.Option.{option_map}
 use Rattle.std.specs.Str.{bytes_eq}
@@ -86,7 +87,8 @@ pub data Use : Type 0 where
 -- the place and type of a variable, the innermost first
 abbrev pub variable_named : Word → List LocalTree → Option (ℕ × Tree)
 variable_named x [] = None
-variable_named x (l ∷ ls) = cond (bytes_eq l.name x) (Some (0, l.type)) (option_map (λ (p : ℕ × Tree). (suc p.0, p.1)) (variable_named x ls))
+variable_named x (l ∷ ls) = cond (bytes_eq l.name x) (Some (0, l.type))
+    (option_map (λ (p : ℕ × Tree). (suc p.0, p.1)) (variable_named x ls))
 
 abbrev pub found_local : List Word → Word → List LocalTree → Option (ℕ × Tree)
 found_local [] x ls = variable_named x ls
@@ -122,7 +124,8 @@ local_piece i ty t = noted_before (noted (wanting ty t) []) (bare_piece (One (HB
 abbrev pub used_piece : ℕ → Option Tree → ℕ → Use → NotedTree → NotedTree
 used_piece n t i (Local' p ty) args = local_piece p ty t
 used_piece n t i (Symbol' e) args =
-    noted_before (noted (wanting (at_unknowns n e.symbol (result_or_int e.symbol.result)) t) (replicate e.symbol.vars i))
+    noted_before (noted (wanting (at_unknowns n e.symbol (result_or_int e.symbol.result)) t)
+    (replicate e.symbol.vars i))
     (piece_under (symbol_at_types e.number (type_variables n e.symbol.vars) t) args)
 
 -- ---- binders
@@ -151,7 +154,8 @@ binders_vars (b ∷ bs) = binder_vars b.names b.of_type + binders_vars bs
 -- the variables of binders in order
 abbrev pub bound : Where → ℕ → List BoundNames → List LocalTree
 bound w n [] = []
-bound w n (b ∷ bs) = binder_locals w n b.names b.of_type ++ bound w (n + binder_vars b.names b.of_type) bs
+bound w n (b ∷ bs) =
+    binder_locals w n b.names b.of_type ++ bound w (n + binder_vars b.names b.of_type) bs
 
 abbrev pub quantified_tree : Bool → Tree → Tree → Tree
 quantified_tree true t e = Two HForall t e
@@ -188,14 +192,17 @@ with_branch ms body rest = record {
 abbrev pub match_piece : ℕ → NotedTree → Arms → NotedTree
 match_piece i subject rest = record {
   tree = Two HCase subject.tree (cells rest.trees);
-  notes = follow (record { equations = []; takers = i ∷ []; matches = (i, rest.patterns) ∷ [] }) (follow subject.notes rest.notes);
+  notes = follow (record { equations = []; takers = i ∷ []; matches = (i, rest.patterns) ∷ [] })
+      (follow subject.notes rest.notes);
 }
 
--- Under these variables, innermost first, with the next unknown n; a term of the type t is due, or a formula.
--- The unknown that is left open first, in the order in which they are taken, is the one whose taker has the first type that is left
--- open. A node's types are its wanted type and the unknowns that it takes. A wanted type is an unknown that the parent takes, a type
--- of a signature at unknowns that the parent takes, the parent's own wanted type or a type of the source, and a variable has the type
--- of its binder. So each unknown in a type of a node was taken by that node or by an earlier one.
+-- Under these variables, innermost first, with the next unknown n; a term of the type t is due, or
+-- a formula. The unknown that is left open first, in the order in which they are taken, is the one
+-- whose taker has the first type that is left open. A node's types are its wanted type and the
+-- unknowns that it takes. A wanted type is an unknown that the parent takes, a type of a signature
+-- at unknowns that the parent takes, the parent's own wanted type or a type of the source, and a
+-- variable has the type of its binder. So each unknown in a type of a node was taken by that node
+-- or by an earlier one.
 abbrev mutual
   pub piece : Where → List LocalTree → ℕ → Option Tree → Expression → NotedTree
   piece w ls n t (applied_expression i qs x es) =
@@ -205,22 +212,27 @@ abbrev mutual
       let u = use_of_name w ls [] x in
       let m = n + use_vars u in
       let left = piece w ls m (Some (first_or_int (parameters n u))) a in
-      let right = piece w ls (unknown_after m left) (Some (first_or_int (rest_of (parameters n u)))) b in
-      used_piece n t i u (both_pieces (Two HCell) left (both_pieces (Two HCell) right (bare_piece (Leaf HEnd))))
+      let right = piece w ls (unknown_after m left)
+      (Some (first_or_int (rest_of (parameters n u)))) b in
+      used_piece n t i u (both_pieces (Two HCell) left
+      (both_pieces (Two HCell) right (bare_piece (Leaf HEnd))))
   piece w ls n t (integer_expression i z) = literal_piece z t
   piece w ls n t (true_expression i) = bare_piece (Leaf HTrue)
   piece w ls n t (false_expression i) = bare_piece (Leaf HFalse)
   piece w ls n t (tuple_expression i es) =
       let u = tuple_use w (count_expressions es) in
       used_piece n t i u (pieces w ls (n + use_vars u) (parameters n u) es)
-  piece w ls n t (cast_expression i e f) = noted_before (noted (wanting (type_at w f) t) []) (piece w ls n (Some (type_at w f)) e)
+  piece w ls n t (cast_expression i e f) =
+      noted_before (noted (wanting (type_at w f) t) []) (piece w ls n (Some (type_at w f)) e)
   piece w ls n t (not_expression i e) = piece_under (One HNot) (piece w ls n None e)
   piece w ls n t (connected_expression i a o b) =
       let left = piece w ls n None a in
       both_pieces (Two (HJoin o)) left (piece w ls (unknown_after n left) None b)
   piece w ls n t (equality_expression i same a b) =
       let left = piece w ls (n + 1) (Some (unknown n)) a in
-      noted_before (noted [] (i ∷ [])) (both_pieces (equality same) left (piece w ls (unknown_after (n + 1) left) (Some (unknown n)) b))
+      noted_before (noted [] (i ∷ []))
+      (both_pieces (equality same) left
+      (piece w ls (unknown_after (n + 1) left) (Some (unknown n)) b))
   piece w ls n t (if_expression i c a b) =
       let test = piece w ls n None c in
       let left = piece w ls (unknown_after n test) t a in
@@ -228,7 +240,9 @@ abbrev mutual
       both_pieces (λ x y. y) test (both_pieces (λ x y. Three HIf test.tree x y) left right)
   piece w ls n t (let_expression i x a b) =
       let value = piece w ls (n + 1) (Some (unknown n)) a in
-      noted_before (noted [] (i ∷ [])) (both_pieces (Two HLet) value (piece w (local x (unknown n) ∷ ls) (unknown_after (n + 1) value) t b))
+      noted_before (noted [] (i ∷ []))
+      (both_pieces (Two HLet) value
+      (piece w (local x (unknown n) ∷ ls) (unknown_after (n + 1) value) t b))
   piece w ls n t (match_expression i is_let e bs) =
       let subject = piece w ls (n + 1) (Some (unknown n)) e in
       match_piece i subject (branches_arms w ls (unknown_after (n + 1) subject) (unknown n) t bs)
@@ -236,7 +250,9 @@ abbrev mutual
       let inside = reverse (bound w n bs) ++ ls in
       let m = n + binders_vars bs in
       let triggers = triggers_notes w inside m gs in
-      noted_before (noted [] (replicate (binders_vars bs) i)) (piece_under (quantify all (bound w n bs)) (noted_before triggers (piece w inside (m + taken triggers) None b)))
+      noted_before (noted [] (replicate (binders_vars bs) i))
+      (piece_under (quantify all (bound w n bs))
+      (noted_before triggers (piece w inside (m + taken triggers) None b)))
 
   -- of arguments, of which these types are wanted
   pub pieces : Where → List LocalTree → ℕ → List Tree → Expressions → NotedTree
@@ -249,12 +265,14 @@ abbrev mutual
   pub triggers_notes : Where → List LocalTree → ℕ → Expressions → Notes
   triggers_notes w ls n no_expressions = no_notes
   triggers_notes w ls n (more_expressions e es) =
-      let one = cond (is_formula_trigger w (names ls) e) (piece w ls n None e) (noted_before (noted [] (token e ∷ [])) (piece w ls (n + 1) (Some (unknown n)) e)) in
+      let one = cond (is_formula_trigger w (names ls) e) (piece w ls n None e)
+      (noted_before (noted [] (token e ∷ [])) (piece w ls (n + 1) (Some (unknown n)) e)) in
       follow one.notes (triggers_notes w ls (unknown_after n one) es)
 
   -- of branches that take a type
   pub branches_arms : Where → List LocalTree → ℕ → Tree → Option Tree → MatchBranches → Arms
-  branches_arms w ls n subject t no_branches = record { trees = []; patterns = []; notes = no_notes }
+  branches_arms w ls n subject t no_branches =
+      record { trees = []; patterns = []; notes = no_notes }
   branches_arms w ls n subject t (more_branches ps b bs) =
       let ms = alternatives_pieces w n subject ps in
       let m = n + taken (all_notes ms) in
@@ -262,8 +280,11 @@ abbrev mutual
       with_branch ms body (branches_arms w ls (unknown_after m body) subject t bs)
 
 -- a use of an entry before operands
-abbrev pub symbol_piece : Where → List LocalTree → ℕ → Option Tree → ℕ → NumberedEntry → Expressions → NotedTree
-symbol_piece w ls n t i e es = used_piece n t i (Symbol' e) (pieces w ls (n + e.symbol.vars) (map (at_unknowns n e.symbol) e.symbol.args) es)
+abbrev pub symbol_piece : Where → List LocalTree → ℕ → Option Tree → ℕ → NumberedEntry → Expressions
+    → NotedTree
+symbol_piece w ls n t i e es =
+    used_piece n t i (Symbol' e)
+    (pieces w ls (n + e.symbol.vars) (map (at_unknowns n e.symbol) e.symbol.args) es)
 
 -- the type that is wanted of a trigger, if it is a term, and the notes of that
 abbrev pub trigger_wanted : Where → List LocalTree → ℕ → Expression → Option Tree

@@ -29,21 +29,24 @@ put_number m = m.calls
 abbrev pub number_after : ℕ → ℕ
 number_after n = min (n + 1) (2 ^ 64 - 1)
 
--- Call `number` of a library fails exactly where its number is among those that fail; any call may want memory.
+-- Call `number` of a library fails exactly where its number is among those that fail; any call may
+-- want memory.
 abbrev pub FailsByNumber : List ℕ → ℕ → Result (Vec ℕ Global) FetchFault → Type 0
 FailsByNumber failing number (Ok bytes) = Contains failing number → ⊥
 FailsByNumber failing number (Err fetch_fault.Memory) = Unit {0}
 FailsByNumber failing number (Err fetch_fault.Absent) = Contains failing number → ⊥
 FailsByNumber failing number (Err fetch_fault.Failed) = Contains failing number
 
--- how many bytes call `number` of a sink takes where it fails; the first pair with the number counts
+-- how many bytes call `number` of a sink takes where it fails; the first pair with the number
+-- counts
 abbrev pub taken_by : List (ℕ × ℕ) → ℕ → Option ℕ
 taken_by [] number = None
 taken_by (pair ∷ pairs) number = if pair.0 == number then Some pair.1 else taken_by pairs number
 
--- Call `number` of a sink fails exactly where its number is among those that fail, and then takes so many bytes;
--- any call may want memory.
+-- Call `number` of a sink fails exactly where its number is among those that fail, and then takes
+-- so many bytes; any call may want memory.
 abbrev pub PutsByNumber : Option ℕ → SinkState → List ℕ → SinkState → Result Unit PutFault → Type 0
 PutsByNumber taken old piece new (Ok _) = taken ≡ None
 PutsByNumber taken old piece new (Err put_fault.Memory) = Unit {0}
-PutsByNumber taken old piece new (Err put_fault.Failed) = IsSomeAnd taken (λ n. Gains old.written (take n piece) new.written)
+PutsByNumber taken old piece new (Err put_fault.Failed) =
+    IsSomeAnd taken (λ n. Gains old.written (take n piece) new.written)

@@ -12,7 +12,8 @@ use Rattle.scopes.specs.declared.entries.Item.{Item}
 use Rattle.scopes.specs.Names.{ScopeEntry, is_named}
 
 abbrev pub stored_entry : Stored → ScopeEntry
-stored_entry x = record { table = x.table; name = x.name.items; thing = x.thing; declared = x.declared }
+stored_entry x =
+    record { table = x.table; name = x.name.items; thing = x.thing; declared = x.declared }
 
 -- before these
 abbrev pub entries_before : List ScopeEntry → List Stored → List ScopeEntry
@@ -46,7 +47,9 @@ with_meaning e m = Some (record { thing = e.thing; declared = e.declared || was_
 -- the latest thing of a name in a table, and whether the name was declared
 abbrev pub latest_meaning : Table → List ℕ → List ScopeEntry → Option Meaning
 latest_meaning table name [] = None
-latest_meaning table name (e ∷ es) = cond (is_named table name e) (with_meaning e (latest_meaning table name es)) (latest_meaning table name es)
+latest_meaning table name (e ∷ es) =
+    cond (is_named table name e) (with_meaning e (latest_meaning table name es))
+    (latest_meaning table name es)
 
 abbrev pub meaning_in : Table → Meanings → Option Meaning
 meaning_in Types m = m.types
@@ -61,13 +64,16 @@ stored_meaning table (Some m) = meaning_in table m
 -- each entry keeps what its name meant before it
 abbrev pub KeepBefore : List ScopeEntry → List Stored → Type 0
 KeepBefore es [] = Unit {0}
-KeepBefore es (x ∷ xs) = (x.before ≡ latest_meaning x.table x.name.items es) × KeepBefore (stored_entry x ∷ es) xs
+KeepBefore es (x ∷ xs) =
+    (x.before ≡ latest_meaning x.table x.name.items es) × KeepBefore (stored_entry x ∷ es) xs
 
 -- what the map has at a name
 abbrev pub meanings_of : {Y S : Type 0} → HashMap (Vec ℕ Y) Meanings S → List ℕ → Option Meanings
 meanings_of m name = get_by (λ k. bytes_eq name k.items) m
 
 -- the map has what each name means
-pub record IsKeptMap {Y S : Type 0} (xs : List Stored) (m : HashMap (Vec ℕ Y) Meanings S) : Type 0 where
-  pub meanings : (table : Table) (name : List ℕ) → stored_meaning table (meanings_of m name) ≡ latest_meaning table name (latest_first xs)
+pub record IsKeptMap {Y S : Type 0} (xs : List Stored)
+    (m : HashMap (Vec ℕ Y) Meanings S) : Type 0 where
+  pub meanings : (table : Table) (name : List ℕ)
+      → stored_meaning table (meanings_of m name) ≡ latest_meaning table name (latest_first xs)
   pub before : KeepBefore [] xs

@@ -7,8 +7,9 @@ use Rattle.scopes.specs.declared.Table.TheVariants.{Types, Symbols, Propositions
 use Rattle.scopes.specs.declared.TypeName.{TypeName}
 use Rattle.scopes.specs.declared.TypeName.TheVariants as stands
 
--- a name in a table: the thing that it stands for, and whether the scope declared it or has it by an import. What a name of
--- the table of scopes stands for is a scope, by its number; in the table of types alone a name may be an alias
+-- a name in a table: the thing that it stands for, and whether the scope declared it or has it by
+-- an import. What a name of the table of scopes stands for is a scope, by its number; in the table
+-- of types alone a name may be an alias
 pub record ScopeEntry : Type 0 where
   pub table : Table
   pub name : List ℕ
@@ -20,7 +21,8 @@ abbrev pub number_of : TypeName → ℕ
 number_of (stands.Entry number) = number
 number_of (stands.Alias vars ty) = ty
 
--- the entries of every scope by its number, latest first, and the numbers of the open scopes, innermost first
+-- the entries of every scope by its number, latest first, and the numbers of the open scopes,
+-- innermost first
 pub record ScopeNames : Type 0 where
   pub entries : List (List ScopeEntry)
   pub nested : List ℕ
@@ -57,7 +59,8 @@ or_else (Some thing) more = Some thing
 -- what a name without qualifiers stands for: the first of these scopes that has it decides
 abbrev pub first_found : Table → List ℕ → List (List ScopeEntry) → List ℕ → Option TypeName
 first_found table name entries [] = None
-first_found table name entries (number ∷ numbers) = or_else (latest table name (get_or entries number [])) (first_found table name entries numbers)
+first_found table name entries (number ∷ numbers) =
+    or_else (latest table name (get_or entries number [])) (first_found table name entries numbers)
 
 -- a qualifier is looked for in the table of scopes
 abbrev pub table_before : Table → List (List ℕ) → Table
@@ -65,15 +68,20 @@ table_before table [] = table
 table_before table (name ∷ names) = Scopes
 
 -- the search goes on in the found scope's own entries
-abbrev pub find_within : List (List ScopeEntry) → Table → Option TypeName → List (List ℕ) → Option TypeName
+abbrev pub find_within : List (List ScopeEntry) → Table → Option TypeName → List (List ℕ)
+    → Option TypeName
 find_within entries table found [] = found
 find_within entries table None (name ∷ names) = None
-find_within entries table (Some thing) (name ∷ names) = find_within entries table (latest (table_before table names) name (get_or entries (number_of thing) [])) names
+find_within entries table (Some thing) (name ∷ names) =
+    find_within entries table
+    (latest (table_before table names) name (get_or entries (number_of thing) [])) names
 
 -- what a name stands for, its qualifiers before it
 abbrev pub find_name : ScopeNames → Table → List (List ℕ) → Option TypeName
 find_name s table [] = None
-find_name s table (name ∷ names) = find_within s.entries table (first_found (table_before table names) name s.entries s.nested) names
+find_name s table (name ∷ names) =
+    find_within s.entries table
+    (first_found (table_before table names) name s.entries s.nested) names
 
 -- the number of what it stands for
 abbrev pub find_number : ScopeNames → Table → List (List ℕ) → Option ℕ
@@ -96,11 +104,21 @@ empty_names = record { entries = [] ∷ []; nested = 0 ∷ [] }
 
 -- further entries of the innermost scope
 abbrev pub with_scope_entries : List ScopeEntry → ScopeNames → ScopeNames
-with_scope_entries es s = record { entries = set s.entries (innermost s) (es ++ entries_of s (innermost s)); nested = s.nested }
+with_scope_entries es s = record {
+  entries =
+      set s.entries (innermost s) (es ++ entries_of s (innermost s));
+  nested = s.nested;
+}
 
 -- a further name of the innermost scope
 abbrev pub with_name : Table → List ℕ → TypeName → Bool → ScopeNames → ScopeNames
-with_name table name thing declared s = record { entries = set s.entries (innermost s) (record { table = table; name = name; thing = thing; declared = declared } ∷ entries_of s (innermost s)); nested = s.nested }
+with_name table name thing declared s =
+    record {
+      entries = set s.entries (innermost s)
+          (record { table = table; name = name; thing = thing; declared = declared }
+          ∷ entries_of s (innermost s));
+      nested = s.nested;
+    }
 
 -- a further name of the innermost scope, which stands for the thing with this number
 abbrev pub with_entry : Table → List ℕ → ℕ → Bool → ScopeNames → ScopeNames

@@ -16,7 +16,15 @@ pub record RowReadHeld (s : List Tree) (r : Read) : Type 0 where
 
 -- one thing more
 abbrev pub IsThingKept : MadeThing → Read → Read → Type 0
-IsThingKept (made.Type y) r r' = (r'.types.items ≡ r.types.items ++ y ∷ []) × (r'.patterns.items ≡ r.patterns.items) × (r'.expressions.items ≡ r.expressions.items) × (r'.steps.items ≡ r.steps.items)
-IsThingKept (made.Pattern p) r r' = (r'.types.items ≡ r.types.items) × (r'.patterns.items ≡ r.patterns.items ++ p ∷ []) × (r'.expressions.items ≡ r.expressions.items) × (r'.steps.items ≡ r.steps.items)
-IsThingKept (made.Expression e) r r' = (r'.types.items ≡ r.types.items) × (r'.patterns.items ≡ r.patterns.items) × (r'.expressions.items ≡ r.expressions.items ++ e ∷ []) × (r'.steps.items ≡ r.steps.items)
-IsThingKept (made.Derived st) r r' = (r'.types.items ≡ r.types.items) × (r'.patterns.items ≡ r.patterns.items) × (r'.expressions.items ≡ r.expressions.items) × (r'.steps.items ≡ r.steps.items ++ st ∷ [])
+IsThingKept (made.Type y) r r' =
+    (r'.types.items ≡ r.types.items ++ y ∷ []) × (r'.patterns.items ≡ r.patterns.items)
+    × (r'.expressions.items ≡ r.expressions.items) × (r'.steps.items ≡ r.steps.items)
+IsThingKept (made.Pattern p) r r' =
+    (r'.types.items ≡ r.types.items) × (r'.patterns.items ≡ r.patterns.items ++ p ∷ [])
+    × (r'.expressions.items ≡ r.expressions.items) × (r'.steps.items ≡ r.steps.items)
+IsThingKept (made.Expression e) r r' =
+    (r'.types.items ≡ r.types.items) × (r'.patterns.items ≡ r.patterns.items)
+    × (r'.expressions.items ≡ r.expressions.items ++ e ∷ []) × (r'.steps.items ≡ r.steps.items)
+IsThingKept (made.Derived st) r r' =
+    (r'.types.items ≡ r.types.items) × (r'.patterns.items ≡ r.patterns.items)
+    × (r'.expressions.items ≡ r.expressions.items) × (r'.steps.items ≡ r.steps.items ++ st ∷ [])

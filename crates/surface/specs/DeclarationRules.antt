@@ -63,7 +63,8 @@ AreClauses (c ∷ cs) = IsNewProp c.name × IsLevel c.prop × AreClauses cs
 
 abbrev pub AreInductive : List Inductive → Type 0
 AreInductive [] = ⊤
-AreInductive (d ∷ ds) = IsNewSymbol d.name × AreParams d.params × HasSome d.clauses × AreClauses d.clauses × AreInductive ds
+AreInductive (d ∷ ds) = IsNewSymbol d.name × AreParams d.params × HasSome d.clauses
+    × AreClauses d.clauses × AreInductive ds
 
 -- what is exported has no new name
 abbrev pub IsLink : Link → Option Name → Type 0
@@ -84,7 +85,8 @@ abbrev mutual
   pub IsLevelDecl : SyntaxDeclaration → Type 0
   IsLevelDecl (type_decl a n vs f) = IsTypePart f
   IsLevelDecl (algebraic_decl a as_) = HasSome as_ × AreAlgebraic as_
-  IsLevelDecl (function_decl a c ps f e ds) = IsNewSymbol c × AreParams ps × IsForm type_forms f × IsDefined e ds
+  IsLevelDecl (function_decl a c ps f e ds) =
+      IsNewSymbol c × AreParams ps × IsForm type_forms f × IsDefined e ds
   IsLevelDecl (predicate_decl a c ps e ds) = IsNewSymbol c × AreParams ps × IsDefined e ds
   IsLevelDecl (constant_decl a c f e) = IsNewSymbol c × IsForm type_forms f × IsOptionalDefinition e
   IsLevelDecl (inductive_decl a ds) = HasSome ds × AreInductive ds
@@ -104,7 +106,8 @@ IsLevelFile (h ∷ hs) = AreLevelDecls h.decls × IsLevelFile hs
 -- names in parentheses with their type, or a type alone
 abbrev pub PlacedTyped : ℕ → List Name → SyntaxForm → Type 0
 PlacedTyped i [] f = IsPlaced i f
-PlacedTyped i (n ∷ ns) f = PlacedNames (i + 1) (n ∷ ns) × IsPlaced (past (i + 1) (name_row (n ∷ ns)) + 1) f
+PlacedTyped i (n ∷ ns) f =
+    PlacedNames (i + 1) (n ∷ ns) × IsPlaced (past (i + 1) (name_row (n ∷ ns)) + 1) f
 
 abbrev pub PlacedParams : ℕ → List ParamGroup → Type 0
 PlacedParams i [] = ⊤
@@ -116,7 +119,10 @@ PlacedDefinition i None = ⊤
 PlacedDefinition i (Some e) = IsPlacedTree (i + 1) e
 
 abbrev pub PlacedMember : ℕ → Member → Type 0
-PlacedMember i d = (d.name.at ≡ i) × PlacedParams (past i (write_called d.name)) d.params × PlacedPart (past (past i (write_called d.name)) (param_row d.params)) d.result × IsPlacedTree (past (past (past i (write_called d.name)) (param_row d.params)) (type_part d.result) + 1) d.body
+PlacedMember i d = (d.name.at ≡ i) × PlacedParams (past i (write_called d.name)) d.params
+    × PlacedPart (past (past i (write_called d.name)) (param_row d.params)) d.result
+    × IsPlacedTree (past (past (past i (write_called d.name)) (param_row d.params))
+    (type_part d.result) + 1) d.body
 
 -- each after `with`
 abbrev pub PlacedMembers : ℕ → List Member → Type 0
@@ -126,29 +132,41 @@ PlacedMembers i (d ∷ ds) = PlacedMember (i + 1) d × PlacedMembers (past (i + 
 -- constructors, types, clauses, predicates and elements, with a token between
 abbrev pub PlacedConstructors : ℕ → List Constructor → Type 0
 PlacedConstructors i [] = ⊤
-PlacedConstructors i (c ∷ cs) = (c.name.at ≡ i) × PlacedRow (i + 1) c.fields × PlacedConstructors (past i (write_constructor c) + 1) cs
+PlacedConstructors i (c ∷ cs) =
+    (c.name.at ≡ i) × PlacedRow (i + 1) c.fields
+    × PlacedConstructors (past i (write_constructor c) + 1) cs
 
 abbrev pub PlacedAlgebraic : ℕ → Algebraic → Type 0
-PlacedAlgebraic i a = (a.name.at ≡ i) × PlacedNames (i + 1) a.vars × PlacedConstructors (past (past (i + 1) (variable_row a.vars) + 1) (bar_before a.bar)) a.constructors
+PlacedAlgebraic i a = (a.name.at ≡ i) × PlacedNames (i + 1) a.vars
+    × PlacedConstructors (past (past (i + 1) (variable_row a.vars) + 1) (bar_before a.bar))
+    a.constructors
 
 abbrev pub PlacedAlgebraics : ℕ → List Algebraic → Type 0
 PlacedAlgebraics i [] = ⊤
-PlacedAlgebraics i (a ∷ as_) = PlacedAlgebraic i a × PlacedAlgebraics (past i (write_algebraic a) + 1) as_
+PlacedAlgebraics i (a ∷ as_) =
+    PlacedAlgebraic i a × PlacedAlgebraics (past i (write_algebraic a) + 1) as_
 
 abbrev pub PlacedClauses : ℕ → List Clause → Type 0
 PlacedClauses i [] = ⊤
-PlacedClauses i (c ∷ cs) = (c.name.at ≡ i) × IsPlacedTree (past i (write_called c.name) + 1) c.prop × PlacedClauses (past i (write_clause c) + 1) cs
+PlacedClauses i (c ∷ cs) = (c.name.at ≡ i) × IsPlacedTree (past i (write_called c.name) + 1) c.prop
+    × PlacedClauses (past i (write_clause c) + 1) cs
 
 abbrev pub PlacedInductive : ℕ → Inductive → Type 0
-PlacedInductive i d = (d.name.at ≡ i) × PlacedParams (past i (write_called d.name)) d.params × PlacedClauses (past (past (past i (write_called d.name)) (param_row d.params) + 1) (bar_before d.bar)) d.clauses
+PlacedInductive i d = (d.name.at ≡ i) × PlacedParams (past i (write_called d.name)) d.params
+    × PlacedClauses (past (past (past i (write_called d.name)) (param_row d.params) + 1)
+    (bar_before d.bar)) d.clauses
 
 abbrev pub PlacedInductives : ℕ → List Inductive → Type 0
 PlacedInductives i [] = ⊤
-PlacedInductives i (d ∷ ds) = PlacedInductive i d × PlacedInductives (past i (write_inductive d) + 1) ds
+PlacedInductives i (d ∷ ds) =
+    PlacedInductive i d × PlacedInductives (past i (write_inductive d) + 1) ds
 
 abbrev pub PlacedElement : ℕ → Element → Type 0
-PlacedElement i (type_element j c vs f) = (j ≡ i) × (c.at ≡ i + 1) × PlacedNames (past (i + 1) (write_called c)) vs × IsPlaced (past (past (i + 1) (write_called c)) (variable_row vs) + 1) f
-PlacedElement i (symbol_element j s c d) = (j ≡ i) × (c.at ≡ i + 1) × (d.at ≡ past (i + 1) (write_called c) + 1)
+PlacedElement i (type_element j c vs f) =
+    (j ≡ i) × (c.at ≡ i + 1) × PlacedNames (past (i + 1) (write_called c)) vs
+    × IsPlaced (past (past (i + 1) (write_called c)) (variable_row vs) + 1) f
+PlacedElement i (symbol_element j s c d) =
+    (j ≡ i) × (c.at ≡ i + 1) × (d.at ≡ past (i + 1) (write_called c) + 1)
 PlacedElement i (prop_element j k c) = (j ≡ i) × (c.at ≡ i + 1)
 PlacedElement i (all_axioms j) = j ≡ i
 
@@ -164,15 +182,35 @@ PlacedRenamed i (Some n) = n.at ≡ i + 1
 -- Token i is the first one.
 abbrev mutual
   pub PlacedDecl : ℕ → SyntaxDeclaration → Type 0
-  PlacedDecl i (type_decl a n vs f) = (a ≡ at i) × (n.at ≡ i + 1) × PlacedNames (i + 1 + 1) vs × PlacedPart (past (i + 1 + 1) (variable_row vs)) f
+  PlacedDecl i (type_decl a n vs f) =
+      (a ≡ at i) × (n.at ≡ i + 1) × PlacedNames (i + 1 + 1) vs
+      × PlacedPart (past (i + 1 + 1) (variable_row vs)) f
   PlacedDecl i (algebraic_decl a as_) = (a ≡ at i) × PlacedAlgebraics (i + 1) as_
-  PlacedDecl i (function_decl a c ps f e ds) = (a ≡ at i) × (c.at ≡ i + 1) × PlacedParams (past (i + 1) (write_called c)) ps × IsPlaced (past (past (i + 1) (write_called c)) (param_row ps) + 1) f × PlacedDefinition (past (past (past (i + 1) (write_called c)) (param_row ps) + 1) (write_form f)) e × PlacedMembers (past (past (past (past (i + 1) (write_called c)) (param_row ps) + 1) (write_form f)) (definition e)) ds
-  PlacedDecl i (predicate_decl a c ps e ds) = (a ≡ at i) × (c.at ≡ i + 1) × PlacedParams (past (i + 1) (write_called c)) ps × PlacedDefinition (past (past (i + 1) (write_called c)) (param_row ps)) e × PlacedMembers (past (past (past (i + 1) (write_called c)) (param_row ps)) (definition e)) ds
-  PlacedDecl i (constant_decl a c f e) = (a ≡ at i) × (c.at ≡ i + 1) × IsPlaced (past (i + 1) (write_called c) + 1) f × PlacedDefinition (past (past (i + 1) (write_called c) + 1) (write_form f)) e
+  PlacedDecl i (function_decl a c ps f e ds) =
+      (a ≡ at i) × (c.at ≡ i + 1) × PlacedParams (past (i + 1) (write_called c)) ps
+      × IsPlaced (past (past (i + 1) (write_called c)) (param_row ps) + 1) f
+      × PlacedDefinition (past (past (past (i + 1) (write_called c)) (param_row ps) + 1)
+      (write_form f)) e × PlacedMembers
+      (past (past (past (past (i + 1) (write_called c)) (param_row ps) + 1) (write_form f))
+      (definition e)) ds
+  PlacedDecl i (predicate_decl a c ps e ds) =
+      (a ≡ at i) × (c.at ≡ i + 1) × PlacedParams (past (i + 1) (write_called c)) ps
+      × PlacedDefinition (past (past (i + 1) (write_called c)) (param_row ps)) e
+      × PlacedMembers (past (past (past (i + 1) (write_called c)) (param_row ps)) (definition e)) ds
+  PlacedDecl i (constant_decl a c f e) =
+      (a ≡ at i) × (c.at ≡ i + 1) × IsPlaced (past (i + 1) (write_called c) + 1) f
+      × PlacedDefinition (past (past (i + 1) (write_called c) + 1) (write_form f)) e
   PlacedDecl i (inductive_decl a ds) = (a ≡ at i) × PlacedInductives (i + 1) ds
-  PlacedDecl i (prop_decl a k c e) = (a ≡ at i) × (c.at ≡ i + 1) × IsPlacedTree (past (i + 1) (write_called c) + 1) e
-  PlacedDecl i (use_decl a l p n) = (a ≡ at i) × (p.at ≡ past (i + 1) (link_words l)) × PlacedRenamed (past (past (i + 1) (link_words l)) (write_path p.parts)) n
-  PlacedDecl i (clone_decl a l p n es) = (a ≡ at i) × (p.at ≡ past (i + 1) (link_words l)) × PlacedRenamed (past (past (i + 1) (link_words l)) (write_path p.parts)) n × PlacedElements (past (past (past (i + 1) (link_words l)) (write_path p.parts)) (renamed n) + 1) es
+  PlacedDecl i (prop_decl a k c e) =
+      (a ≡ at i) × (c.at ≡ i + 1) × IsPlacedTree (past (i + 1) (write_called c) + 1) e
+  PlacedDecl i (use_decl a l p n) =
+      (a ≡ at i) × (p.at ≡ past (i + 1) (link_words l))
+      × PlacedRenamed (past (past (i + 1) (link_words l)) (write_path p.parts)) n
+  PlacedDecl i (clone_decl a l p n es) =
+      (a ≡ at i) × (p.at ≡ past (i + 1) (link_words l))
+      × PlacedRenamed (past (past (i + 1) (link_words l)) (write_path p.parts)) n
+      × PlacedElements (past (past (past (i + 1) (link_words l)) (write_path p.parts))
+      (renamed n) + 1) es
   PlacedDecl i (scope_decl a n ds) = (a ≡ at i) × (n.at ≡ i + 1) × PlacedDecls (i + 1 + 1) ds
 
   -- one after another
@@ -182,4 +220,5 @@ abbrev mutual
 
 abbrev pub PlacedFile : ℕ → List SyntaxTheory → Type 0
 PlacedFile i [] = ⊤
-PlacedFile i (h ∷ hs) = (h.at ≡ at i) × (h.name.at ≡ i + 1) × PlacedDecls (i + 1 + 1) h.decls × PlacedFile (past i (write_theory h)) hs
+PlacedFile i (h ∷ hs) = (h.at ≡ at i) × (h.name.at ≡ i + 1) × PlacedDecls (i + 1 + 1) h.decls
+    × PlacedFile (past i (write_theory h)) hs

@@ -55,8 +55,10 @@ mutual
   pub data SyntaxDeclaration : Type 0 where
     type_decl : At → Name → List Name → Option SyntaxForm → SyntaxDeclaration
     algebraic_decl : At → List Algebraic → SyntaxDeclaration
-    function_decl : At → Called → List ParamGroup → SyntaxForm → Option SyntaxTree → List Member → SyntaxDeclaration
-    predicate_decl : At → Called → List ParamGroup → Option SyntaxTree → List Member → SyntaxDeclaration
+    function_decl : At → Called → List ParamGroup → SyntaxForm → Option SyntaxTree → List Member
+        → SyntaxDeclaration
+    predicate_decl : At → Called → List ParamGroup → Option SyntaxTree → List Member
+        → SyntaxDeclaration
     constant_decl : At → Called → SyntaxForm → Option SyntaxTree → SyntaxDeclaration
     inductive_decl : At → List Inductive → SyntaxDeclaration
     prop_decl : At → PropKind → Called → SyntaxTree → SyntaxDeclaration
@@ -81,7 +83,8 @@ variable_row (n ∷ ns) = lx t.TyVar n.text ∷ variable_row ns
 
 abbrev pub typed_names : List Name → SyntaxForm → List Lexeme
 typed_names [] f = write_form f
-typed_names (n ∷ ns) f = mark t.LParen ∷ (name_row (n ∷ ns) ++ (mark t.Colon ∷ (write_form f ++ (mark t.RParen ∷ []))))
+typed_names (n ∷ ns) f =
+    mark t.LParen ∷ (name_row (n ∷ ns) ++ (mark t.Colon ∷ (write_form f ++ (mark t.RParen ∷ []))))
 
 abbrev pub write_param : ParamGroup → List Lexeme
 write_param p = typed_names p.names p.of_type
@@ -96,7 +99,8 @@ definition None = []
 definition (Some e) = mark t.Equal ∷ write e
 
 abbrev pub write_member : Member → List Lexeme
-write_member d = write_called d.name ++ (param_row d.params ++ (type_part d.result ++ (mark t.Equal ∷ write d.body)))
+write_member d = write_called d.name
+    ++ (param_row d.params ++ (type_part d.result ++ (mark t.Equal ∷ write d.body)))
 
 -- each after `with`
 abbrev pub other_members : List Member → List Lexeme
@@ -115,7 +119,9 @@ constructor_list [] = []
 constructor_list (c ∷ cs) = write_constructor c ++ constructor_tail cs
 
 abbrev pub write_algebraic : Algebraic → List Lexeme
-write_algebraic a = lx t.Lident a.name.text ∷ (variable_row a.vars ++ (mark t.Equal ∷ (bar_before a.bar ++ constructor_list a.constructors)))
+write_algebraic a = lx t.Lident a.name.text
+    ∷ (variable_row a.vars ++ (mark t.Equal
+    ∷ (bar_before a.bar ++ constructor_list a.constructors)))
 
 abbrev pub algebraic_tail : List Algebraic → List Lexeme
 algebraic_tail [] = []
@@ -137,7 +143,8 @@ clause_list [] = []
 clause_list (c ∷ cs) = write_clause c ++ clause_tail cs
 
 abbrev pub write_inductive : Inductive → List Lexeme
-write_inductive d = write_called d.name ++ (param_row d.params ++ (mark t.Equal ∷ (bar_before d.bar ++ clause_list d.clauses)))
+write_inductive d = write_called d.name
+    ++ (param_row d.params ++ (mark t.Equal ∷ (bar_before d.bar ++ clause_list d.clauses)))
 
 abbrev pub inductive_tail : List Inductive → List Lexeme
 inductive_tail [] = []
@@ -177,8 +184,10 @@ symbol_word sw.Constant = t.ConstantWord
 symbol_word sw.Predicate = t.PredicateWord
 
 abbrev pub write_element : Element → List Lexeme
-write_element (type_element i c vs f) = mark t.TypeWord ∷ (write_called c ++ (variable_row vs ++ (mark t.Equal ∷ write_form f)))
-write_element (symbol_element i s c d) = mark (symbol_word s) ∷ (write_called c ++ (mark t.Equal ∷ write_called d))
+write_element (type_element i c vs f) =
+    mark t.TypeWord ∷ (write_called c ++ (variable_row vs ++ (mark t.Equal ∷ write_form f)))
+write_element (symbol_element i s c d) =
+    mark (symbol_word s) ∷ (write_called c ++ (mark t.Equal ∷ write_called d))
 write_element (prop_element i k c) = mark (prop_word k) ∷ write_called c
 write_element (all_axioms i) = mark t.AxiomWord ∷ mark t.Dot ∷ []
 
@@ -197,16 +206,25 @@ type_equation (Some f) = mark t.Equal ∷ write_form f
 
 abbrev mutual
   pub write_decl : SyntaxDeclaration → List Lexeme
-  write_decl (type_decl a n vs f) = mark t.TypeWord ∷ lx t.Lident n.text ∷ (variable_row vs ++ type_equation f)
+  write_decl (type_decl a n vs f) =
+      mark t.TypeWord ∷ lx t.Lident n.text ∷ (variable_row vs ++ type_equation f)
   write_decl (algebraic_decl a as_) = mark t.TypeWord ∷ algebraic_list as_
-  write_decl (function_decl a c ps f e ds) = mark t.FunctionWord ∷ (write_called c ++ (param_row ps ++ (mark t.Colon ∷ (write_form f ++ (definition e ++ other_members ds)))))
-  write_decl (predicate_decl a c ps e ds) = mark t.PredicateWord ∷ (write_called c ++ (param_row ps ++ (definition e ++ other_members ds)))
-  write_decl (constant_decl a c f e) = mark t.ConstantWord ∷ (write_called c ++ (mark t.Colon ∷ (write_form f ++ definition e)))
+  write_decl (function_decl a c ps f e ds) =
+      mark t.FunctionWord ∷ (write_called c
+      ++ (param_row ps ++ (mark t.Colon ∷ (write_form f ++ (definition e ++ other_members ds)))))
+  write_decl (predicate_decl a c ps e ds) =
+      mark t.PredicateWord ∷ (write_called c
+      ++ (param_row ps ++ (definition e ++ other_members ds)))
+  write_decl (constant_decl a c f e) =
+      mark t.ConstantWord ∷ (write_called c ++ (mark t.Colon ∷ (write_form f ++ definition e)))
   write_decl (inductive_decl a ds) = mark t.InductiveWord ∷ inductive_list ds
   write_decl (prop_decl a k c e) = mark (prop_word k) ∷ (write_called c ++ (mark t.Colon ∷ write e))
-  write_decl (use_decl a l p n) = mark t.UseWord ∷ (link_words l ++ (write_path p.parts ++ renamed n))
-  write_decl (clone_decl a l p n es) = mark t.CloneWord ∷ (link_words l ++ (write_path p.parts ++ (renamed n ++ substitution es)))
-  write_decl (scope_decl a n ds) = mark t.ScopeWord ∷ lx t.Uident n.text ∷ (write_decls ds ++ (mark t.EndWord ∷ []))
+  write_decl (use_decl a l p n) =
+      mark t.UseWord ∷ (link_words l ++ (write_path p.parts ++ renamed n))
+  write_decl (clone_decl a l p n es) =
+      mark t.CloneWord ∷ (link_words l ++ (write_path p.parts ++ (renamed n ++ substitution es)))
+  write_decl (scope_decl a n ds) =
+      mark t.ScopeWord ∷ lx t.Uident n.text ∷ (write_decls ds ++ (mark t.EndWord ∷ []))
 
   -- one after another
   pub write_decls : SyntaxDeclarations → List Lexeme
@@ -218,7 +236,8 @@ heading true = t.ModuleWord
 heading false = t.TheoryWord
 
 abbrev pub write_theory : SyntaxTheory → List Lexeme
-write_theory h = mark (heading h.is_module) ∷ lx t.Uident h.name.text ∷ (write_decls h.decls ++ (mark t.EndWord ∷ []))
+write_theory h = mark (heading h.is_module) ∷ lx t.Uident h.name.text
+    ∷ (write_decls h.decls ++ (mark t.EndWord ∷ []))
 
 -- theories one after another
 abbrev pub write_file : List SyntaxTheory → List Lexeme

@@ -1,4 +1,5 @@
--- The plain trees of surface trees: types, patterns, terms and formulas, with the places that they carry.
+-- The plain trees of surface trees: types, patterns, terms and formulas, with the places that they
+-- carry.
 use Rattle.std.specs.Prelude.{ℕ, ℤ, pos, negsuc, Bool, List, [], ◌∷◌, map, Option, Some, None, option_map, if◌then◌else◌}
 use Rattle.surface.specs.Common.{Terminal, is_star, string_terminal, At, OpName}
 use Rattle.tokens_why.specs.declared.terminal.Terminal.TheVariants as t
@@ -157,10 +158,13 @@ unfoldable pub tree_of : Expr → SyntaxTree
 tree_of = fold-Expr (At → SyntaxTree) Arm SyntaxTree Terms node_step arm_step whole_step terms_step
 
 unfoldable pub arm_of : BranchTree → Arm
-arm_of = fold-BranchTree (At → SyntaxTree) Arm SyntaxTree Terms node_step arm_step whole_step terms_step
+arm_of =
+    fold-BranchTree (At → SyntaxTree) Arm SyntaxTree Terms node_step arm_step whole_step terms_step
 
 unfoldable pub terms_of : TriggerTree → Terms
-terms_of = fold-TriggerTree (At → SyntaxTree) Arm SyntaxTree Terms node_step arm_step whole_step terms_step
+terms_of =
+    fold-TriggerTree (At → SyntaxTree) Arm SyntaxTree Terms node_step arm_step whole_step terms_step
 
 unfoldable pub tree_of_node : ExprNode → At → SyntaxTree
-tree_of_node = fold-ExprNode (At → SyntaxTree) Arm SyntaxTree Terms node_step arm_step whole_step terms_step
+tree_of_node =
+    fold-ExprNode (At → SyntaxTree) Arm SyntaxTree Terms node_step arm_step whole_step terms_step

@@ -1,4 +1,5 @@
--- The plain trees of surface trees: declarations, theories and files, with the places that they carry.
+-- The plain trees of surface trees: declarations, theories and files, with the places that they
+-- carry.
 use Rattle.std.specs.Prelude.{ℕ, List, [], ◌∷◌, map, option_map}
 use Rattle.surface.specs.Common.{At, Name, OpName}
 use Rattle.surface.specs.declared.names.Style.TheVariants.{Plain}
@@ -37,19 +38,32 @@ abbrev pub param_of : ParamTree → ParamGroup
 param_of p = record { names = p.names; of_type = form_of p.ty }
 
 abbrev pub member_of : MemberTree → Member
-member_of m = record { name = declared_name m.name; params = map param_of m.params; result = option_map form_of m.result; body = tree_of m.body }
+member_of m = record {
+  name = declared_name m.name;
+  params = map param_of m.params;
+  result =
+      option_map form_of m.result;
+  body = tree_of m.body;
+}
 
 abbrev pub constructor_of : ConTree → Constructor
 constructor_of c = record { name = c.name; fields = types c.fields }
 
 abbrev pub algebraic_of : AlgTree → Algebraic
-algebraic_of a = record { name = a.name; vars = a.vars; bar = a.bar; constructors = map constructor_of a.cons }
+algebraic_of a =
+    record { name = a.name; vars = a.vars; bar = a.bar; constructors = map constructor_of a.cons }
 
 abbrev pub clause_of : ClauseTree → Clause
 clause_of c = record { name = plain_name c.name; prop = tree_of c.prop }
 
 abbrev pub inductive_of : IndTree → Inductive
-inductive_of d = record { name = declared_name d.name; params = map param_of d.params; bar = d.bar; clauses = map clause_of d.clauses }
+inductive_of d = record {
+  name = declared_name d.name;
+  params = map param_of d.params;
+  bar =
+      d.bar;
+  clauses = map clause_of d.clauses;
+}
 
 abbrev pub element_by : ElemNode → ℕ → Element
 element_by (el.TypeElem q vs t) i = type_element i (called_of q) vs (form_of t)
@@ -61,12 +75,17 @@ abbrev pub element_of : ElemTree → Element
 element_of e = element_by e.node e.at
 
 -- One level of a declaration, with the trees of its parts in their place.
-abbrev pub decl_step : DeclNode-F (At → SyntaxDeclaration) SyntaxDeclaration → At → SyntaxDeclaration
+abbrev pub decl_step : DeclNode-F (At → SyntaxDeclaration) SyntaxDeclaration → At
+    → SyntaxDeclaration
 decl_step (dn.TypeDecl n vs t) a = type_decl a n vs (option_map form_of t)
 decl_step (dn.Algebraic as_) a = algebraic_decl a (map algebraic_of as_)
-decl_step (dn.Function n ps t e ms) a = function_decl a (declared_name n) (map param_of ps) (form_of t) (option_map tree_of e) (map member_of ms)
-decl_step (dn.Predicate n ps e ms) a = predicate_decl a (declared_name n) (map param_of ps) (option_map tree_of e) (map member_of ms)
-decl_step (dn.Constant n t e) a = constant_decl a (declared_name n) (form_of t) (option_map tree_of e)
+decl_step (dn.Function n ps t e ms) a =
+    function_decl a (declared_name n) (map param_of ps) (form_of t) (option_map tree_of e)
+    (map member_of ms)
+decl_step (dn.Predicate n ps e ms) a =
+    predicate_decl a (declared_name n) (map param_of ps) (option_map tree_of e) (map member_of ms)
+decl_step (dn.Constant n t e) a =
+    constant_decl a (declared_name n) (form_of t) (option_map tree_of e)
 decl_step (dn.Inductive ds) a = inductive_decl a (map inductive_of ds)
 decl_step (dn.Prop k n e) a = prop_decl a k (plain_name n) (tree_of e)
 decl_step (dn.UseTheory l p n) a = use_decl a l p n
@@ -83,7 +102,8 @@ unfoldable pub decl_of_node : DeclNode → At → SyntaxDeclaration
 decl_of_node = fold-DeclNode (At → SyntaxDeclaration) SyntaxDeclaration decl_step decl_whole
 
 abbrev pub theory_of : TheoryTree → SyntaxTheory
-theory_of t = record { at = t.at; is_module = t.«module»; name = t.name; decls = decls (map decl_of t.decls) }
+theory_of t =
+    record { at = t.at; is_module = t.«module»; name = t.name; decls = decls (map decl_of t.decls) }
 
 abbrev pub file_of : File → List SyntaxTheory
 file_of f = map theory_of f.theories

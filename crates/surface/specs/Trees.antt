@@ -97,14 +97,20 @@ abbrev mutual
   write (truth a) = mark t.TrueWord ∷ []
   write (falsity a) = mark t.FalseWord ∷ []
   write (group a ts) = mark t.LParen ∷ (write_list ts ++ (mark t.RParen ∷ []))
-  write (cast a e f) = mark t.LParen ∷ (write e ++ (mark t.Colon ∷ (write_form f ++ (mark t.RParen ∷ []))))
+  write (cast a e f) =
+      mark t.LParen ∷ (write e ++ (mark t.Colon ∷ (write_form f ++ (mark t.RParen ∷ []))))
   write (prefixed a o e) = write_op o ∷ write e
   write (negation a e) = mark t.NotWord ∷ write e
   write (binary a e o f) = write e ++ (write_op o ∷ write f)
-  write (choice a c e f) = mark t.IfWord ∷ (write c ++ (mark t.ThenWord ∷ (write e ++ (mark t.ElseWord ∷ write f))))
-  write (cases a es bar bs) = mark t.MatchWord ∷ (write_list es ++ (mark t.WithWord ∷ (bar_before bar ++ (write_branches bs ++ (mark t.EndWord ∷ [])))))
-  write (binding a ps e f) = mark t.LetWord ∷ (form_list ps ++ (mark t.Equal ∷ (write e ++ (mark t.InWord ∷ write f))))
-  write (quantified a all bs g e) = mark (quantifier all) ∷ (binder_list bs ++ (write_trigger g ++ (mark t.Dot ∷ write e)))
+  write (choice a c e f) =
+      mark t.IfWord ∷ (write c ++ (mark t.ThenWord ∷ (write e ++ (mark t.ElseWord ∷ write f))))
+  write (cases a es bar bs) =
+      mark t.MatchWord ∷ (write_list es
+      ++ (mark t.WithWord ∷ (bar_before bar ++ (write_branches bs ++ (mark t.EndWord ∷ [])))))
+  write (binding a ps e f) =
+      mark t.LetWord ∷ (form_list ps ++ (mark t.Equal ∷ (write e ++ (mark t.InWord ∷ write f))))
+  write (quantified a all bs g e) =
+      mark (quantifier all) ∷ (binder_list bs ++ (write_trigger g ++ (mark t.Dot ∷ write e)))
 
   pub write_row : SyntaxTrees → List Lexeme
   write_row none = []
@@ -120,11 +126,13 @@ abbrev mutual
 
   pub write_branches : Branches → List Lexeme
   write_branches no_branch = []
-  write_branches (branch ps e bs) = alternative_list ps ++ (mark t.Arrow ∷ (write e ++ write_others bs))
+  write_branches (branch ps e bs) =
+      alternative_list ps ++ (mark t.Arrow ∷ (write e ++ write_others bs))
 
   pub write_others : Branches → List Lexeme
   write_others no_branch = []
-  write_others (branch ps e bs) = mark t.Bar ∷ (alternative_list ps ++ (mark t.Arrow ∷ (write e ++ write_others bs)))
+  write_others (branch ps e bs) =
+      mark t.Bar ∷ (alternative_list ps ++ (mark t.Arrow ∷ (write e ++ write_others bs)))
 
   pub write_trigger : SyntaxTrigger → List Lexeme
   write_trigger untriggered = []
@@ -218,9 +226,12 @@ abbrev mutual
   IsLevel (falsity a) = ⊤
   IsLevel (group a ts) = AreLevel ts
   IsLevel (cast a e f) = IsLevel e × IsForm type_forms f
-  IsLevel (prefixed a o e) = (is_prefix o.terminal ≡ true) × MayBeMarked o.terminal o.text × (8 ≤ tight e) × IsLevel e
+  IsLevel (prefixed a o e) =
+      (is_prefix o.terminal ≡ true) × MayBeMarked o.terminal o.text × (8 ≤ tight e) × IsLevel e
   IsLevel (negation a e) = (3 ≤ tight e) × IsLevel e
-  IsLevel (binary a e o f) = (is_infix o.terminal ≡ true) × MayBeMarked o.terminal o.text × (ends_open e ≡ false) × (need o.terminal ≤ tight e) × (right o.terminal ≤ tight f) × IsLevel e × IsLevel f
+  IsLevel (binary a e o f) = (is_infix o.terminal ≡ true) × MayBeMarked o.terminal o.text
+      × (ends_open e ≡ false) × (need o.terminal ≤ tight e) × (right o.terminal ≤ tight f)
+      × IsLevel e × IsLevel f
   IsLevel (choice a c e f) = IsLevel c × IsLevel e × IsLevel f
   IsLevel (cases a es bar bs) = HasSomeTree es × AreLevel es × HasBranch bs × AreBranches bs
   IsLevel (binding a ps e f) = HasForm ps × AreForms pattern_forms ps × IsLevel e × IsLevel f
@@ -268,7 +279,8 @@ PlacedBinders i (b ∷ bs) = PlacedBinder i b × PlacedBinders (past i (write_bi
 
 abbrev pub PlacedAlternatives : ℕ → List SyntaxForms → Type 0
 PlacedAlternatives i [] = ⊤
-PlacedAlternatives i (ps ∷ pss) = PlacedList i ps × PlacedAlternatives (past i (form_list ps) + 1) pss
+PlacedAlternatives i (ps ∷ pss) =
+    PlacedList i ps × PlacedAlternatives (past i (form_list ps) + 1) pss
 
 -- Token i is the first one.
 abbrev mutual
@@ -278,14 +290,25 @@ abbrev mutual
   IsPlacedTree i (truth a) = a ≡ at i
   IsPlacedTree i (falsity a) = a ≡ at i
   IsPlacedTree i (group a ts) = (a ≡ at i) × PlacedCommas (i + 1) ts
-  IsPlacedTree i (cast a e f) = (a ≡ at i) × IsPlacedTree (i + 1) e × IsPlaced (past (i + 1) (write e) + 1) f
+  IsPlacedTree i (cast a e f) =
+      (a ≡ at i) × IsPlacedTree (i + 1) e × IsPlaced (past (i + 1) (write e) + 1) f
   IsPlacedTree i (prefixed a o e) = (a ≡ at i) × (o.at ≡ i) × IsPlacedTree (i + 1) e
   IsPlacedTree i (negation a e) = (a ≡ at i) × IsPlacedTree (i + 1) e
-  IsPlacedTree i (binary a e o f) = (a.first ≡ i) × (a.main ≡ o.at) × (o.at ≡ past i (write e)) × IsPlacedTree i e × IsPlacedTree (past i (write e) + 1) f
-  IsPlacedTree i (choice a c e f) = (a ≡ at i) × IsPlacedTree (i + 1) c × IsPlacedTree (past (i + 1) (write c) + 1) e × IsPlacedTree (past (past (i + 1) (write c) + 1) (write e) + 1) f
-  IsPlacedTree i (cases a es bar bs) = (a ≡ at i) × PlacedCommas (i + 1) es × PlacedBranches (past (past (i + 1) (write_list es) + 1) (bar_before bar)) bs
-  IsPlacedTree i (binding a ps e f) = (a ≡ at i) × PlacedList (i + 1) ps × IsPlacedTree (past (i + 1) (form_list ps) + 1) e × IsPlacedTree (past (past (i + 1) (form_list ps) + 1) (write e) + 1) f
-  IsPlacedTree i (quantified a all bs g e) = (a ≡ at i) × PlacedBinders (i + 1) bs × PlacedTrigger (past (i + 1) (binder_list bs)) g × IsPlacedTree (past (past (i + 1) (binder_list bs)) (write_trigger g) + 1) e
+  IsPlacedTree i (binary a e o f) =
+      (a.first ≡ i) × (a.main ≡ o.at) × (o.at ≡ past i (write e)) × IsPlacedTree i e
+      × IsPlacedTree (past i (write e) + 1) f
+  IsPlacedTree i (choice a c e f) =
+      (a ≡ at i) × IsPlacedTree (i + 1) c × IsPlacedTree (past (i + 1) (write c) + 1) e
+      × IsPlacedTree (past (past (i + 1) (write c) + 1) (write e) + 1) f
+  IsPlacedTree i (cases a es bar bs) =
+      (a ≡ at i) × PlacedCommas (i + 1) es
+      × PlacedBranches (past (past (i + 1) (write_list es) + 1) (bar_before bar)) bs
+  IsPlacedTree i (binding a ps e f) =
+      (a ≡ at i) × PlacedList (i + 1) ps × IsPlacedTree (past (i + 1) (form_list ps) + 1) e
+      × IsPlacedTree (past (past (i + 1) (form_list ps) + 1) (write e) + 1) f
+  IsPlacedTree i (quantified a all bs g e) =
+      (a ≡ at i) × PlacedBinders (i + 1) bs × PlacedTrigger (past (i + 1) (binder_list bs)) g
+      × IsPlacedTree (past (past (i + 1) (binder_list bs)) (write_trigger g) + 1) e
 
   -- side by side
   pub PlacedTrees : ℕ → SyntaxTrees → Type 0
@@ -300,7 +323,9 @@ abbrev mutual
   -- branches with a token between, each with its arrow
   pub PlacedBranches : ℕ → Branches → Type 0
   PlacedBranches i no_branch = ⊤
-  PlacedBranches i (branch ps e bs) = PlacedAlternatives i ps × IsPlacedTree (past i (alternative_list ps) + 1) e × PlacedBranches (past (past i (alternative_list ps) + 1) (write e) + 1) bs
+  PlacedBranches i (branch ps e bs) =
+      PlacedAlternatives i ps × IsPlacedTree (past i (alternative_list ps) + 1) e
+      × PlacedBranches (past (past i (alternative_list ps) + 1) (write e) + 1) bs
 
   -- after a bracket
   pub PlacedTrigger : ℕ → SyntaxTrigger → Type 0

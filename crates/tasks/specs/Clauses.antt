@@ -1,5 +1,6 @@
--- The clauses of an inductive predicate (Why3 manual, "inductive predicates"): `forall ys. A1 -> .. -> An -> p ts`, in which the
--- predicates of the group are in positive places only, each at the type variables of the clause's own predicate.
+-- The clauses of an inductive predicate (Why3 manual, "inductive predicates"): `forall ys. A1 -> ..
+-- -> An -> p ts`, in which the predicates of the group are in positive places only, each at the
+-- type variables of the clause's own predicate.
 use Rattle.std.specs.Prelude.{◌≡◌, ℕ, List, Contains}
 use Rattle.trees.specs.Tree.{Tree, Leaf, One, Two, Three, Head, HPred, HJoin, HForall, HExists}
 use Rattle.trees.specs.declared.Op.TheVariants.{And, AndThen, Or, OrElse, Imp}

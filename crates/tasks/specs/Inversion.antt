@@ -1,6 +1,6 @@
--- The inversion formula of an inductive predicate: `forall xs. p xs -> D`, where D says that some clause gives `p xs` (Why3
--- manual, "inductive predicates"): of a clause `forall ys. A1 -> .. -> An -> p ts`, the disjunct
--- `exists ys. A1 /\ .. /\ An /\ x1 = t1 /\ .. /\ xm = tm`.
+-- The inversion formula of an inductive predicate: `forall xs. p xs -> D`, where D says that some
+-- clause gives `p xs` (Why3 manual, "inductive predicates"): of a clause `forall ys. A1 -> .. -> An
+-- -> p ts`, the disjunct `exists ys. A1 /\ .. /\ An /\ x1 = t1 /\ .. /\ xm = tm`.
 use Rattle.std.specs.Prelude.{ℕ, ◌+◌, List, [], ◌∷◌}
 use Rattle.trees.specs.Tree.{Tree, Leaf, One, Two, HFalse, HCell, HBound, HEq, HPred, HJoin, HForall, HExists}
 use Rattle.trees.specs.declared.Op.TheVariants.{Imp, Or}
@@ -11,7 +11,8 @@ use Rattle.tasks.specs.Equations.{cells, type_variables, bound_variables, for_al
 -- each variable equals its argument, under so many binders more
 abbrev pub argument_equations : ℕ → List Tree → Tree → List Tree
 argument_equations n [] args = []
-argument_equations n (One (HBound k) ty ∷ xs) (Two HCell t ts) = Two HEq (One (HBound (n + k)) ty) t ∷ argument_equations n xs ts
+argument_equations n (One (HBound k) ty ∷ xs) (Two HCell t ts) =
+    Two HEq (One (HBound (n + k)) ty) t ∷ argument_equations n xs ts
 argument_equations n _ args = []
 
 -- the premises of a clause and the equations on its conclusion's arguments
@@ -35,4 +36,5 @@ given_by_any xs (c ∷ cs) = Two (HJoin Or) (given_by 0 xs c) (given_by_any xs c
 abbrev pub inversion : ℕ → SymbolTree → List Tree → Tree
 inversion p e clauses =
     let xs = bound_variables e.args in
-    for_all e.args (Two (HJoin Imp) (Two (HPred p) (cells (type_variables 0 e.vars)) (cells xs)) (given_by_any xs clauses))
+    for_all e.args (Two (HJoin Imp) (Two (HPred p) (cells (type_variables 0 e.vars)) (cells xs))
+    (given_by_any xs clauses))

@@ -1,4 +1,5 @@
--- What code has of the declarations of a task: what a symbol is made as, and the index by which it is found.
+-- What code has of the declarations of a task: what a symbol is made as, and the index by which it
+-- is found.
 use Rattle.std.specs.Prelude.{◌≡◌, ℕ, ◌+◌, ◌<◌, Bool, if◌then◌else◌, List, [], ◌∷◌, ◌++◌, map, length, get_or, slice_get, All, IfSome}
 use Rattle.trees.specs.declared.TermId.{TermId}
 use Rattle.trees.specs.Tree.{Tree}
@@ -63,11 +64,13 @@ AreMadeBy b ks = (s : List Tree) → ks ≡ made_by (body_at s b)
 -- a list by number has this value at the numbers that pass a test, and stays elsewhere
 pub record SetsWhere (old new : List ℕ) (also : ℕ → Bool) (value : ℕ) : Type 0 where
   pub as_long : length new ≡ length old
-  pub each : (k d : ℕ) → k < length old → get_or new k d ≡ (if also k then value else get_or old k d)
+  pub each : (k d : ℕ) → k < length old
+      → get_or new k d ≡ (if also k then value else get_or old k d)
 
 -- at each entry the place of the first declaration that makes it, or their number
 abbrev pub AreMakers : List Decl → List ℕ → Type 0
-AreMakers ds makers = (s : List Tree) (k : ℕ) → k < length makers → slice_get (declarations_at s ds) (get_or makers k 0) ≡ maker (declarations_at s ds) k
+AreMakers ds makers = (s : List Tree) (k : ℕ) → k < length makers
+    → slice_get (declarations_at s ds) (get_or makers k 0) ≡ maker (declarations_at s ds) k
 
 -- the names of facts of a stored body
 abbrev pub stored_clause_facts : ℕ → ℕ → List TermId → List Fact
@@ -97,7 +100,8 @@ abbrev pub AreProps : List Decl → List StoredProposition → Type 0
 AreProps ds ps = (s : List Tree) → map (proposition_at s) ps ≡ props_of (declarations_at s ds)
 
 abbrev pub AreFacts : List Decl → List Fact → Type 0
-AreFacts ds fs = (s : List Tree) (symbols : List SymbolTree) → fs ≡ map fact_name (facts_from symbols 0 (declarations_at s ds))
+AreFacts ds fs = (s : List Tree) (symbols : List SymbolTree)
+    → fs ≡ map fact_name (facts_from symbols 0 (declarations_at s ds))
 
 -- an index of a task
 pub record IsIndexOf (i : Index) (t : Task) : Type 0 where

@@ -1,5 +1,5 @@
--- The test of a pattern, and the terms for its variables (Why3 manual, "pattern matching"): both by constructors on their own
--- fields, told by projections.
+-- The test of a pattern, and the terms for its variables (Why3 manual, "pattern matching"): both by
+-- constructors on their own fields, told by projections.
 use Rattle.std.specs.Prelude.{ℕ, ◌==◌, if◌then◌else◌, List, [], ◌∷◌, ◌++◌, map, Option, Some, None}
 use Rattle.trees.specs.Tree.{Tree, Leaf, One, Two, Three, Head, HEnd, HCell, HEq, HFun, HPatVar, HPatAlias, HPatCon, loose}
 use Rattle.trees.specs.Binding.{inst_types}
@@ -9,14 +9,16 @@ use Rattle.tasks.specs.Typing.{members}
 use Rattle.tasks.specs.Equations.{cells}
 use Rattle.tasks.specs.Conjunctions.{conjunction}
 
--- the result type of an entry at a list of types; the empty list where it has none, or one that isn't closed, as each type is
+-- the result type of an entry at a list of types; the empty list where it has none, or one that
+-- isn't closed, as each type is
 abbrev pub result_at : Option Tree → Tree → Tree
 result_at (Some r) types = if loose r == 0 then inst_types r (members types) else Leaf HEnd
 result_at None types = Leaf HEnd
 
 -- a function at a list of types on a list of arguments
 abbrev pub apply_list : TaskTree → ℕ → Tree → Tree → Tree
-apply_list t f types args = Three (HFun f) types args (result_at (symbol_or t.symbols f).result types)
+apply_list t f types args =
+    Three (HFun f) types args (result_at (symbol_or t.symbols f).result types)
 
 -- a projection of a term
 abbrev pub field : TaskTree → ℕ → Tree → Tree → Tree
@@ -68,8 +70,8 @@ abbrev pub three_tests : TaskTree → Head → Tree → List Tree → List Tree 
 three_tests t (HPatCon k) types ss inner = con_equation t k types (top ss) ∷ inner
 three_tests t _ types ss inner = []
 
--- The equations that make a list of terms match a pattern, or a list of patterns, in reading order: of each constructor's pattern,
--- that the term is that constructor on its own fields.
+-- The equations that make a list of terms match a pattern, or a list of patterns, in reading order:
+-- of each constructor's pattern, that the term is that constructor on its own fields.
 abbrev pub tests : TaskTree → Tree → List Tree → List Tree
 tests t (Leaf h) ss = []
 tests t (One h p) ss = one_tests h (tests t p ss)
@@ -97,7 +99,8 @@ three_binds _ inner = []
 abbrev pub pattern_terms : TaskTree → Tree → List Tree → List Tree
 pattern_terms t (Leaf h) ss = []
 pattern_terms t (One h p) ss = one_binds h (pattern_terms t p ss) ss
-pattern_terms t (Two h p q) ss = two_binds h (pattern_terms t p (top ss ∷ [])) (pattern_terms t q (other_terms ss))
+pattern_terms t (Two h p q) ss =
+    two_binds h (pattern_terms t p (top ss ∷ [])) (pattern_terms t q (other_terms ss))
 pattern_terms t (Three h a p c) ss = three_binds h (pattern_terms t p (parts t h a ss))
 
 -- those for a pattern, asked of a term

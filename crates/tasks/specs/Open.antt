@@ -1,5 +1,6 @@
--- A tree that is typed as far as it goes: each operator's children fit, and each variable that a binder in it binds has the
--- type that the binder gives it. It may have open variables; where it has none, it is well typed.
+-- A tree that is typed as far as it goes: each operator's children fit, and each variable that a
+-- binder in it binds has the type that the binder gives it. It may have open variables; where it
+-- has none, it is well typed.
 use Rattle.std.specs.Prelude.{◌≡◌, ℕ, ◌+◌, List, [], ◌∷◌}
 use Rattle.trees.specs.Tree.{Tree, Leaf, One, Two, Three, Head, HBound, binders_over}
 use Rattle.trees.specs.Sorts.{Fits}
@@ -38,7 +39,8 @@ abbrev pub OpenTyped : Vocabulary → Tree → Type 0
 OpenTyped v (Leaf h) = Fits (Leaf h) × TopOpen v (Leaf h)
 OpenTyped v (One h a) = Fits (One h a) × TopOpen v (One h a) × OpenTyped v a
 OpenTyped v (Two h a b) = Fits (Two h a b) × TopOpen v (Two h a b) × OpenTyped v a × OpenTyped v b
-OpenTyped v (Three h a b c) = Fits (Three h a b c) × TopOpen v (Three h a b c) × OpenTyped v a × OpenTyped v b × OpenTyped v c
+OpenTyped v (Three h a b c) =
+    Fits (Three h a b c) × TopOpen v (Three h a b c) × OpenTyped v a × OpenTyped v b × OpenTyped v c
 
 -- each child is so
 abbrev pub PartsAreOpen : Vocabulary → Tree → Type 0

@@ -1,12 +1,12 @@
--- What the declarations of a task make a symbol as.
--- No symbol of a valid task is made twice, so the first declaration that makes a symbol is the only one.
+-- What the declarations of a task make a symbol as. No symbol of a valid task is made twice, so the
+-- first declaration that makes a symbol is the only one.
 use Rattle.std.specs.Prelude.{ℕ, ◌==◌, Bool, true, false, if◌then◌else◌, List, [], ◌∷◌, Option, Some, None}
 use Rattle.std.specs.List.{list_any, find, position_from}
 use Rattle.trees.specs.Tree.{Tree}
 use Rattle.tasks.specs.Task.{DefinitionTree, InductiveTree, ConstructorTree, AlgebraicTree, BodyTree, Defines, Induces, Constructs, DeclarationTree, TaskTree, made_by}
 
--- abstract, or made by no declaration; defined by an equation; defined by clauses; an algebraic type; a constructor; the
--- projection to a field, by its place
+-- abstract, or made by no declaration; defined by an equation; defined by clauses; an algebraic
+-- type; a constructor; the projection to a field, by its place
 pub data RoleTree : Type 0 where
   PlainRole : RoleTree
   DefinedRole : (equation : Tree) → RoleTree
@@ -44,11 +44,13 @@ projected_as k c = projection_at c (position_from (λ j. j == k) 0 c.projections
 
 abbrev pub constructed_as : ℕ → List ConstructorTree → RoleTree
 constructed_as k [] = PlainRole
-constructed_as k (c ∷ cs) = if c.symbol == k then ConstructorRole c else or_role (projected_as k c) (constructed_as k cs)
+constructed_as k (c ∷ cs) =
+    if c.symbol == k then ConstructorRole c else or_role (projected_as k c) (constructed_as k cs)
 
 abbrev pub algebraic_as : ℕ → List AlgebraicTree → RoleTree
 algebraic_as k [] = PlainRole
-algebraic_as k (a ∷ ts) = if a.symbol == k then AlgebraicRole a.cons else or_role (constructed_as k a.cons) (algebraic_as k ts)
+algebraic_as k (a ∷ ts) = if a.symbol == k then AlgebraicRole a.cons else or_role
+    (constructed_as k a.cons) (algebraic_as k ts)
 
 -- what a declaration makes it as
 abbrev pub role_in : ℕ → BodyTree → RoleTree

@@ -1,5 +1,6 @@
--- What typing may name: the entries of a signature, and which of them are type variables of a goal, which may be used, and
--- which are constructors of patterns. A task gives one, and so does a signature.
+-- What typing may name: the entries of a signature, and which of them are type variables of a goal,
+-- which may be used, and which are constructors of patterns. A task gives one, and so does a
+-- signature.
 use Rattle.std.specs.Prelude.{ℕ, ◌==◌, ◌||◌, not, Bool, true, false, List, [], slice_get, Option, Some, None}
 use Rattle.std.specs.List.{list_any}
 use Rattle.std.specs.Option.{is_some}
@@ -17,7 +18,8 @@ pub record Vocabulary : Type 0 where
   -- what a pattern may name
   pub matched : ℕ → Bool
 
--- `int` and what the declarations make may be used; a pattern names a constructor of an algebraic declaration
+-- `int` and what the declarations make may be used; a pattern names a constructor of an algebraic
+-- declaration
 abbrev pub of_task : TaskTree → Vocabulary
 of_task t = record {
   symbols = t.symbols;

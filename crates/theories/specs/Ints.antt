@@ -1,4 +1,5 @@
--- The entries of the theory int.Int, which is the first theory of the library (Why3's standard library, "int.Int").
+-- The entries of the theory int.Int, which is the first theory of the library (Why3's standard
+-- library, "int.Int").
 use Rattle.tasks.specs.trees.declared.ints.Ints.{Ints}
 
 abbrev pub int_entries : Ints

@@ -1,4 +1,5 @@
--- Names of symbols and of type variables, of bytes of names with no digit first in a part, while the theories of a source are typed.
+-- Names of symbols and of type variables, of bytes of names with no digit first in a part, while
+-- the theories of a source are typed.
 use Rattle.std.specs.Prelude.{List, All}
 use Rattle.tasks.specs.Task.{SymbolTree}
 use Rattle.theory_states.specs.declared.states.AxiomAt.{AxiomAt}

@@ -1,4 +1,5 @@
--- What a clone asks of theories beside that they are sound: no name of a symbol stands for an alias, and each axiom is a proposition.
+-- What a clone asks of theories beside that they are sound: no name of a symbol stands for an
+-- alias, and each axiom is a proposition.
 use Rattle.std.specs.Prelude.{◌≡◌, ◌<◌, List, length, slice_get, All, Some}
 use Rattle.tasks.specs.Task.{BodyTree, Says, DeclarationTree}
 use Rattle.theory_states.specs.declared.moves.Move.{Move}
@@ -16,7 +17,8 @@ pub record IsPlainAxiom (decls : List DeclarationTree) (a : AxiomAt) : Type 0 wh
   pub said : (d : DeclarationTree) → slice_get decls a.decl ≡ Some d → IsSaid d.body
 
 -- a theory by its axioms and the names that it passes on
-pub record IsPlainTheory (decls : List DeclarationTree) (axioms : List AxiomAt) (moves : List Move) : Type 0 where
+pub record IsPlainTheory (decls : List DeclarationTree) (axioms : List AxiomAt)
+    (moves : List Move) : Type 0 where
   pub axioms_said : All (IsPlainAxiom decls) axioms
   pub plain_moves : All IsPlainMove moves
 

@@ -1,4 +1,5 @@
--- What holds before and after each declaration: all numbers are held, and all that is known is typed.
+-- What holds before and after each declaration: all numbers are held, and all that is known is
+-- typed.
 use Rattle.std.specs.Prelude.{◌≡◌, ℕ, false, List, [], map}
 use Rattle.std.specs.Str.{bytes_eq}
 use Rattle.tasks.specs.trees.Tree.{Tree}
@@ -19,7 +20,16 @@ pub record IsStateRight (s : List Tree) (t : Typed) (o : Opened) : Type 0 where
 
 -- between two theories, before the declaration of a number
 abbrev pub between_at : List Tree → Typed → ℕ → StateTree
-between_at s t n = record { trees = s; symbols = symbols_at s t.sig.symbols; decls = declarations_at s t.decls; known = map (known_at s) t.known; opened = opened_empty []; number = n }
+between_at s t n = record {
+  trees = s;
+  symbols = symbols_at s t.sig.symbols;
+  decls =
+      declarations_at s t.decls;
+  known = map (known_at s) t.known;
+  opened =
+      opened_empty [];
+  number = n;
+}
 
 pub record AreTheoriesRight (s : List Tree) (t : Typed) : Type 0 where
   pub held : TypedHeld s t

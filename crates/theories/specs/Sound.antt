@@ -1,4 +1,5 @@
--- The theories of a source, typed so that what is known stays sound: for the laws, which know of one declaration what its typing ensures.
+-- The theories of a source, typed so that what is known stays sound: for the laws, which know of
+-- one declaration what its typing ensures.
 use Rattle.std.specs.Prelude.{List, All}
 use Rattle.tasks.specs.trees.Tree.{Tree}
 use Rattle.surface.specs.Declarations.{SyntaxDeclaration, SyntaxDeclarations, SyntaxTheory, write_decl}
@@ -12,7 +13,8 @@ use Rattle.theories.specs.declaring.Declared.{IsDeclared}
 use Rattle.theories.specs.Typing.{IsTypedBy, AreTypedBy}
 use Rattle.theories.specs.Files.{TheoriesBy}
 
--- a declaration that is no use, clone or scope: what is known then is typed, and sound where it was and the declaration is one of a text
+-- a declaration that is no use, clone or scope: what is known then is typed, and sound where it was
+-- and the declaration is one of a text
 pub record IsSoundlyDeclared (d : SyntaxDeclaration) (c c' : StateTree) : Type 0 where
   pub declared : IsDeclared d c c'
   pub typed : IsTypedState c'

@@ -10,13 +10,38 @@ use Rattle.theory_states.specs.declared.states.Typed.{Typed}
 use Rattle.theory_states.specs.States.{KnownTree, OpenedTree, StateTree}
 
 abbrev pub known_at : List Tree → KnownTheory → KnownTree
-known_at s k = record { path = k.theory.path; visible = k.theory.visible; axioms = k.axioms; goals = map (goal_at s) k.theory.goals; moves = k.moves }
+known_at s k = record {
+  path = k.theory.path;
+  visible = k.theory.visible;
+  axioms = k.axioms;
+  goals =
+      map (goal_at s) k.theory.goals;
+  moves = k.moves;
+}
 
 abbrev pub opened_at : List Tree → Opened → OpenedTree
-opened_at s o = record { path = o.path; within = o.within.items; scope = o.scope; visible = o.visible.keys; axioms = o.axioms; goals = map (goal_at s) o.goals; moves = o.moves.items }
+opened_at s o = record {
+  path = o.path;
+  within = o.within.items;
+  scope = o.scope;
+  visible =
+      o.visible.keys;
+  axioms = o.axioms;
+  goals = map (goal_at s) o.goals;
+  moves = o.moves.items;
+}
 
 abbrev pub state_at : List Tree → Typed → Opened → StateTree
-state_at s t o = record { trees = s; symbols = symbols_at s t.sig.symbols; decls = declarations_at s t.decls; known = map (known_at s) t.known; opened = opened_at s o; number = o.count }
+state_at s t o = record {
+  trees = s;
+  symbols = symbols_at s t.sig.symbols;
+  decls =
+      declarations_at s t.decls;
+  known = map (known_at s) t.known;
+  opened = opened_at s o;
+  number =
+      o.count;
+}
 
 -- the numbers in a theory are held, over so many declarations
 pub record KnownTheoryHeld (s : List Tree) (count : ℕ) (k : KnownTheory) : Type 0 where

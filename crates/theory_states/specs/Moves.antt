@@ -1,5 +1,5 @@
--- The names that a theory passes on, as moves in a scope: a name is brought in, or a scope is opened or left (Why3 manual, "use and
--- clone").
+-- The names that a theory passes on, as moves in a scope: a name is brought in, or a scope is
+-- opened or left (Why3 manual, "use and clone").
 use Rattle.std.specs.Prelude.{ℕ, false, nat_lt, if◌then◌else◌, List, [], ◌∷◌, length, Option, Some, None}
 use Rattle.scopes.specs.Names.{ScopeNames, with_name, with_scope, closed}
 use Rattle.surface.specs.declared.declarations.Link.{Link}
@@ -29,7 +29,8 @@ name_or x (Some y) = y
 abbrev pub in_scope : List ℕ → List Move → ScopeNames → ScopeNames
 in_scope x ms names = left (replayed ms (with_scope x false names))
 
--- `use T` makes the scope and imports, `use T as N` makes the scope alone, and `use export T` makes none
+-- `use T` makes the scope and imports, `use T as N` makes the scope alone, and `use export T` makes
+-- none
 abbrev pub brought : Link → List ℕ → Option (List ℕ) → List Move → ScopeNames → ScopeNames
 brought Export last alias ms names = replayed ms names
 brought Import last alias ms names = replayed ms (in_scope (name_or last alias) ms names)

@@ -1,4 +1,5 @@
--- What is known while a source is typed: the theories before, and the one that is open (Why3 manual, "theories").
+-- What is known while a source is typed: the theories before, and the one that is open (Why3
+-- manual, "theories").
 use Rattle.std.specs.Prelude.{ℕ, nat_eq, Bool, List, [], ◌∷◌, ◌++◌, length, slice_get, Option, option_to_list}
 use Rattle.std.specs.List.{find, flat_map}
 use Rattle.std.specs.Str.{bytes_eq}
@@ -10,8 +11,8 @@ use Rattle.theory_states.specs.declared.moves.Move.{Move}
 use Rattle.theory_states.specs.goal_tasks.Theories.{GoalTree}
 use Rattle.theory_states.specs.declared.states.AxiomAt.{AxiomAt}
 
--- a theory: the places of the declarations that are visible at its end, goals left out; its axioms; its goals, and its lemmas that
--- can be named; and the names that it passes on
+-- a theory: the places of the declarations that are visible at its end, goals left out; its axioms;
+-- its goals, and its lemmas that can be named; and the names that it passes on
 pub record KnownTree : Type 0 where
   pub path : List ℕ
   pub visible : List ℕ
@@ -29,8 +30,8 @@ pub record OpenedTree : Type 0 where
   pub goals : List GoalTree
   pub moves : List Move
 
--- a place in a source: the trees of the store, the signature, all declarations, each once, the theories before, the open one, and the
--- number of the next declaration
+-- a place in a source: the trees of the store, the signature, all declarations, each once, the
+-- theories before, the open one, and the number of the next declaration
 pub record StateTree : Type 0 where
   pub trees : List Tree
   pub symbols : List SymbolTree
@@ -62,11 +63,24 @@ known_named ts path = find (known_has_path path) ts
 
 -- a theory without declarations
 abbrev pub opened_empty : List ℕ → OpenedTree
-opened_empty path = record { path = path; within = []; scope = empty_names; visible = []; axioms = []; goals = []; moves = [] }
+opened_empty path = record {
+  path = path;
+  within = [];
+  scope = empty_names;
+  visible = [];
+  axioms =
+      [];
+  goals = [];
+  moves = [];
+}
 
 -- a further declaration, which is visible
 abbrev pub with_declaration : DeclarationTree → StateTree → StateTree
-with_declaration d c = record c { decls = c.decls ++ d ∷ []; opened = record c.opened { visible = c.opened.visible ++ length c.decls ∷ [] } }
+with_declaration d c = record c {
+  decls = c.decls ++ d ∷ [];
+  opened =
+      record c.opened { visible = c.opened.visible ++ length c.decls ∷ [] };
+}
 
 abbrev pub with_declarations : List DeclarationTree → StateTree → StateTree
 with_declarations [] c = c
@@ -74,4 +88,11 @@ with_declarations (d ∷ ds) c = with_declarations ds (with_declaration d c)
 
 -- the open theory at its end
 abbrev pub known_as : OpenedTree → KnownTree
-known_as o = record { path = o.path; visible = o.visible; axioms = o.axioms; goals = o.goals; moves = o.moves }
+known_as o = record {
+  path = o.path;
+  visible = o.visible;
+  axioms = o.axioms;
+  goals =
+      o.goals;
+  moves = o.moves;
+}

@@ -1,4 +1,5 @@
--- A theory that is used: its declarations are joined, and its names come into scopes (Why3 manual, "use").
+-- A theory that is used: its declarations are joined, and its names come into scopes (Why3 manual,
+-- "use").
 use Rattle.std.specs.Prelude.{◌≡◌, ℕ, ◌-◌, List, [], ◌∷◌, ◌++◌, length, slice_get, unwrap_or, Option, Some, None, option_map, codes}
 use Rattle.theory_states.specs.Moves.{brought, handed}
 use Rattle.surface.specs.declared.names.Name.{Name}
@@ -37,12 +38,17 @@ theory_used link last alias t o = record o {
 }
 
 -- the theory of a path is used
-pub record IsTheoryUsed (link : Link) (p : Path) (alias : Option Name) (c c' : StateTree) : Type 0 where
+pub record IsTheoryUsed (link : Link) (p : Path) (alias : Option Name)
+    (c c' : StateTree) : Type 0 where
   pub theory : KnownTree
   pub found : known_named c.known (path_text p.parts) ≡ Some theory
-  pub is : c' ≡ record c { opened = theory_used link (last_part p.parts) (alias_text alias) theory c.opened }
+  pub is : c' ≡ record c {
+    opened =
+        theory_used link (last_part p.parts) (alias_text alias) theory c.opened;
+  }
 
 -- no theory before has the path
-pub record IsUnknownTheory (p : Path) (known : List KnownTree) (number : ℕ) (f : SourceFault) : Type 0 where
+pub record IsUnknownTheory (p : Path) (known : List KnownTree) (number : ℕ)
+    (f : SourceFault) : Type 0 where
   pub unknown : known_named known (path_text p.parts) ≡ None
   pub is : f ≡ Unknown number p.at

@@ -70,7 +70,16 @@ abbrev pub same : Terminal → Terminal → Bool
 same a b = nat_eq (terminal_number a) (terminal_number b)
 
 abbrev pub operators : List Terminal
-operators = t.Arrow ∷ t.Equiv ∷ t.Disj ∷ t.OrOr ∷ t.Conj ∷ t.AndAnd ∷ t.Equal ∷ t.Operator1 ∷ t.Minus ∷ t.Operator2 ∷ t.Operator3 ∷ t.Operator4 ∷ []
+operators = t.Arrow ∷ t.Equiv ∷ t.Disj ∷ t.OrOr ∷ t.Conj ∷ t.AndAnd ∷ t.Equal ∷ t.Operator1
+    ∷ t.Minus ∷ t.Operator2 ∷ t.Operator3 ∷ t.Operator4 ∷ []
 
 abbrev pub all_terminals : List Terminal
-all_terminals = t.Lident ∷ t.Uident ∷ t.Wild ∷ t.TyVar ∷ t.Int ∷ t.StarName ∷ t.LParen ∷ t.RParen ∷ t.LBrack ∷ t.RBrack ∷ t.LBrace ∷ t.RBrace ∷ t.Comma ∷ t.Dot ∷ t.Colon ∷ t.Semi ∷ t.Bar ∷ t.Arrow ∷ t.Equiv ∷ t.Conj ∷ t.AndAnd ∷ t.Disj ∷ t.OrOr ∷ t.Equal ∷ t.Minus ∷ t.Operator1 ∷ t.Operator2 ∷ t.Operator3 ∷ t.Operator4 ∷ t.PrefixOperator ∷ t.AsWord ∷ t.AxiomWord ∷ t.CloneWord ∷ t.ConstantWord ∷ t.ElseWord ∷ t.EndWord ∷ t.ExistsWord ∷ t.ExportWord ∷ t.FalseWord ∷ t.ForallWord ∷ t.FunctionWord ∷ t.GoalWord ∷ t.IfWord ∷ t.ImportWord ∷ t.InWord ∷ t.InductiveWord ∷ t.LemmaWord ∷ t.LetWord ∷ t.MatchWord ∷ t.ModuleWord ∷ t.NotWord ∷ t.PredicateWord ∷ t.ScopeWord ∷ t.ThenWord ∷ t.TheoryWord ∷ t.TrueWord ∷ t.TypeWord ∷ t.UseWord ∷ t.WithWord ∷ t.ProgramWord ∷ t.OtherWord ∷ []
+all_terminals = t.Lident ∷ t.Uident ∷ t.Wild ∷ t.TyVar ∷ t.Int ∷ t.StarName ∷ t.LParen ∷ t.RParen
+    ∷ t.LBrack ∷ t.RBrack ∷ t.LBrace ∷ t.RBrace ∷ t.Comma ∷ t.Dot ∷ t.Colon ∷ t.Semi ∷ t.Bar
+    ∷ t.Arrow ∷ t.Equiv ∷ t.Conj ∷ t.AndAnd ∷ t.Disj ∷ t.OrOr ∷ t.Equal ∷ t.Minus ∷ t.Operator1
+    ∷ t.Operator2 ∷ t.Operator3 ∷ t.Operator4 ∷ t.PrefixOperator ∷ t.AsWord ∷ t.AxiomWord
+    ∷ t.CloneWord ∷ t.ConstantWord ∷ t.ElseWord ∷ t.EndWord ∷ t.ExistsWord ∷ t.ExportWord
+    ∷ t.FalseWord ∷ t.ForallWord ∷ t.FunctionWord ∷ t.GoalWord ∷ t.IfWord ∷ t.ImportWord ∷ t.InWord
+    ∷ t.InductiveWord ∷ t.LemmaWord ∷ t.LetWord ∷ t.MatchWord ∷ t.ModuleWord ∷ t.NotWord
+    ∷ t.PredicateWord ∷ t.ScopeWord ∷ t.ThenWord ∷ t.TheoryWord ∷ t.TrueWord ∷ t.TypeWord
+    ∷ t.UseWord ∷ t.WithWord ∷ t.ProgramWord ∷ t.OtherWord ∷ []

@@ -25,8 +25,8 @@ opens_attribute bs = has_pair 91 64 bs
 abbrev pub one_more : Option ℕ → Option ℕ
 one_more = option_map (λ n. n + 1)
 
--- How many bytes it takes to close so many open comments, after so many bytes that are passed over: `(*)` is passed over
--- whole, `(*` opens one more and `*)` closes one. None: they aren't closed.
+-- How many bytes it takes to close so many open comments, after so many bytes that are passed over:
+-- `(*)` is passed over whole, `(*` opens one more and `*)` closes one. None: they aren't closed.
 abbrev pub comment : List ℕ → ℕ → ℕ → Option ℕ
 comment [] zero p = Some 0
 comment [] (suc d) p = None
@@ -39,9 +39,11 @@ comment (a ∷ bs) (suc d) zero = if has_star_name (a ∷ bs) then one_more (com
 
 -- how many bytes an attribute takes, up to and with the next `]`; 0 where there is none
 abbrev pub attribute : List ℕ → ℕ
-attribute bs = let inside = prefix_len is_no_bracket bs in if nat_lt inside (length bs) then inside + 1 else 0
+attribute bs = let inside = prefix_len is_no_bracket bs in
+    if nat_lt inside (length bs) then inside + 1 else 0
 
--- How many bytes the blank, comment or attribute in front takes. 0: there is none, or one that isn't closed.
+-- How many bytes the blank, comment or attribute in front takes. 0: there is none, or one that
+-- isn't closed.
 abbrev pub gap_piece : List ℕ → ℕ
 gap_piece [] = 0
 gap_piece (a ∷ bs) = if is_blank a then 1

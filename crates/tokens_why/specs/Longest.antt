@@ -22,4 +22,5 @@ pub record IsLongestTokenAt (text : List ℕ) (start : ℕ) (t : Token) : Type 0
 
 -- the radix of a literal with a radix letter that is in front, or 0
 abbrev pub based_radix : List ℕ → ℕ
-based_radix bs = if nat_eq (byte_in bs 0) 48 && is_digit_of (radix_of (byte_in bs 1)) (byte_in bs 2) then radix_of (byte_in bs 1) else 0
+based_radix bs = if nat_eq (byte_in bs 0) 48
+    && is_digit_of (radix_of (byte_in bs 1)) (byte_in bs 2) then radix_of (byte_in bs 1) else 0

@@ -1,4 +1,5 @@
--- The operators among the terminals, and how tightly they bind (Why3 manual, "Syntax", the table of precedences).
+-- The operators among the terminals, and how tightly they bind (Why3 manual, "Syntax", the table of
+-- precedences).
 use Rattle.tokens_why.specs.Common.{ℕ, Bool, true, false, List, codes, is_same_word, Terminal}
 use Rattle.tokens_why.specs.declared.terminal.Terminal.TheVariants as t
 

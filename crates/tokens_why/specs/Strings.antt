@@ -10,7 +10,8 @@ use Rattle.tokens_why.specs.declared.longest.Lead.TheVariants.{Letter, Quote, Di
 -- a word: `_` alone, a reserved word, or an identifier
 abbrev pub letters_kind : List ℕ → TokenKind
 letters_kind [] = Wild
-letters_kind (a ∷ bs) = if is_upper a then Uident else (if is_same_word (a ∷ bs) (codes "_") then Wild else Lident)
+letters_kind (a ∷ bs) =
+    if is_upper a then Uident else (if is_same_word (a ∷ bs) (codes "_") then Wild else Lident)
 
 abbrev pub placed_kind : Option ℕ → List ℕ → TokenKind
 placed_kind (Some i) bs = Reserved i
@@ -22,7 +23,8 @@ word_kind bs = placed_kind (place_in_words bs reserved_words) bs
 -- the name of a type variable, after its quote: reserved words too, and not `_`
 abbrev pub is_variable_name : List ℕ → Bool
 is_variable_name [] = false
-is_variable_name (a ∷ bs) = is_lower a && list_all is_word_byte bs && not (is_same_word (a ∷ bs) (codes "_"))
+is_variable_name (a ∷ bs) =
+    is_lower a && list_all is_word_byte bs && not (is_same_word (a ∷ bs) (codes "_"))
 
 abbrev pub is_relation : ℕ → Bool
 is_relation = is_one_of (codes "=<>~")
@@ -35,7 +37,8 @@ is_product = is_one_of (codes "*/\\%")
 
 -- 1 is the loosest level
 abbrev pub level : List ℕ → ℕ
-level bs = if list_any is_relation bs then 1 else (if list_any is_sum bs then 2 else (if list_any is_product bs then 3 else 4))
+level bs = if list_any is_relation bs then 1
+    else (if list_any is_sum bs then 2 else (if list_any is_product bs then 3 else 4))
 
 abbrev pub is_prefix_word : List ℕ → Bool
 is_prefix_word [] = false
@@ -69,7 +72,8 @@ mark_kind b = if nat_eq b 40 then Some LParen
 abbrev pub marks_kind : List ℕ → Option TokenKind
 marks_kind (a ∷ []) = mark_kind a
 marks_kind (a ∷ b ∷ []) = if nat_eq a 124 && nat_eq b 124 then Some OrOr else None
-marks_kind (a ∷ b ∷ c ∷ []) = if nat_eq a 40 && nat_eq b 42 && nat_eq c 41 then Some StarName else None
+marks_kind (a ∷ b ∷ c ∷ []) =
+    if nat_eq a 40 && nat_eq b 42 && nat_eq c 41 then Some StarName else None
 marks_kind _ = None
 
 abbrev pub only : Bool → TokenKind → Option TokenKind

@@ -9,7 +9,8 @@ use Rattle.tokens_why.specs.declared.terminal.Terminal.TheVariants as t
 
 -- an operator's terminal, by its level
 abbrev pub level_terminal : ℕ → Terminal
-level_terminal l = if nat_eq l 1 then t.Operator1 else (if nat_eq l 2 then t.Operator2 else (if nat_eq l 3 then t.Operator3 else t.Operator4))
+level_terminal l = if nat_eq l 1 then t.Operator1
+    else (if nat_eq l 2 then t.Operator2 else (if nat_eq l 3 then t.Operator3 else t.Operator4))
 
 abbrev pub terminal_of : TokenKind → Terminal
 terminal_of k.Lident = t.Lident
@@ -54,7 +55,8 @@ abbrev pub word_place : List Terminal → Terminal → ℕ
 word_place [] x = 0
 word_place (y ∷ ys) x = if same y x then 0 else suc (word_place ys x)
 
--- a kind of token that is this terminal: the only one, but for the words that begin no declaration of the grammar
+-- a kind of token that is this terminal: the only one, but for the words that begin no declaration
+-- of the grammar
 abbrev pub kind_by : Terminal → TokenKind
 kind_by t.Lident = k.Lident
 kind_by t.Uident = k.Uident

@@ -13,7 +13,8 @@ use Rattle.tokens_why.specs.declared.fault.LexFault.TheVariants as fault
 abbrev pub text_of : List ℕ → Token → List ℕ
 text_of text t = slice_range text t.start t.end
 
--- A token of a text: the longest string that is one and begins at its byte, where no comment and no attribute opens.
+-- A token of a text: the longest string that is one and begins at its byte, where no comment and no
+-- attribute opens.
 pub record IsToken (text : List ℕ) (t : Token) : Type 0 where
   pub begins : (opens_comment (drop t.start text) || opens_attribute (drop t.start text)) ≡ false
   pub some : t.start < t.end
@@ -65,10 +66,12 @@ Stops text whole at = at ≡ length text
 Stops text (lexical b) at = IsLexical text b at
 Stops text (big b) at = IsBig text b at
 
--- From a byte on: a gap, a token, a gap, a token and so on, and a last gap, after which the reading stops.
+-- From a byte on: a gap, a token, a gap, a token and so on, and a last gap, after which the reading
+-- stops.
 abbrev pub Reads : List ℕ → Stop → ℕ → List Token → Type 0
 Reads text stop at [] = Stops text stop (next text at)
-Reads text stop at (t ∷ ts) = (t.start ≡ next text at) × IsToken text t × LiteralFits text t × Reads text stop t.end ts
+Reads text stop at (t ∷ ts) =
+    (t.start ≡ next text at) × IsToken text t × LiteralFits text t × Reads text stop t.end ts
 
 -- the tokens of a whole text
 abbrev pub AreTokens : List ℕ → List Token → Type 0

@@ -8,4 +8,8 @@ pub Grows_refl : (s : List Tree) → Grows s s
 Grows_refl s = record { longer = omega arith; same = λ k h. refl }
 
 pub Grows_trans : (a b c : List Tree) → Grows a b → Grows b c → Grows a c
-Grows_trans a b c g h = record { longer = omega (arith, g.longer, h.longer); same = λ k l. h.same k (omega (arith, g.longer)) ∙ g.same k l }
+Grows_trans a b c g h = record {
+  longer = omega (arith, g.longer, h.longer);
+  same =
+      λ k l. h.same k (omega (arith, g.longer)) ∙ g.same k l;
+}

@@ -6,4 +6,5 @@ use Rattle.clones.specs.Mapped.{Map}
 use Rattle.clones.specs.Copies.{entry_copied}
 
 abbrev pub entries_copied : List SymbolTree → Map → Word → Word → List ℕ → List SymbolTree
-entries_copied symbols m theory within ks = map (λ k. entry_copied m theory within (symbol_or symbols k)) ks
+entries_copied symbols m theory within ks =
+    map (λ k. entry_copied m theory within (symbol_or symbols k)) ks

@@ -12,7 +12,16 @@ use Rattle.clones.specs.declared.clone_copies.places.Job.{Job}
 use Rattle.clones.specs.clone_copies.Places.{Copying}
 
 abbrev pub copying_at : List Tree → Job → Copying
-copying_at s x = record { path = x.path.now; axioms = get nat_eq x.axioms.now; fates = fates_at x.plan.now.fates; all = x.plan.now.all_axioms; mapping = map_at s x.morphism.now; within = x.within.now }
+copying_at s x = record {
+  path = x.path.now;
+  axioms = get nat_eq x.axioms.now;
+  fates =
+      fates_at x.plan.now.fates;
+  all = x.plan.now.all_axioms;
+  mapping =
+      map_at s x.morphism.now;
+  within = x.within.now;
+}
 
 -- a state without its trees
 abbrev pub bare_at : List Tree → Typed → Opened → StateTree

@@ -25,14 +25,17 @@ IsTypeMapped s vars None j thing = thing ≡ stands.Entry j
 IsTypeMapped s vars (Some e) j thing = IsAliasOf s vars e thing
 
 abbrev pub IsThingMapped : List Tree → List SymbolTree → Map → Table → TypeName → TypeName → Type 0
-IsThingMapped s symbols m Types (stands.Entry k) thing = IsTypeMapped s (symbol_or symbols k).vars (m.types k) (m.symbols k) thing
-IsThingMapped s symbols m Types (stands.Alias vars ty) thing = IsAliasOf s vars (mapped m (tree_at s (record { 0 = ty }))) thing
+IsThingMapped s symbols m Types (stands.Entry k) thing =
+    IsTypeMapped s (symbol_or symbols k).vars (m.types k) (m.symbols k) thing
+IsThingMapped s symbols m Types (stands.Alias vars ty) thing =
+    IsAliasOf s vars (mapped m (tree_at s (record { 0 = ty }))) thing
 IsThingMapped s symbols m Symbols (stands.Entry k) thing = thing ≡ stands.Entry (m.symbols k)
 IsThingMapped s symbols m Symbols (stands.Alias vars ty) thing = thing ≡ stands.Alias vars ty
 IsThingMapped s symbols m Propositions t thing = thing ≡ t
 IsThingMapped s symbols m Scopes t thing = thing ≡ t
 
-pub record IsBrought (s : List Tree) (symbols : List SymbolTree) (m : Map) (table : Table) (x : List ℕ) (t : TypeName) (move : Move) : Type 0 where
+pub record IsBrought (s : List Tree) (symbols : List SymbolTree) (m : Map) (table : Table)
+    (x : List ℕ) (t : TypeName) (move : Move) : Type 0 where
   pub thing : TypeName
   pub mapped : IsThingMapped s symbols m table t thing
   pub is : move ≡ Brings table x thing
@@ -43,9 +46,11 @@ IsMoveMapped s symbols m (Opens x) move = move ≡ Opens x
 IsMoveMapped s symbols m Closes move = move ≡ Closes
 
 -- each move is mapped, in order
-pub record AreMovesMapped (s : List Tree) (symbols : List SymbolTree) (m : Map) (xs ys : List Move) : Type 0 where
+pub record AreMovesMapped (s : List Tree) (symbols : List SymbolTree) (m : Map)
+    (xs ys : List Move) : Type 0 where
   pub count : length ys ≡ length xs
-  pub each : (k : ℕ) (d : Move) → k < length xs → IsMoveMapped s symbols m (get_or xs k d) (get_or ys k d)
+  pub each : (k : ℕ) (d : Move) → k < length xs
+      → IsMoveMapped s symbols m (get_or xs k d) (get_or ys k d)
 
 -- the type of an alias is held
 abbrev pub IsThingHeld : List Tree → Table → TypeName → Type 0

@@ -1,4 +1,5 @@
--- What a theory that is cloned has of its own: its declarations by their places, and its axioms (Why3 manual, "theory cloning").
+-- What a theory that is cloned has of its own: its declarations by their places, and its axioms
+-- (Why3 manual, "theory cloning").
 use Rattle.std.specs.Prelude.{ℕ, ◌==◌, if◌then◌else◌, Bool, List, [], ◌∷◌, ◌++◌, Option, Some, None}
 use Rattle.std.specs.Option.{is_some}
 use Rattle.std.specs.Str.{bytes_eq}
@@ -38,4 +39,5 @@ abbrev pub axioms_at : List AxiomAt → Axioms
 axioms_at as_ = with_axioms as_ no_axioms
 
 abbrev pub origin_of : List DeclarationTree → KnownTree → Origin
-origin_of ds t = record { decls = ds; own = own_places ds t; axioms = λ k. is_some (axioms_at t.axioms k) }
+origin_of ds t =
+    record { decls = ds; own = own_places ds t; axioms = λ k. is_some (axioms_at t.axioms k) }

@@ -1,4 +1,5 @@
--- The copies of a theory's declarations, and the others joined at their places; what an axiom becomes (Why3 manual, "theory cloning").
+-- The copies of a theory's declarations, and the others joined at their places; what an axiom
+-- becomes (Why3 manual, "theory cloning").
 use Rattle.std.specs.Prelude.{ℕ, ◌+◌, if◌then◌else◌, Bool, List, [], ◌∷◌, ◌++◌, map, length, Option, Some, None}
 use Rattle.tasks.specs.trees.Tree.{Tree}
 use Rattle.tasks.specs.trees.Binding.{inst_types}
@@ -17,8 +18,9 @@ use Rattle.clones.specs.clone_elements.Plans.{PlacedFates, is_replaced, kind_or}
 use Rattle.clones.specs.clone_copies.Origins.{Axioms, is_own}
 pub use Rattle.elab_groups.specs.parts.Outcomes.{rigid_types}
 
--- the path of the theory that is cloned and its axioms, what becomes of its declarations, whether all axioms that aren't named stay
--- axioms, the map, and the names of the scopes of the copies, each followed by a dot
+-- the path of the theory that is cloned and its axioms, what becomes of its declarations, whether
+-- all axioms that aren't named stay axioms, the map, and the names of the scopes of the copies,
+-- each followed by a dot
 pub record Copying : Type 0 where
   pub path : Word
   pub axioms : Axioms
@@ -33,7 +35,10 @@ abbrev pub axiom_at : ℕ → List Word → AxiomAt
 axiom_at place vars = record { decl = place; vars = vars }
 
 abbrev pub with_copied_axiom : List Word → DeclarationTree → StateTree → StateTree
-with_copied_axiom vars d c = record (with_declaration d c) { opened = record (with_declaration d c).opened { axioms = c.opened.axioms ++ axiom_at (length c.decls) vars ∷ [] } }
+with_copied_axiom vars d c = record (with_declaration d c) {
+  opened = record (with_declaration d c).opened
+      { axioms = c.opened.axioms ++ axiom_at (length c.decls) vars ∷ [] };
+}
 
 -- as a goal: its type variables are the next entries
 abbrev pub next_numbers : ℕ → List Word → List ℕ
@@ -41,12 +46,17 @@ next_numbers k [] = []
 next_numbers k (v ∷ vs) = k ∷ next_numbers (k + 1) vs
 
 abbrev pub goal_of : Word → ℕ → Tree → List ℕ → GoalTree
-goal_of name before e ks = record { name = name; before = before; prop = inst_types e (rigid_types ks); rigid = ks }
+goal_of name before e ks =
+    record { name = name; before = before; prop = inst_types e (rigid_types ks); rigid = ks }
 
 abbrev pub goal_with : List Word → Word → BodyTree → StateTree → StateTree
 goal_with vars name (Says e) c = record c {
   symbols = c.symbols ++ map rigid_symbol vars;
-  opened = record c.opened { goals = c.opened.goals ++ goal_of name (length c.opened.visible) e (next_numbers (length c.symbols) vars) ∷ [] };
+  opened = record c.opened {
+    goals =
+        c.opened.goals ++ goal_of name (length c.opened.visible) e
+        (next_numbers (length c.symbols) vars) ∷ [];
+  };
 }
 goal_with vars name (MakesType k) c = c
 goal_with vars name (Makes k) c = c
@@ -72,7 +82,8 @@ abbrev pub copy_of : Copying → StateTree → ℕ → DeclarationTree
 copy_of x c k = declaration_copied x.mapping c.opened.path x.within (decl_or c.decls k)
 
 abbrev pub with_joined : ℕ → StateTree → StateTree
-with_joined k c = record c { opened = record c.opened { visible = joined_places c.opened.visible (k ∷ []) } }
+with_joined k c =
+    record c { opened = record c.opened { visible = joined_places c.opened.visible (k ∷ []) } }
 
 -- an own declaration is copied unless it is replaced, another one is joined
 abbrev pub with_own : Copying → ℕ → StateTree → StateTree

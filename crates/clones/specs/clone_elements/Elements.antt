@@ -1,6 +1,7 @@
--- The first element of a clone that is wrong, by the token at which it is refused: at its left name where the theory has no such
--- abstract declaration, where an element before named it, or for another number of type variables; at its right name for another
--- kind or signature (Why3 manual, "theory cloning").
+-- The first element of a clone that is wrong, by the token at which it is refused: at its left name
+-- where the theory has no such abstract declaration, where an element before named it, or for
+-- another number of type variables; at its right name for another kind or signature (Why3 manual,
+-- "theory cloning").
 use Rattle.std.specs.Prelude.{◌≡◌, ◌⊎◌, ℕ, ◌==◌, ◌||◌, not, Bool, true, false, List, [], ◌∷◌, map, length, Option, Some, None}
 use Rattle.std.specs.Option.{is_some, option_map}
 use Rattle.tasks.specs.declared.signature.SymbolKind.{SymbolKind}
@@ -30,18 +31,24 @@ right_token (all_axioms i) = i
 -- whether the right side has the number of type variables of a symbol
 abbrev pub has_vars : List SymbolTree → ℕ → Element → RightTree → Bool
 has_vars symbols k (type_element i c vs f) r = (symbol_or symbols k).vars == length vs
-has_vars symbols k (symbol_element i w c d) (symbol_right j) = (symbol_or symbols k).vars == (symbol_or symbols j).vars
+has_vars symbols k (symbol_element i w c d) (symbol_right j) =
+    (symbol_or symbols k).vars == (symbol_or symbols j).vars
 has_vars symbols k e r = true
 
-abbrev pub is_wrong_at : List SymbolTree → Origin → PlacedFates → Element → RightTree → Option ℕ → Bool
+abbrev pub is_wrong_at : List SymbolTree → Origin → PlacedFates → Element → RightTree
+    → Option ℕ → Bool
 is_wrong_at symbols t fates e r None = true
-is_wrong_at symbols t fates e r (Some place) = is_some (fates place) || not (has_vars symbols (symbol_at_place t.decls place) e r)
+is_wrong_at symbols t fates e r (Some place) =
+    is_some (fates place) || not (has_vars symbols (symbol_at_place t.decls place) e r)
 
 abbrev pub is_wrong : List SymbolTree → Origin → PlacedFates → Element → RightTree → Option ℕ → Bool
 is_wrong symbols t fates (all_axioms i) r left = false
-is_wrong symbols t fates (type_element i c vs f) r left = is_wrong_at symbols t fates (type_element i c vs f) r left
-is_wrong symbols t fates (symbol_element i w c d) r left = is_wrong_at symbols t fates (symbol_element i w c d) r left
-is_wrong symbols t fates (prop_element i k c) r left = is_wrong_at symbols t fates (prop_element i k c) r left
+is_wrong symbols t fates (type_element i c vs f) r left =
+    is_wrong_at symbols t fates (type_element i c vs f) r left
+is_wrong symbols t fates (symbol_element i w c d) r left =
+    is_wrong_at symbols t fates (symbol_element i w c d) r left
+is_wrong symbols t fates (prop_element i k c) r left =
+    is_wrong_at symbols t fates (prop_element i k c) r left
 
 -- ---- right
 -- whether a symbol's kind is that of a word; constructors and projections are functions
@@ -70,7 +77,8 @@ pub record Replaces (symbols : List SymbolTree) (m : Map) (w : SymbolWord) (k j 
   pub signature : IsSameSignature m (symbol_or symbols k) (symbol_or symbols j)
 
 abbrev pub IsRightSide : List SymbolTree → Origin → Map → Element → Option ℕ → RightTree → Type 0
-IsRightSide symbols t m (symbol_element i w c d) (Some place) (symbol_right j) = Replaces symbols m w (symbol_at_place t.decls place) j
+IsRightSide symbols t m (symbol_element i w c d) (Some place) (symbol_right j) =
+    Replaces symbols m w (symbol_at_place t.decls place) j
 IsRightSide symbols t m e left r = Unit {0}
 
 -- ---- both
@@ -80,11 +88,17 @@ IsRefusedAt false token left right Right = (token ≡ right) × (Right → ⊥)
 
 -- an element is right, or is refused at a token
 abbrev pub SideTold : List SymbolTree → Origin → Map → PlacedFates → SideTree → Option ℕ → Type 0
-SideTold symbols t m fates x None = (is_wrong symbols t fates x.element x.right x.left ≡ false) × IsRightSide symbols t m x.element x.left x.right
+SideTold symbols t m fates x None =
+    (is_wrong symbols t fates x.element x.right x.left ≡ false)
+    × IsRightSide symbols t m x.element x.left x.right
 SideTold symbols t m fates x (Some token) =
-    IsRefusedAt (is_wrong symbols t fates x.element x.right x.left) token (left_token x.element) (right_token x.element) (IsRightSide symbols t m x.element x.left x.right)
+    IsRefusedAt (is_wrong symbols t fates x.element x.right x.left) token (left_token x.element)
+    (right_token x.element) (IsRightSide symbols t m x.element x.left x.right)
 
 -- the first that is refused, or none
-abbrev pub SidesTold : List SymbolTree → Origin → Map → PlacedFates → List SideTree → Option ℕ → Type 0
+abbrev pub SidesTold : List SymbolTree → Origin → Map → PlacedFates → List SideTree
+    → Option ℕ → Type 0
 SidesTold symbols t m fates [] o = o ≡ None
-SidesTold symbols t m fates (x ∷ xs) o = SideTold symbols t m fates x None × SidesTold symbols t m (with_side x fates) xs o ⊎ (token : ℕ) × (o ≡ Some token) × SideTold symbols t m fates x (Some token)
+SidesTold symbols t m fates (x ∷ xs) o =
+    SideTold symbols t m fates x None × SidesTold symbols t m (with_side x fates) xs o
+    ⊎ (token : ℕ) × (o ≡ Some token) × SideTold symbols t m fates x (Some token)

@@ -1,5 +1,6 @@
--- What the left side of a clone's element names: of the theory's own declarations the last one of its kind with this name that is
--- abstract, and for a proposition an axiom (Why3 manual, "theory cloning").
+-- What the left side of a clone's element names: of the theory's own declarations the last one of
+-- its kind with this name that is abstract, and for a proposition an axiom (Why3 manual, "theory
+-- cloning").
 use Rattle.std.specs.Prelude.{ℕ, if◌then◌else◌, Bool, true, false, List, [], ◌∷◌, ◌++◌, get_or, Option, Some, None, codes}
 use Rattle.std.specs.Str.{bytes_eq}
 use Rattle.tasks.specs.declared.signature.SymbolKind.{SymbolKind}
@@ -22,7 +23,8 @@ dotted (q ∷ qs) x = q ++ (codes "." ++ dotted qs x)
 abbrev pub called_text : Called → Word
 called_text c = dotted c.scopes (text_of_own c.own)
 
--- all declarations, the places of the theory's own ones in order, and whether a place is that of an axiom of it
+-- all declarations, the places of the theory's own ones in order, and whether a place is that of an
+-- axiom of it
 pub record Origin : Type 0 where
   pub decls : List DeclarationTree
   pub own : List ℕ
@@ -101,7 +103,8 @@ is_key x (Some y) = bytes_eq y x
 
 -- the place at a key after one more declaration
 abbrev pub place_after : List SymbolTree → Origin → Word → Option ℕ → ℕ → Option ℕ
-place_after symbols t x found k = if is_key x (left_key symbols (t.axioms k) (decl_or t.decls k)) then Some k else found
+place_after symbols t x found k =
+    if is_key x (left_key symbols (t.axioms k) (decl_or t.decls k)) then Some k else found
 
 abbrev pub last_place : List SymbolTree → Origin → Word → Option ℕ → List ℕ → Option ℕ
 last_place symbols t x found [] = found

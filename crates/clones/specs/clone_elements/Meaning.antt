@@ -36,7 +36,8 @@ RightHeld s (right.Symbol k) = Unit {0}
 RightHeld s right.Nothing = Unit {0}
 
 abbrev pub side_at : List Tree → CodeSide → SideTree
-side_at s x = record { element = element_of x.element.now; left = x.left; right = right_at s x.right }
+side_at s x =
+    record { element = element_of x.element.now; left = x.left; right = right_at s x.right }
 
 abbrev pub sides_at : List Tree → List CodeSide → List SideTree
 sides_at s xs = map (side_at s) xs
@@ -72,10 +73,12 @@ pub record TrialHeld (s : List Tree) (x : Trial) : Type 0 where
 
 abbrev pub IsElementRefused : List SymbolTree → Origin → Map → List SideTree → ElementFault → Type 0
 IsElementRefused symbols t m xs fault.Memory = Unit {0}
-IsElementRefused symbols t m xs (fault.BadSubstitution token) = SidesTold symbols t m no_fates xs (Some token)
+IsElementRefused symbols t m xs (fault.BadSubstitution token) =
+    SidesTold symbols t m no_fates xs (Some token)
 
 -- what elements replace
-pub record IsPlan (s : List Tree) (entries : List SymbolTree) (t : Origin) (xs : List SideTree) (p : Plan) : Type 0 where
+pub record IsPlan (s : List Tree) (entries : List SymbolTree) (t : Origin) (xs : List SideTree)
+    (p : Plan) : Type 0 where
   pub types : type_pairs_at s p.types.items ≡ types_replaced entries t xs
   pub held : All (TypeForHeld s) p.types.items
   pub symbols : symbol_pairs p.symbols.items ≡ symbols_replaced t xs

@@ -12,7 +12,12 @@ use Rattle.clones.specs.declared.clone_elements.left.LeftNames.{LeftNames}
 use Rattle.clones.specs.clone_elements.Left.{Origin}
 
 abbrev pub origin_at : List Tree → ClonedTheory → Origin
-origin_at s x = record { decls = declarations_at s x.decls.now; own = x.own.now; axioms = λ k. is_some (get nat_eq x.axioms.now k) }
+origin_at s x = record {
+  decls = declarations_at s x.decls.now;
+  own = x.own.now;
+  axioms =
+      λ k. is_some (get nat_eq x.axioms.now k);
+}
 
 -- the place that a table has at a key
 abbrev pub place_at : LeftNames → Word → Option ℕ

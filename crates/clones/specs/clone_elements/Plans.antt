@@ -21,11 +21,19 @@ pub record SideTree : Type 0 where
   pub left : Option ℕ
   pub right : RightTree
 
--- the sides of elements: the left ones by the places of a table, the right ones over the signature with the tuples of those before
-abbrev pub sides_made : (Word → Option ℕ) → List Tree → List SymbolTree → ScopeNames → List Element → List SideTree
+-- the sides of elements: the left ones by the places of a table, the right ones over the signature
+-- with the tuples of those before
+abbrev pub sides_made : (Word → Option ℕ) → List Tree → List SymbolTree → ScopeNames → List Element
+    → List SideTree
 sides_made places s symbols names [] = []
 sides_made places s symbols names (e ∷ es) =
-    record { element = e; left = place_by places (element_key e); right = right_made s symbols names e } ∷ sides_made places s (symbols ++ right_tuples symbols e) names es
+    record {
+      element = e;
+      left = place_by places (element_key e);
+      right =
+          right_made s symbols names e;
+    }
+    ∷ sides_made places s (symbols ++ right_tuples symbols e) names es
 
 -- ---- fates of declarations
 -- an element replaces a type or a symbol, or says what an axiom becomes
@@ -73,18 +81,24 @@ abbrev pub has_all : List SideTree → Bool
 has_all xs = list_any (λ (x : SideTree). is_all x.element) xs
 
 -- ---- types and symbols
--- the type for the type symbol at a place, where so many type variables belong to it and no element before named it
+-- the type for the type symbol at a place, where so many type variables belong to it and no element
+-- before named it
 abbrev pub type_with : List SymbolTree → Origin → PlacedFates → ℕ → ℕ → Tree → List (ℕ × Tree)
 type_with symbols t fates place n ty =
-    if is_none (fates place) && ((symbol_or symbols (symbol_at_place t.decls place)).vars == n) then (symbol_at_place t.decls place, ty) ∷ [] else []
+    if is_none (fates place) && ((symbol_or symbols (symbol_at_place t.decls place)).vars == n)
+    then (symbol_at_place t.decls place, ty) ∷ [] else []
 
-abbrev pub type_for : List SymbolTree → Origin → PlacedFates → Element → Option ℕ → RightTree → List (ℕ × Tree)
-type_for symbols t fates (type_element i c vs f) (Some place) (type_right ty) = type_with symbols t fates place (length vs) ty
+abbrev pub type_for : List SymbolTree → Origin → PlacedFates → Element → Option ℕ → RightTree
+    → List (ℕ × Tree)
+type_for symbols t fates (type_element i c vs f) (Some place) (type_right ty) =
+    type_with symbols t fates place (length vs) ty
 type_for symbols t fates e left r = []
 
 abbrev pub replaced_types : List SymbolTree → Origin → PlacedFates → List SideTree → List (ℕ × Tree)
 replaced_types symbols t fates [] = []
-replaced_types symbols t fates (x ∷ xs) = type_for symbols t fates x.element x.left x.right ++ replaced_types symbols t (with_side x fates) xs
+replaced_types symbols t fates (x ∷ xs) =
+    type_for symbols t fates x.element x.left x.right
+    ++ replaced_types symbols t (with_side x fates) xs
 
 abbrev pub types_replaced : List SymbolTree → Origin → List SideTree → List (ℕ × Tree)
 types_replaced symbols t xs = replaced_types symbols t no_fates xs
@@ -106,7 +120,8 @@ abbrev pub with_symbol : ℕ → ℕ → Map → Map
 with_symbol k new m = record { symbols = λ q. if k == q then new else m.symbols q; types = m.types }
 
 abbrev pub with_type : ℕ → Tree → Map → Map
-with_type k ty m = record { symbols = m.symbols; types = λ q. if k == q then Some ty else m.types q }
+with_type k ty m =
+    record { symbols = m.symbols; types = λ q. if k == q then Some ty else m.types q }
 
 -- each of these becomes the next number; of equal ones the last counts, here and below
 abbrev pub with_numbers : ℕ → List ℕ → Map → Map
@@ -123,7 +138,8 @@ with_mapped_types (p ∷ ps) m = with_mapped_types ps (with_type p.0 p.1 m)
 
 -- type symbols become types, symbols others, and further ones new numbers
 abbrev pub map_of : List (ℕ × Tree) → List (ℕ × ℕ) → ℕ → List ℕ → Map
-map_of types symbols first others = with_mapped_types types (with_symbols symbols (with_numbers first others same_map))
+map_of types symbols first others =
+    with_mapped_types types (with_symbols symbols (with_numbers first others same_map))
 
 -- the symbols of own declarations that aren't replaced, in order
 abbrev pub kept_at : Origin → PlacedFates → ℕ → List ℕ
@@ -138,7 +154,8 @@ kept t fates = kept_of t fates t.own
 
 -- the map of a clone: the copies' symbols are the next ones of the signature
 abbrev pub clone_map : List SymbolTree → Origin → List SideTree → Map
-clone_map symbols t xs = map_of (types_replaced symbols t xs) (symbols_replaced t xs) (length symbols) (kept t (fates_of xs))
+clone_map symbols t xs = map_of (types_replaced symbols t xs) (symbols_replaced t xs)
+    (length symbols) (kept t (fates_of xs))
 
 -- the map by which signatures are compared: types that aren't replaced count as their copies
 abbrev pub tried_map : List SymbolTree → Origin → List SideTree → Map

@@ -1,5 +1,5 @@
--- What the right sides of a clone's elements stand for, and their first fault of names, in the order of the elements (Why3 manual,
--- "theory cloning").
+-- What the right sides of a clone's elements stand for, and their first fault of names, in the
+-- order of the elements (Why3 manual, "theory cloning").
 use Rattle.std.specs.Prelude.{ℕ, false, List, [], ◌∷◌, ◌++◌, map, length, Option, Some, None, unwrap_or}
 use Rattle.tasks.specs.trees.Tree.{Tree}
 use Rattle.tasks.specs.trees.Facts.{TyVarsBelow}
@@ -46,7 +46,8 @@ abbrev pub called_symbol : ScopeNames → Called → Option ℕ
 called_symbol names c = symbol_named names c.scopes (text_of_own c.own)
 
 abbrev pub right_fault : List Tree → List SymbolTree → ScopeNames → Element → Option NamingFault
-right_fault s symbols names (type_element i c vs f) = form_fault (over s symbols names (texts_of_names vs)) false (type_expression f)
+right_fault s symbols names (type_element i c vs f) =
+    form_fault (over s symbols names (texts_of_names vs)) false (type_expression f)
 right_fault s symbols names (symbol_element i w c d) = symbol_missing d.at (called_symbol names d)
 right_fault s symbols names (prop_element i k c) = None
 right_fault s symbols names (all_axioms i) = None
@@ -63,19 +64,26 @@ right_tuples symbols (all_axioms i) = []
 
 -- ---- what they stand for
 abbrev pub right_made : List Tree → List SymbolTree → ScopeNames → Element → RightTree
-right_made s symbols names (type_element i c vs f) = type_right (type_at (over s (symbols ++ type_tuples symbols (type_expression f)) names (texts_of_names vs)) (type_expression f))
-right_made s symbols names (symbol_element i w c d) = symbol_right (unwrap_or (called_symbol names d) 0)
+right_made s symbols names (type_element i c vs f) =
+    type_right (type_at (over s (symbols ++ type_tuples symbols (type_expression f)) names
+    (texts_of_names vs)) (type_expression f))
+right_made s symbols names (symbol_element i w c d) =
+    symbol_right (unwrap_or (called_symbol names d) 0)
 right_made s symbols names (prop_element i k c) = no_right
 right_made s symbols names (all_axioms i) = no_right
 
 -- ---- of all elements, each over the signature with the tuples of those before it
 abbrev pub rights_tuples : List SymbolTree → List Element → List SymbolTree
 rights_tuples symbols [] = []
-rights_tuples symbols (e ∷ es) = right_tuples symbols e ++ rights_tuples (symbols ++ right_tuples symbols e) es
+rights_tuples symbols (e ∷ es) =
+    right_tuples symbols e ++ rights_tuples (symbols ++ right_tuples symbols e) es
 
-abbrev pub rights_fault : List Tree → List SymbolTree → ScopeNames → List Element → Option NamingFault
+abbrev pub rights_fault : List Tree → List SymbolTree → ScopeNames → List Element
+    → Option NamingFault
 rights_fault s symbols names [] = None
-rights_fault s symbols names (e ∷ es) = first_of (right_fault s symbols names e) (rights_fault s (symbols ++ right_tuples symbols e) names es)
+rights_fault s symbols names (e ∷ es) =
+    first_of (right_fault s symbols names e)
+    (rights_fault s (symbols ++ right_tuples symbols e) names es)
 
 -- the type on the right of an element has its type variables alone
 abbrev pub IsWithin : Element → RightTree → Type 0

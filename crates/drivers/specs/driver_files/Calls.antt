@@ -31,7 +31,8 @@ HasLines file text (Err f.Memory) = ⊤
 HasLines file text (Err e) = or_syntax file (driver_lines text) ≡ Err (file_refused e)
 
 -- how far a driver is read, where nothing was wrong
-abbrev pub with_progress : {X : Type 0} → Result X DriverFault → Progress → Result Progress DriverFault
+abbrev pub with_progress : {X : Type 0} → Result X DriverFault → Progress
+    → Result Progress DriverFault
 with_progress (Ok x) progress = Ok progress
 with_progress (Err e) progress = Err e
 
@@ -48,23 +49,35 @@ both_meanings first second files limit = first files limit then (λ a. second a 
 module _ (symbols : List SymbolInfo) (theories : NamedTheories) where
   -- the meanings of the parts of the reader
   abbrev pub ImportMeaning : ReadingPlace → ℕ → List ℕ → Progress → CallMeaning Progress
-  ImportMeaning at byte name progress files limit = import (importer symbols theories at.room files limit) at byte name progress
+  ImportMeaning at byte name progress files limit =
+      import (importer symbols theories at.room files limit) at byte name progress
 
-  abbrev pub OneLineMeaning : ReadingPlace → Option (List ℕ) → List DriverLexeme → Progress → CallMeaning Progress
-  OneLineMeaning at path line progress files limit = take_item symbols theories (importer symbols theories at.room files limit) at path (item_of line) progress
+  abbrev pub OneLineMeaning : ReadingPlace → Option (List ℕ) → List DriverLexeme → Progress
+      → CallMeaning Progress
+  OneLineMeaning at path line progress files limit =
+      take_item symbols theories (importer symbols theories at.room files limit) at path
+      (item_of line) progress
 
-  abbrev pub LinesMeaning : ReadingPlace → Option (List ℕ) → List (List DriverLexeme) → Progress → CallMeaning Progress
-  LinesMeaning at path lines progress files limit = take_lines symbols theories (importer symbols theories at.room files limit) at path lines progress
+  abbrev pub LinesMeaning : ReadingPlace → Option (List ℕ) → List (List DriverLexeme) → Progress
+      → CallMeaning Progress
+  LinesMeaning at path lines progress files limit =
+      take_lines symbols theories (importer symbols theories at.room files limit) at path
+      lines progress
 
   -- the lines of a file, which then was read whole
-  abbrev pub WholeMeaning : ReadingPlace → List ℕ → List (List DriverLexeme) → Progress → CallMeaning Progress
-  WholeMeaning at bytes lines progress = both_meanings (LinesMeaning at None lines progress) (λ p files limit. Ok (finished at.name bytes p))
+  abbrev pub WholeMeaning : ReadingPlace → List ℕ → List (List DriverLexeme) → Progress
+      → CallMeaning Progress
+  WholeMeaning at bytes lines progress =
+      both_meanings (LinesMeaning at None lines progress)
+      (λ p files limit. Ok (finished at.name bytes p))
 
   abbrev pub BytesMeaning : ReadingPlace → List ℕ → Progress → CallMeaning Progress
-  BytesMeaning at bytes progress files limit = take_bytes symbols theories (importer symbols theories at.room files limit) at bytes progress
+  BytesMeaning at bytes progress files limit =
+      take_bytes symbols theories (importer symbols theories at.room files limit) at bytes progress
 
   abbrev pub FileMeaning : ℕ → List (List ℕ) → List ℕ → Progress → CallMeaning Progress
-  FileMeaning room opened name progress files limit = read_from symbols theories room files limit opened name progress
+  FileMeaning room opened name progress files limit =
+      read_from symbols theories room files limit opened name progress
 
 -- whether an item is no import
 abbrev pub NoImport : DriverItem → Type 0
@@ -72,13 +85,17 @@ NoImport (file_import byte string) = ⊥
 NoImport _ = ⊤
 
 abbrev pub IsImport : List DriverToken → Option DriverToken → Type 0
-IsImport line (Some string) = (text : List ℕ) → item_of (map (lexeme_in text) line) ≡ file_import string.start (string_value_of (lexeme_in text string))
+IsImport line (Some string) = (text : List ℕ)
+    → item_of (map (lexeme_in text) line)
+    ≡ file_import string.start (string_value_of (lexeme_in text string))
 IsImport line None = (text : List ℕ) → NoImport (item_of (map (lexeme_in text) line))
 
 -- the driver of how far it is read, or 55
 abbrev pub FinishesDriver : Progress → Result Driver DriverFault → Type 0
-FinishesDriver progress (Ok driver) = driver_with_printer progress progress.parts.printer ≡ Ok driver
-FinishesDriver progress (Err e) = driver_with_printer progress progress.parts.printer ≡ Err (file_refused e)
+FinishesDriver progress (Ok driver) =
+    driver_with_printer progress progress.parts.printer ≡ Ok driver
+FinishesDriver progress (Err e) =
+    driver_with_printer progress progress.parts.printer ≡ Err (file_refused e)
 
 -- the words that begin and end a block
 abbrev pub is_theory : DriverTerminal → Bool

@@ -18,7 +18,8 @@ use Rattle.drivers.specs.driver_parts.Parts.{no_parts, driver_of}
 use Rattle.drivers.specs.driver_parts.Steps.{item_step, block_behind}
 use Rattle.drivers.specs.driver_items.Symbols.{NamedTheories}
 
--- what is in the way of a driver: a fault, a file that isn't there, or one that can't be read, with its name
+-- what is in the way of a driver: a fault, a file that isn't there, or one that can't be read, with
+-- its name
 pub data DriverStop : Type 0 where
   file_refused : DriverFault → DriverStop
   file_absent : ℕ → DriverStop
@@ -46,17 +47,20 @@ if_file_there file None = Err (file_absent file)
 if_file_there file (Some whole) = Ok (take 67108865 whole)
 
 abbrev pub file_fetched : ℕ → List ℕ → Files → Option ℕ → DriverOutcome (List ℕ)
-file_fetched file name files limit = if file_reads limit file then if_file_there file (files name) else Err (file_unread file name)
+file_fetched file name files limit =
+    if file_reads limit file then if_file_there file (files name) else Err (file_unread file name)
 
 abbrev pub if_file_short : ℕ → List ℕ → DriverOutcome (List ℕ)
-if_file_short file bytes = if nat_eq (length bytes) 67108865 then Err (file_refused (f.TooLong file)) else Ok bytes
+if_file_short file bytes =
+    if nat_eq (length bytes) 67108865 then Err (file_refused (f.TooLong file)) else Ok bytes
 
 -- the bytes of a file that isn't too long
 abbrev pub short_file : ℕ → List ℕ → Files → Option ℕ → DriverOutcome (List ℕ)
 short_file file name files limit = file_fetched file name files limit then if_file_short file
 
 -- the lines of a file's bytes
-abbrev pub or_syntax : ℕ → Result (List (List DriverLexeme)) ℕ → DriverOutcome (List (List DriverLexeme))
+abbrev pub or_syntax : ℕ → Result (List (List DriverLexeme)) ℕ
+    → DriverOutcome (List (List DriverLexeme))
 or_syntax file (Ok lines) = Ok lines
 or_syntax file (Err byte) = Err (file_refused (f.DriverSyntax file byte))
 
@@ -68,27 +72,32 @@ abbrev pub folder : List ℕ → List ℕ
 folder [] = []
 folder (a ∷ bs) = if list_any (λ b. nat_eq b 47) (a ∷ bs) then a ∷ folder bs else []
 
--- The name of an imported file: the folder of the importing one, and the string, as a text. Strings are UTF-8, so nothing is
--- replaced (proofs/Plain.antt).
+-- The name of an imported file: the folder of the importing one, and the string, as a text. Strings
+-- are UTF-8, so nothing is replaced (proofs/Plain.antt).
 abbrev pub name_from : List ℕ → List ℕ → List ℕ
 name_from importer string = utf8_lossy (folder importer ++ string)
 
--- a file that is being read: its number, its name, the files that are being read with it, and how many more may be
+-- a file that is being read: its number, its name, the files that are being read with it, and how
+-- many more may be
 pub record ReadingPlace : Type 0 where
   pub file : ℕ
   pub name : List ℕ
   pub opened : List (List ℕ)
   pub room : ℕ
 
--- what reads an imported file, given the files that are being read, its name, and how far the driver is read
+-- what reads an imported file, given the files that are being read, its name, and how far the
+-- driver is read
 abbrev pub Importer : Type 0
 Importer = List (List ℕ) → List ℕ → Progress → DriverOutcome Progress
 
--- An import: 54 where the file is being read, or no more may be; a file that was read whole is passed over.
+-- An import: 54 where the file is being read, or no more may be; a file that was read whole is
+-- passed over.
 abbrev pub import : Importer → ReadingPlace → ℕ → List ℕ → Progress → DriverOutcome Progress
 import read place byte name progress =
-    if nat_eq place.room 0 || is_named_among place.opened name then Err (file_refused (f.ImportCycle place.file byte))
-    else (if is_named_among progress.whole name then Ok progress else read place.opened name progress)
+    if nat_eq place.room 0 || is_named_among place.opened name then Err
+    (file_refused (f.ImportCycle place.file byte))
+    else (if is_named_among progress.whole name then Ok progress else read place.opened name
+    progress)
 
 abbrev pub with_parts : Progress → Result DriverParts DriverFault → DriverOutcome Progress
 with_parts progress (Ok parts) = Ok (record progress { parts = parts })
@@ -96,11 +105,13 @@ with_parts progress (Err e) = Err (file_refused e)
 
 -- a file that was read whole
 abbrev pub finished : List ℕ → List ℕ → Progress → Progress
-finished name bytes progress = record progress { whole = progress.whole ++ name ∷ []; length = length bytes }
+finished name bytes progress =
+    record progress { whole = progress.whole ++ name ∷ []; length = length bytes }
 
 -- where a file is read: it is one of those that are being read
 abbrev pub reading_place : ℕ → List (List ℕ) → List ℕ → ℕ → ReadingPlace
-reading_place room opened name file = record { file = file; name = name; opened = opened ++ name ∷ []; room = room }
+reading_place room opened name file =
+    record { file = file; name = name; opened = opened ++ name ∷ []; room = room }
 
 abbrev pub one_file_more : Progress → Progress
 one_file_more progress = record progress { next = progress.next + 1 }
@@ -118,25 +129,34 @@ driver_with_printer progress None = Err (file_refused (f.UnknownPrinter 1 progre
 
 module _ (symbols : List SymbolInfo) (theories : NamedTheories) where
   -- an item in its place
-  abbrev pub take_item : Importer → ReadingPlace → Option (List ℕ) → DriverItem → Progress → DriverOutcome Progress
-  take_item read place path (file_import byte string) progress = import read place byte (name_from place.name string) progress
-  take_item read place path item progress = with_parts progress (item_step symbols theories place.file path item progress.parts)
+  abbrev pub take_item : Importer → ReadingPlace → Option (List ℕ) → DriverItem → Progress
+      → DriverOutcome Progress
+  take_item read place path (file_import byte string) progress =
+      import read place byte (name_from place.name string) progress
+  take_item read place path item progress =
+      with_parts progress (item_step symbols theories place.file path item progress.parts)
 
   -- the lines of a file, in order
-  abbrev pub take_lines : Importer → ReadingPlace → Option (List ℕ) → List (List DriverLexeme) → Progress → DriverOutcome Progress
+  abbrev pub take_lines : Importer → ReadingPlace → Option (List ℕ) → List (List DriverLexeme)
+      → Progress → DriverOutcome Progress
   take_lines read place path [] progress = Ok progress
   take_lines read place path (l ∷ ls) progress =
-      take_item read place path (item_of l) progress then take_lines read place (block_behind path (item_of l)) ls
+      take_item read place path (item_of l) progress then take_lines read place
+      (block_behind path (item_of l)) ls
 
   -- the bytes of a file: its whole syntax before its items
   abbrev pub take_bytes : Importer → ReadingPlace → List ℕ → Progress → DriverOutcome Progress
   take_bytes read place bytes progress =
-      or_syntax place.file (driver_lines bytes) then (λ lines. take_lines read place None lines progress) then (λ p. Ok (finished place.name bytes p))
+      or_syntax place.file (driver_lines bytes)
+      then (λ lines. take_lines read place None lines progress)
+      then (λ p. Ok (finished place.name bytes p))
 
   -- a file, which is fetched with the next number
   abbrev pub take_file : Importer → ℕ → Files → Option ℕ → Importer
   take_file read room files limit opened name progress =
-      short_file progress.next name files limit then (λ bytes. take_bytes read (reading_place room opened name progress.next) bytes (one_file_more progress))
+      short_file progress.next name files limit
+      then (λ bytes. take_bytes read (reading_place room opened name progress.next) bytes
+      (one_file_more progress))
 
   -- a file, where so many more may be read at once
   unfoldable pub read_from : ℕ → Files → Option ℕ → Importer
@@ -150,7 +170,8 @@ module _ (symbols : List SymbolInfo) (theories : NamedTheories) where
 
   -- the driver of a file, whose number is 1; 32 files may be read at once
   abbrev pub driver_named : List ℕ → Files → Option ℕ → DriverOutcome Driver
-  driver_named name files limit = read_from 31 files limit [] name no_progress then (λ p. driver_with_printer p p.parts.printer)
+  driver_named name files limit =
+      read_from 31 files limit [] name no_progress then (λ p. driver_with_printer p p.parts.printer)
 
 -- What a call answers over a library, against its meaning.
 abbrev pub CallMeaning : Type 0 → Type 0
@@ -179,18 +200,27 @@ pub record OneFileFault (old new : LibraryState) : Type 0 where
 -- the file with this number can't be read, and it is the one whose name the library refused
 abbrev pub StopsReadingAt : {A : Type 0} → CallMeaning A → ℕ → Option (List ℕ) → Files → Type 0
 StopsReadingAt meaning file refused_name files =
-    (name : List ℕ) × (meaning files (Some file) ≡ Err (file_unread file name)) × IfSome refused_name (λ its. its ≡ name)
+    (name : List ℕ) × (meaning files (Some file) ≡ Err (file_unread file name))
+    × IfSome refused_name (λ its. its ≡ name)
 
--- The answer of a part that fetches files from number `start` on, and after Ok has fetched those below `next`.
-abbrev pub IsReadAs : {A : Type 0} → CallMeaning A → ℕ → (A → ℕ) → LibraryState → LibraryState → Result A DriverFault → Type 0
+-- The answer of a part that fetches files from number `start` on, and after Ok has fetched those
+-- below `next`.
+abbrev pub IsReadAs : {A : Type 0} → CallMeaning A → ℕ → (A → ℕ) → LibraryState → LibraryState
+    → Result A DriverFault → Type 0
 IsReadAs meaning start next old new (Ok value) = StaysSame old new × (start ≤ next value)
-    × IfSome old.files (λ files. (limit : Option ℕ) → ReachesReading limit (next value) → meaning files limit ≡ Ok value)
+    × IfSome old.files (λ files. (limit : Option ℕ) → ReachesReading limit (next value)
+    → meaning files limit ≡ Ok value)
 IsReadAs meaning start next old new (Err f.Memory) = StaysSame old new
-IsReadAs meaning start next old new (Err (f.Absent file)) = OneFileAbsent old new × IfSome old.files (λ files. meaning files None ≡ Err (file_absent file))
-IsReadAs meaning start next old new (Err (f.ReadFault file)) = OneFileFault old new × (start ≤ file) × IfSome old.files (StopsReadingAt meaning file new.refused_name)
-IsReadAs meaning start next old new (Err fault) = StaysSame old new × IfSome old.files (λ files. meaning files None ≡ Err (file_refused fault))
+IsReadAs meaning start next old new (Err (f.Absent file)) =
+    OneFileAbsent old new × IfSome old.files (λ files. meaning files None ≡ Err (file_absent file))
+IsReadAs meaning start next old new (Err (f.ReadFault file)) =
+    OneFileFault old new × (start ≤ file)
+    × IfSome old.files (StopsReadingAt meaning file new.refused_name)
+IsReadAs meaning start next old new (Err fault) =
+    StaysSame old new × IfSome old.files (λ files. meaning files None ≡ Err (file_refused fault))
 
 -- The files stay, and the answer meets the meaning.
-pub record ReadsAs {A : Type 0} (meaning : CallMeaning A) (start : ℕ) (next : A → ℕ) (old new : LibraryState) (result : Result A DriverFault) : Type 0 where
+pub record ReadsAs {A : Type 0} (meaning : CallMeaning A) (start : ℕ) (next : A → ℕ)
+    (old new : LibraryState) (result : Result A DriverFault) : Type 0 where
   pub files : new.files ≡ old.files
   pub meets : IsReadAs meaning start next old new result

@@ -35,4 +35,5 @@ prefix_mark None = []
 
 -- the name that tokens write: words with dots, and an operator's own name
 abbrev pub written_name : List DriverLexeme → List ℕ
-written_name xs = flat_map (λ x. name_bytes x.terminal x.text) xs ++ prefix_mark (slice_get xs (length xs - 2))
+written_name xs =
+    flat_map (λ x. name_bytes x.terminal x.text) xs ++ prefix_mark (slice_get xs (length xs - 2))

@@ -33,7 +33,8 @@ abbrev pub things_of : {A : Type 0} → List (List ℕ × A) → List A
 things_of {A} entries = map (λ (e : List ℕ × A). e.1) entries
 
 abbrev pub value_named : {A : Type 0} → List (List ℕ × A) → List ℕ → Option A
-value_named entries word = option_and_then (slice_get (things_of entries)) (place_in_words word (words_of_entries entries))
+value_named entries word =
+    option_and_then (slice_get (things_of entries)) (place_in_words word (words_of_entries entries))
 
 -- the transformation that a word names
 abbrev pub trans_of : List ℕ → Option Trans

@@ -41,7 +41,8 @@ is_named_kind n.Predicate k.Predicate = true
 is_named_kind _ _ = false
 
 abbrev pub is_symbol_named : List ℕ → NameKind → List ℕ → SymbolInfo → Bool
-is_symbol_named path kind name s = is_named_kind kind s.kind && is_same_word s.theory path && is_same_word s.name name
+is_symbol_named path kind name s =
+    is_named_kind kind s.kind && is_same_word s.theory path && is_same_word s.name name
 
 -- the number of arguments that a template names
 abbrev pub by_kind : SymbolKind → SymbolInfo → ℕ
@@ -56,7 +57,8 @@ target_or_later earlier None = earlier
 abbrev pub entry_from : List ℕ → NameKind → List ℕ → ℕ → List SymbolInfo → Option (Target × ℕ)
 entry_from path kind name number [] = None
 entry_from path kind name number (s ∷ ss) =
-    target_or_later (if is_symbol_named path kind name s then Some (Entry number, by_kind s.kind s) else None) (entry_from path kind name (number + 1) ss)
+    target_or_later (if is_symbol_named path kind name s then Some (Entry number, by_kind s.kind s)
+    else None) (entry_from path kind name (number + 1) ss)
 
 -- the type `int`, and equality
 abbrev pub builtin_of : NameKind → List ℕ → Option (Target × ℕ)
@@ -66,7 +68,8 @@ builtin_of n.Function name = None
 
 -- what a name of a theory stands for, with its number of arguments
 abbrev pub target_of : List SymbolInfo → List ℕ → NameKind → List ℕ → Option (Target × ℕ)
-target_of symbols path kind name = if is_builtin path then builtin_of kind name else entry_from path kind name 0 symbols
+target_of symbols path kind name =
+    if is_builtin path then builtin_of kind name else entry_from path kind name 0 symbols
 
 -- whether a theory has a proposition of this name
 abbrev pub among : List (String Global) → List ℕ → Bool
@@ -77,4 +80,5 @@ among_those (Some theory) name = among theory.1.items name
 among_those None name = false
 
 abbrev pub has_proposition : NamedTheories → List ℕ → List ℕ → Bool
-has_proposition theories path name = if is_builtin path then false else among_those (theory_with_path path theories) name
+has_proposition theories path name =
+    if is_builtin path then false else among_those (theory_with_path path theories) name

@@ -1,4 +1,5 @@
--- Templates (Why3 manual, "Drivers"): 37 is `%`. After it stands `%`, which stands for itself, or a digit from 1 to 9.
+-- Templates (Why3 manual, "Drivers"): 37 is `%`. After it stands `%`, which stands for itself, or a
+-- digit from 1 to 9.
 use Rattle.std.specs.Prelude.{ℕ, zero, suc, ◌≡◌, ◌-◌, Bool, true, false, ◌&&◌, nat_eq, nat_lt, nat_le, List, [], ◌∷◌, ◌++◌, count_by, Option, Some, None, if◌then◌else◌}
 use Rattle.std.specs.Option.{option_map}
 use Rattle.drivers.specs.declared.driver_items.kinds.Piece.{Piece}
@@ -13,9 +14,11 @@ literal_pieces (a ∷ bs) = Literal (a ∷ bs) ∷ []
 abbrev pub pieces_from : Bool → List ℕ → List ℕ → Option (List Piece)
 pieces_from true before [] = None
 pieces_from false before [] = Some (literal_pieces before)
-pieces_from false before (a ∷ bs) = if nat_eq a 37 then pieces_from true before bs else pieces_from false (before ++ a ∷ []) bs
+pieces_from false before (a ∷ bs) =
+    if nat_eq a 37 then pieces_from true before bs else pieces_from false (before ++ a ∷ []) bs
 pieces_from true before (a ∷ bs) = if nat_eq a 37 then pieces_from false (before ++ 37 ∷ []) bs
-    else (if nat_le 49 a && nat_le a 57 then option_map (λ ps. literal_pieces before ++ ps) (option_map (λ ps. Argument (a - 49) ∷ ps) (pieces_from false [] bs))
+    else (if nat_le 49 a && nat_le a 57 then option_map (λ ps. literal_pieces before ++ ps)
+    (option_map (λ ps. Argument (a - 49) ∷ ps) (pieces_from false [] bs))
     else None)
 
 abbrev pub is_argument : ℕ → Piece → Bool
@@ -52,14 +55,22 @@ pieces_onto pieces = option_map (λ ps. pieces ++ ps)
 
 -- what a byte does where no `%` is before it, whatever is after
 abbrev pub GoesOnPlain : ℕ → List ℕ → List ℕ → Bool → Type 0
-GoesOnPlain byte before after percent = (bs : List ℕ) → pieces_from false before (byte ∷ bs) ≡ pieces_from percent after bs
+GoesOnPlain byte before after percent =
+    (bs : List ℕ) → pieces_from false before (byte ∷ bs) ≡ pieces_from percent after bs
 
 -- what a byte does after `%`, if it may be there
 abbrev pub GoesOnEscaped : ℕ → List Piece → List ℕ → List Piece → List ℕ → Bool → Type 0
-GoesOnEscaped byte old before new after true = (bs : List ℕ) → pieces_onto old (pieces_from true before (byte ∷ bs)) ≡ pieces_onto new (pieces_from false after bs)
-GoesOnEscaped byte old before new after false = (bs : List ℕ) → pieces_from true before (byte ∷ bs) ≡ None
+GoesOnEscaped byte old before new after true = (bs : List ℕ)
+    → pieces_onto old (pieces_from true before (byte ∷ bs))
+    ≡ pieces_onto new (pieces_from false after bs)
+GoesOnEscaped byte old before new after false =
+    (bs : List ℕ) → pieces_from true before (byte ∷ bs) ≡ None
 
--- what a byte does, wherever it is: whether a `%` is before the next byte, or none where the byte may not be there
+-- what a byte does, wherever it is: whether a `%` is before the next byte, or none where the byte
+-- may not be there
 abbrev pub GoesOn : Bool → ℕ → List Piece → List ℕ → List Piece → List ℕ → Option Bool → Type 0
-GoesOn percent byte old before new after (Some next) = (bs : List ℕ) → pieces_onto old (pieces_from percent before (byte ∷ bs)) ≡ pieces_onto new (pieces_from next after bs)
-GoesOn percent byte old before new after None = (bs : List ℕ) → pieces_from percent before (byte ∷ bs) ≡ None
+GoesOn percent byte old before new after (Some next) = (bs : List ℕ)
+    → pieces_onto old (pieces_from percent before (byte ∷ bs))
+    ≡ pieces_onto new (pieces_from next after bs)
+GoesOn percent byte old before new after None =
+    (bs : List ℕ) → pieces_from percent before (byte ∷ bs) ≡ None

@@ -22,12 +22,15 @@ pub data DriverItem : Type 0 where
   silent : DriverItem
 
 -- `syntax KIND NAME STRING`, by the tokens after the kind
-abbrev pub template_by : NameKind → Option DriverLexeme → Option DriverLexeme → List DriverLexeme → DriverItem
+abbrev pub template_by : NameKind → Option DriverLexeme → Option DriverLexeme → List DriverLexeme
+    → DriverItem
 template_by k (Some x) (Some z) name = template k x.at (written_name name) z.at (string_value_of z)
 template_by k _ _ name = silent
 
 abbrev pub syntax_by : DriverTerminal → List DriverLexeme → DriverItem
-syntax_by (t.Word (w.Kind k)) line = template_by k (slice_get line 2) (slice_get line (length line - 1)) (slice_range line 2 (length line - 1))
+syntax_by (t.Word (w.Kind k)) line =
+    template_by k (slice_get line 2) (slice_get line (length line - 1))
+    (slice_range line 2 (length line - 1))
 syntax_by _ line = silent
 
 -- `remove prop NAME`

@@ -13,10 +13,13 @@ use Rattle.drivers.specs.driver_parts.Items.{DriverItem, prelude, printer, trans
 
 abbrev pub template_item : List ℕ → NameKind → List DriverToken → DriverItem
 template_item text kind line =
-    template_by kind (option_map (lexeme_in text) (slice_get line 2)) (option_map (lexeme_in text) (slice_get line (length line - 1))) (map (lexeme_in text) (slice_range line 2 (length line - 1)))
+    template_by kind (option_map (lexeme_in text) (slice_get line 2))
+    (option_map (lexeme_in text) (slice_get line (length line - 1)))
+    (map (lexeme_in text) (slice_range line 2 (length line - 1)))
 
 abbrev pub removal_in : List ℕ → List DriverToken → DriverItem
-removal_in text line = removed_by (option_map (lexeme_in text) (slice_get line 2)) (map (lexeme_in text) (slice_range line 2 (length line)))
+removal_in text line = removed_by (option_map (lexeme_in text) (slice_get line 2))
+    (map (lexeme_in text) (slice_range line 2 (length line)))
 
 abbrev pub syntax_in : List ℕ → DriverTerminal → List DriverToken → DriverItem
 syntax_in text (t.Word (w.Kind kind)) line = template_item text kind line
@@ -30,10 +33,14 @@ remove_in text _ line = silent
 -- what a line says, by its first token's terminal and its second token
 abbrev pub item_in : List ℕ → DriverTerminal → DriverToken → List DriverToken → DriverItem
 item_in text (t.Word w.Prelude) y line = prelude (string_value_of (lexeme_in text y))
-item_in text (t.Word (w.Heading h.Printer)) y line = printer y.start (string_value_of (lexeme_in text y))
-item_in text (t.Word (w.Heading h.Transformation)) y line = transformation y.start (string_value_of (lexeme_in text y))
-item_in text (t.Word (w.Heading h.Import)) y line = file_import y.start (string_value_of (lexeme_in text y))
-item_in text (t.Word w.Theory) y line = block (written_name (map (lexeme_in text) (slice_range line 1 (length line))))
+item_in text (t.Word (w.Heading h.Printer)) y line =
+    printer y.start (string_value_of (lexeme_in text y))
+item_in text (t.Word (w.Heading h.Transformation)) y line =
+    transformation y.start (string_value_of (lexeme_in text y))
+item_in text (t.Word (w.Heading h.Import)) y line =
+    file_import y.start (string_value_of (lexeme_in text y))
+item_in text (t.Word w.Theory) y line =
+    block (written_name (map (lexeme_in text) (slice_range line 1 (length line))))
 item_in text (t.Word w.Syntax) y line = syntax_in text y.terminal line
 item_in text (t.Word w.Remove) y line = remove_in text y.terminal line
 item_in text _ y line = silent

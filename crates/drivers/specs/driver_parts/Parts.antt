@@ -1,4 +1,5 @@
--- What has been read of a driver so far. The last printer counts, and the last template of a symbol.
+-- What has been read of a driver so far. The last printer counts, and the last template of a
+-- symbol.
 use Rattle.std.specs.Prelude.{ℕ, ◌≡◌, nat_eq, nat_lt, List, [], ◌∷◌, ◌++◌, length, slice_set, Option, Some, None, if◌then◌else◌}
 use Rattle.drivers.specs.declared.driver_parts.driver.Driver.{Driver}
 use Rattle.drivers.specs.declared.driver_items.kinds.Piece.{Piece}
@@ -11,7 +12,17 @@ use Rattle.drivers.specs.declared.driver_items.symbols.Target.TheVariants.{Int, 
 
 -- nothing
 abbrev pub no_parts : DriverParts
-no_parts = record { printer = None; stages = []; removed = []; all_removed = []; templates = []; int_template = None; eq_template = None; preludes = [] }
+no_parts = record {
+  printer = None;
+  stages = [];
+  removed = [];
+  all_removed = [];
+  templates =
+      [];
+  int_template = None;
+  eq_template = None;
+  preludes = [];
+}
 
 -- the bytes of a template without arguments
 abbrev pub literal_of : List Piece → List ℕ
@@ -22,12 +33,14 @@ literal_of (Argument number ∷ pieces) = []
 -- the template of an entry in the place of its earlier one, or at the end
 abbrev pub with_template_at : List (ℕ × List Piece) → ℕ → List Piece → List (ℕ × List Piece)
 with_template_at [] entry pieces = (entry, pieces) ∷ []
-with_template_at (t ∷ ts) entry pieces = if nat_eq t.0 entry then (entry, pieces) ∷ ts else t ∷ with_template_at ts entry pieces
+with_template_at (t ∷ ts) entry pieces =
+    if nat_eq t.0 entry then (entry, pieces) ∷ ts else t ∷ with_template_at ts entry pieces
 
 abbrev pub with_template : DriverParts → Target → List Piece → DriverParts
 with_template parts Int pieces = record parts { int_template = Some (literal_of pieces) }
 with_template parts Equality pieces = record parts { eq_template = Some pieces }
-with_template parts (Entry entry) pieces = record parts { templates = with_template_at parts.templates entry pieces }
+with_template parts (Entry entry) pieces =
+    record parts { templates = with_template_at parts.templates entry pieces }
 
 abbrev pub with_stage : DriverParts → Trans → DriverParts
 with_stage parts stage = record parts { stages = parts.stages ++ stage ∷ [] }
@@ -63,4 +76,5 @@ abbrev pub template_placed : List (ℕ × List Piece) → ℕ → ℕ × List Pi
 template_placed ts place t = if nat_lt place (length ts) then slice_set ts place t else ts ++ t ∷ []
 
 abbrev pub IsPlaceOf : List (ℕ × List Piece) → ℕ → ℕ → Type 0
-IsPlaceOf ts entry place = (pieces : List Piece) → with_template_at ts entry pieces ≡ template_placed ts place (entry, pieces)
+IsPlaceOf ts entry place = (pieces : List Piece)
+    → with_template_at ts entry pieces ≡ template_placed ts place (entry, pieces)

@@ -1,4 +1,5 @@
--- What the items of a driver do to its parts, by kind (Why3 manual, "Drivers"), or what is wrong with them.
+-- What the items of a driver do to its parts, by kind (Why3 manual, "Drivers"), or what is wrong
+-- with them.
 use Rattle.std.specs.Prelude.{ℕ, Bool, List, Option, Some, None, Result, Ok, Err, if◌then◌else◌, ◌≡◌}
 use Rattle.std.specs.Bool.{⊤}
 use Rattle.tasks.specs.declared.signature.SymbolInfo.{SymbolInfo}
@@ -32,31 +33,43 @@ templated file byte parts target None = Err (f.BadTemplate file byte)
 
 -- the name (53) comes before the template (52)
 abbrev pub targeted : ℕ → ℕ → ℕ → List ℕ → DriverParts → Option (Target × ℕ) → Read
-targeted file name_byte byte text parts (Some t) = templated file byte parts t.0 (template_pieces text t.1)
+targeted file name_byte byte text parts (Some t) =
+    templated file byte parts t.0 (template_pieces text t.1)
 targeted file name_byte byte text parts None = Err (f.UnknownSymbol file name_byte)
 
 abbrev pub removed : ℕ → ℕ → DriverParts → List ℕ → List ℕ → Bool → Read
-removed file byte parts path name known = if known then Ok (with_removed parts path name) else Err (f.UnknownSymbol file byte)
+removed file byte parts path name known =
+    if known then Ok (with_removed parts path name) else Err (f.UnknownSymbol file byte)
 
 -- an item in the block of a known theory
-abbrev pub block_step : List SymbolInfo → NamedTheories → ℕ → List ℕ → DriverItem → DriverParts → Read
-block_step symbols theories file path (template kind name_byte name byte text) parts = targeted file name_byte byte text parts (target_of symbols path kind name)
-block_step symbols theories file path (removal byte name) parts = removed file byte parts path name (has_proposition theories path name)
+abbrev pub block_step : List SymbolInfo → NamedTheories → ℕ → List ℕ → DriverItem
+    → DriverParts → Read
+block_step symbols theories file path (template kind name_byte name byte text) parts =
+    targeted file name_byte byte text parts (target_of symbols path kind name)
+block_step symbols theories file path (removal byte name) parts =
+    removed file byte parts path name (has_proposition theories path name)
 block_step symbols theories file path removal_of_all parts = Ok (with_all_removed parts path)
-block_step symbols theories file path (prelude text) parts = Ok (with_prelude parts (Some path) text)
+block_step symbols theories file path (prelude text) parts =
+    Ok (with_prelude parts (Some path) text)
 block_step symbols theories file path _ parts = Ok parts
 
 -- The block of a theory that isn't known is passed over.
-abbrev pub item_in_block : List SymbolInfo → NamedTheories → ℕ → Option (List ℕ) → DriverItem → DriverParts → Read
+abbrev pub item_in_block : List SymbolInfo → NamedTheories → ℕ → Option (List ℕ) → DriverItem
+    → DriverParts → Read
 item_in_block symbols theories file None (prelude text) parts = Ok (with_prelude parts None text)
 item_in_block symbols theories file None _ parts = Ok parts
-item_in_block symbols theories file (Some path) item parts = if is_known theories path then block_step symbols theories file path item parts else Ok parts
+item_in_block symbols theories file (Some path) item parts =
+    if is_known theories path then block_step symbols theories file path item parts else Ok parts
 
 -- an item, but for an import
-abbrev pub item_step : List SymbolInfo → NamedTheories → ℕ → Option (List ℕ) → DriverItem → DriverParts → Read
-item_step symbols theories file path (printer byte word) parts = printer_read file byte parts (printer_of word)
-item_step symbols theories file path (transformation byte word) parts = staged file byte parts (trans_of word)
-item_step symbols theories file path item parts = item_in_block symbols theories file path item parts
+abbrev pub item_step : List SymbolInfo → NamedTheories → ℕ → Option (List ℕ) → DriverItem
+    → DriverParts → Read
+item_step symbols theories file path (printer byte word) parts =
+    printer_read file byte parts (printer_of word)
+item_step symbols theories file path (transformation byte word) parts =
+    staged file byte parts (trans_of word)
+item_step symbols theories file path item parts =
+    item_in_block symbols theories file path item parts
 
 -- the block in which what comes after an item is
 abbrev pub block_behind : Option (List ℕ) → DriverItem → Option (List ℕ)

@@ -11,7 +11,8 @@ use Rattle.drivers.specs.driver_tokens.Machine.{cut}
 use Rattle.drivers.specs.driver_tokens.Tokens.{DriverLexeme, driver_lexemes, lexeme_in}
 use Rattle.drivers.specs.driver_tokens.Lines.{byte_of, IsSyntaxFault}
 
-abbrev pub or_byte : ℕ → Result (List (List DriverLexeme)) (List DriverLexeme) → Result (List (List DriverLexeme)) ℕ
+abbrev pub or_byte : ℕ → Result (List (List DriverLexeme)) (List DriverLexeme)
+    → Result (List (List DriverLexeme)) ℕ
 or_byte end (Ok lines) = Ok lines
 or_byte end (Err after) = Err (byte_of after end)
 
@@ -26,7 +27,8 @@ line_in text tokens line = map (lexeme_in text) (slice_range tokens line.first l
 abbrev pub lines_in : List ℕ → DriverText → List (List DriverLexeme)
 lines_in text its = map (line_in text its.tokens.items) its.lines.items
 
-abbrev pub GivesLines : List ℕ → Result DriverText DriverSyntaxFault → Result (List (List DriverLexeme)) ℕ → Type 0
+abbrev pub GivesLines : List ℕ → Result DriverText DriverSyntaxFault
+    → Result (List (List DriverLexeme)) ℕ → Type 0
 GivesLines text (Ok its) lines = lines ≡ Ok (lines_in text its)
 GivesLines text (Err f.Memory) lines = ⊤
 GivesLines text (Err (f.Syntax byte)) lines = lines ≡ Err byte
@@ -38,7 +40,8 @@ IsDriverRefusal text (f.Syntax byte) = IsSyntaxFault text byte
 
 -- a line at the end, if it has tokens
 abbrev pub with_line : List DriverLine → ℕ → ℕ → List DriverLine
-with_line lines first end = if nat_lt first end then lines ++ record { first = first; end = end } ∷ [] else lines
+with_line lines first end =
+    if nat_lt first end then lines ++ record { first = first; end = end } ∷ [] else lines
 
 -- the tokens of lines, of tokens of the code
 abbrev pub tokens_of_lines : List DriverToken → List DriverLine → List (List DriverToken)
@@ -52,4 +55,6 @@ token_start (x ∷ xs) end = x.start
 abbrev pub Cuts : List DriverToken → ℕ → Result (Vec DriverLine Global) DriverSyntaxFault → Type 0
 Cuts tokens end (Ok lines) = cut (λ x. x.terminal) tokens ≡ Ok (tokens_of_lines tokens lines.items)
 Cuts tokens end (Err f.Memory) = ⊤
-Cuts tokens end (Err (f.Syntax byte)) = (after : List DriverToken) × (cut (λ x. x.terminal) tokens ≡ Err after) × (byte ≡ token_start after end)
+Cuts tokens end (Err (f.Syntax byte)) =
+    (after : List DriverToken) × (cut (λ x. x.terminal) tokens ≡ Err after)
+    × (byte ≡ token_start after end)

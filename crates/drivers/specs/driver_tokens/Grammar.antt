@@ -9,7 +9,8 @@ use Rattle.drivers.specs.declared.driver_tokens.terminal.NameKind.{NameKind}
 use Rattle.drivers.specs.declared.driver_tokens.terminal.DriverTerminal.{DriverTerminal}
 use Rattle.drivers.specs.declared.driver_tokens.terminal.DriverTerminal.TheVariants as t
 
--- a name: words with dots after them, and a word, `(*)`, `( OP )` or `( OP _ )`, where OP is an operator of sources
+-- a name: words with dots after them, and a word, `(*)`, `( OP )` or `( OP _ )`, where OP is an
+-- operator of sources
 pub data DriverName : Type 0 where
   scoped_name : DriverWord → DriverName → DriverName
   word_name : DriverWord → DriverName

@@ -19,7 +19,8 @@ pub record BeginsFile (xs : List DriverTerminal) : Type 0 where
   pub more : List DriverTerminal
   pub file : IsDriverFile (xs ++ more)
 
--- The tokens of a line each make a driver file: they are those of the text, and each line can be written.
+-- The tokens of a line each make a driver file: they are those of the text, and each line can be
+-- written.
 pub record AreDriverLines (text : List ℕ) (found : List (List DriverLexeme)) : Type 0 where
   pub lines : List GrammarLine
   pub are : are_lines false lines ≡ true
@@ -41,8 +42,8 @@ abbrev pub CannotFollow : List DriverLexeme → List DriverLexeme → Type 0
 CannotFollow before [] = IsDriverFile (driver_terminals before) → ⊥
 CannotFollow before (x ∷ after) = BeginsFile (driver_terminals before ++ x.terminal ∷ []) → ⊥
 
--- Where a text goes wrong: the tokens before the byte begin a driver file, and with the token there they begin none; at the
--- end of the text, they are none.
+-- Where a text goes wrong: the tokens before the byte begin a driver file, and with the token there
+-- they begin none; at the end of the text, they are none.
 pub record IsSyntaxFault (text : List ℕ) (byte : ℕ) : Type 0 where
   pub before : List DriverLexeme
   pub after : List DriverLexeme

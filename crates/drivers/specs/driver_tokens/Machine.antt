@@ -1,4 +1,5 @@
--- A finite automaton for driver files, any textbook on parsing: a state takes a terminal, and goes on in a line or begins one.
+-- A finite automaton for driver files, any textbook on parsing: a state takes a terminal, and goes
+-- on in a line or begins one.
 use Rattle.std.specs.Prelude.{Bool, true, false, not, List, [], ◌∷◌, Result, Ok, Err}
 use Rattle.drivers.specs.declared.driver_tokens.terminal.DriverWord.{DriverWord}
 use Rattle.drivers.specs.declared.driver_tokens.terminal.DriverWord.TheVariants as w
@@ -162,21 +163,26 @@ ending true = Ok ([], [])
 ending false = Err []
 
 -- one token more of the line, or of a new one
-abbrev pub within : {A : Type 0} → A → Result (List A × List (List A)) (List A) → Result (List A × List (List A)) (List A)
+abbrev pub within : {A : Type 0} → A → Result (List A × List (List A)) (List A)
+    → Result (List A × List (List A)) (List A)
 within x (Ok w) = Ok (x ∷ w.0, w.1)
 within x (Err e) = Err e
 
-abbrev pub begins : {A : Type 0} → A → Result (List A × List (List A)) (List A) → Result (List A × List (List A)) (List A)
+abbrev pub begins : {A : Type 0} → A → Result (List A × List (List A)) (List A)
+    → Result (List A × List (List A)) (List A)
 begins x (Ok w) = Ok ([], (x ∷ w.0) ∷ w.1)
 begins x (Err e) = Err e
 
-abbrev pub moves_from : {A : Type 0} → A → List A → Transition → (DriverState → Result (List A × List (List A)) (List A)) → Result (List A × List (List A)) (List A)
+abbrev pub moves_from : {A : Type 0} → A → List A → Transition
+    → (DriverState → Result (List A × List (List A)) (List A))
+    → Result (List A × List (List A)) (List A)
 moves_from x xs m.Stuck next = Err (x ∷ xs)
 moves_from x xs (m.Within s) next = within x (next s)
 moves_from x xs (m.Begins s) next = begins x (next s)
 
 -- The rest of a line and the lines after it, or the tokens from the first on that can't be there.
-abbrev pub runs : {A : Type 0} → (A → DriverTerminal) → DriverState → List A → Result (List A × List (List A)) (List A)
+abbrev pub runs : {A : Type 0} → (A → DriverTerminal) → DriverState → List A
+    → Result (List A × List (List A)) (List A)
 runs f s [] = ending (state_may_end s)
 runs f s (x ∷ xs) = moves_from x xs (machine_step s (f x)) (λ next. runs f next xs)
 
@@ -185,7 +191,8 @@ abbrev pub put : {A : Type 0} → List A → List (List A) → List (List A)
 put [] ls = ls
 put (x ∷ xs) ls = (x ∷ xs) ∷ ls
 
-abbrev pub put_all : {A : Type 0} → Result (List A × List (List A)) (List A) → Result (List (List A)) (List A)
+abbrev pub put_all : {A : Type 0} → Result (List A × List (List A)) (List A)
+    → Result (List (List A)) (List A)
 put_all (Ok w) = Ok (put w.0 w.1)
 put_all (Err e) = Err e
 

@@ -2,7 +2,8 @@
 use Rattle.std.specs.Prelude.{ℕ, Bool, true, false, ◌||◌, nat_eq, List, [], ◌∷◌, ◌++◌, Option, Some, None, if◌then◌else◌}
 use Rattle.tokens_why.specs.Gap.{one_more}
 
--- How many bytes there are up to the quote that closes, with it; whether a backslash is before that escapes.
+-- How many bytes there are up to the quote that closes, with it; whether a backslash is before that
+-- escapes.
 abbrev pub quoted : Bool → List ℕ → Option ℕ
 quoted escaped [] = None
 quoted true (a ∷ bs) = one_more (quoted false bs)
@@ -10,7 +11,8 @@ quoted false (a ∷ bs) = if nat_eq a 34 then Some 1 else one_more (quoted (nat_
 
 -- what a byte after a backslash says with it
 abbrev pub escaped : ℕ → List ℕ
-escaped a = if nat_eq a 34 || nat_eq a 92 then a ∷ [] else (if nat_eq a 110 then 10 ∷ [] else 92 ∷ a ∷ [])
+escaped a =
+    if nat_eq a 34 || nat_eq a 92 then a ∷ [] else (if nat_eq a 110 then 10 ∷ [] else 92 ∷ a ∷ [])
 
 -- what the bytes between the quotes say; whether a backslash is before them
 abbrev pub bytes_said : Bool → List ℕ → List ℕ

@@ -20,10 +20,12 @@ is_in_run Word = is_word_byte
 is_in_run Digit = is_digit
 is_in_run Operator = is_operator_byte
 
--- How many bytes the blank or comment in front takes, as in sources. 0: there is none, or one that isn't closed.
+-- How many bytes the blank or comment in front takes, as in sources. 0: there is none, or one that
+-- isn't closed.
 abbrev pub gap_length : List ℕ → ℕ
 gap_length [] = 0
-gap_length (a ∷ bs) = if is_blank a then 1 else (if opens_comment (a ∷ bs) then unwrap_or (comment (a ∷ bs) 1 2) 0 else 0)
+gap_length (a ∷ bs) = if is_blank a then 1
+    else (if opens_comment (a ∷ bs) then unwrap_or (comment (a ∷ bs) 1 2) 0 else 0)
 
 -- a number has no zero in front
 abbrev pub number_length : ℕ → List ℕ → ℕ
@@ -84,8 +86,8 @@ pub record DriverLexeme : Type 0 where
 abbrev pub driver_lexeme : ℕ → List ℕ → DriverLexeme
 driver_lexeme at text = record { terminal = driver_terminal_of text; at = at; text = text }
 
--- After a gap the tokens go on; a token stands with those after it; a byte with which no token begins is a last one, without
--- text.
+-- After a gap the tokens go on; a token stands with those after it; a byte with which no token
+-- begins is a last one, without text.
 abbrev pub after_gap : ℕ → ℕ → ℕ → List ℕ → (ℕ → List DriverLexeme) → List DriverLexeme
 after_gap (suc n) k at text next = next n
 after_gap zero zero at text next = driver_lexeme at [] ∷ []
@@ -95,7 +97,8 @@ after_gap zero (suc n) at text next = driver_lexeme at (take (suc n) text) ∷ n
 abbrev pub lexed : List ℕ → ℕ → ℕ → List DriverLexeme
 lexed [] at passed = []
 lexed (a ∷ bs) at (suc n) = lexed bs (at + 1) n
-lexed (a ∷ bs) at zero = after_gap (gap_length (a ∷ bs)) (token_length (a ∷ bs)) at (a ∷ bs) (λ n. lexed bs (at + 1) n)
+lexed (a ∷ bs) at zero =
+    after_gap (gap_length (a ∷ bs)) (token_length (a ∷ bs)) at (a ∷ bs) (λ n. lexed bs (at + 1) n)
 
 -- the tokens of a text
 abbrev pub driver_lexemes : List ℕ → List DriverLexeme
@@ -103,4 +106,9 @@ driver_lexemes text = lexed text 0 0
 
 -- a token of the code, in its text
 abbrev pub lexeme_in : List ℕ → DriverToken → DriverLexeme
-lexeme_in text token = record { terminal = token.terminal; at = token.start; text = slice_range text token.start token.end }
+lexeme_in text token = record {
+  terminal = token.terminal;
+  at = token.start;
+  text =
+      slice_range text token.start token.end;
+}

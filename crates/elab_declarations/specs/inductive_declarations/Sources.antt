@@ -23,9 +23,11 @@ abbrev pub clauses_at : List ClauseTree → List InductiveClause
 clauses_at cs = map clause (map clause_of cs)
 
 -- a group whose names are there and whose entries stand from a number on
-pub record AreInductivesMade (w : Where) (theory within : Word) (ds : List InductivePredicate) (k : ℕ) (s' : List Tree) (made : Elaborated) : Type 0 where
+pub record AreInductivesMade (w : Where) (theory within : Word) (ds : List InductivePredicate)
+    (k : ℕ) (s' : List Tree) (made : Elaborated) : Type 0 where
   pub clauses : List Tree
-  pub solved : BodiesSolved w (formula_members ds) (clause_signatures ds) clauses (map (match_at s') made.matches)
+  pub solved : BodiesSolved w (formula_members ds) (clause_signatures ds) clauses
+      (map (match_at s') made.matches)
   pub decls : declarations_at s' made.decls ≡ inductive_decls theory within ds k clauses
   pub rigid : made.rigid ≡ []
   pub decls_held : All (DeclHeld s') made.decls

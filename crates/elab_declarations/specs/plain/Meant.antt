@@ -1,4 +1,5 @@
--- Scopes of code over a store, and what their names mean: the number of an alias' type is that of the type's tree.
+-- Scopes of code over a store, and what their names mean: the number of an alias' type is that of
+-- the type's tree.
 use Rattle.std.specs.Prelude.{◌≡◌, ℕ, List, [], ◌∷◌, Option, Some, None}
 use Rattle.elab_groups.specs.tasks.trees.Tree.{Tree}
 use Rattle.elab_groups.specs.tasks.trees.Node.{tree_at, Holds}
@@ -65,7 +66,14 @@ pub record IsSettingMeant (c : Setting) (p : PlainSetting) : Type 0 where
 
 -- an outcome with these names
 abbrev pub with_names_meant : Outcome → PlainNames → PlainOutcome
-with_names_meant o names = record { symbols = o.symbols; scope = names; decls = o.decls; rigid = o.rigid; matches = o.matches }
+with_names_meant o names = record {
+  symbols = o.symbols;
+  scope = names;
+  decls = o.decls;
+  rigid =
+      o.rigid;
+  matches = o.matches;
+}
 
 -- an outcome over a later store is a plain one but for its names, which mean those of the plain one
 pub record IsPlainly (Is : PlainOutcome → Type 0) (s : List Tree) (o : Outcome) : Type 0 where

@@ -1,5 +1,6 @@
--- What a name means in scopes: each scope is a list of entries, and a name stands for an entry of the signature or for a type, a scope
--- or a proposition (Why3 manual, "namespaces"; type aliases). An alias stands for its type, as a tree.
+-- What a name means in scopes: each scope is a list of entries, and a name stands for an entry of
+-- the signature or for a type, a scope or a proposition (Why3 manual, "namespaces"; type aliases).
+-- An alias stands for its type, as a tree.
 use Rattle.std.specs.Prelude.{ℕ, Bool, true, false, cond, ◌&&◌, ◌||◌, List, [], ◌∷◌, ◌++◌, length, get_or, set, codes, Option, Some, None, option_map}
 use Rattle.std.specs.Str.{bytes_eq}
 use Rattle.name_resolution.specs.scopes.Names.{same_table, table_before, first_or_zero, rest_of_numbers}
@@ -8,15 +9,17 @@ use Rattle.name_resolution.specs.scopes.declared.Table.TheVariants.{Types, Symbo
 use Rattle.name_resolution.specs.Where.{MeaningTree, Stands, Abbreviates}
 use Rattle.elab_groups.specs.surface.Lexeme.{Word}
 
--- a name in a table: what it stands for, and whether the scope declared it or has it by an import. What a name of the table of scopes
--- stands for is a scope, by its number; in the table of types alone a name abbreviates a type
+-- a name in a table: what it stands for, and whether the scope declared it or has it by an import.
+-- What a name of the table of scopes stands for is a scope, by its number; in the table of types
+-- alone a name abbreviates a type
 pub record PlainEntry : Type 0 where
   pub table : Table
   pub name : Word
   pub thing : MeaningTree
   pub declared : Bool
 
--- the entries of every scope by its number, latest first, and the numbers of the open scopes, innermost first
+-- the entries of every scope by its number, latest first, and the numbers of the open scopes,
+-- innermost first
 pub record PlainNames : Type 0 where
   pub entries : List (List PlainEntry)
   pub nested : List ℕ
@@ -28,12 +31,14 @@ is_entry_of table name e = same_table table e.table && bytes_eq e.name name
 -- what the latest entry with this name in this table stands for
 abbrev pub plain_latest : Table → Word → List PlainEntry → Option MeaningTree
 plain_latest table name [] = None
-plain_latest table name (e ∷ es) = cond (is_entry_of table name e) (Some e.thing) (plain_latest table name es)
+plain_latest table name (e ∷ es) =
+    cond (is_entry_of table name e) (Some e.thing) (plain_latest table name es)
 
 -- whether the name was declared in this table
 abbrev pub has_declared : Table → Word → List PlainEntry → Bool
 has_declared table name [] = false
-has_declared table name (e ∷ es) = (is_entry_of table name e && e.declared) || has_declared table name es
+has_declared table name (e ∷ es) =
+    (is_entry_of table name e && e.declared) || has_declared table name es
 
 -- the entries of the scope with this number
 abbrev pub plain_entries : PlainNames → ℕ → List PlainEntry
@@ -54,7 +59,9 @@ plain_or (Some thing) more = Some thing
 -- what a name without qualifiers stands for: the first of these scopes that has it decides
 abbrev pub plain_first : Table → Word → List (List PlainEntry) → List ℕ → Option MeaningTree
 plain_first table name entries [] = None
-plain_first table name entries (number ∷ numbers) = plain_or (plain_latest table name (get_or entries number [])) (plain_first table name entries numbers)
+plain_first table name entries (number ∷ numbers) =
+    plain_or (plain_latest table name (get_or entries number []))
+    (plain_first table name entries numbers)
 
 -- the number of an entry or of a scope
 abbrev pub stood_for : MeaningTree → ℕ
@@ -62,15 +69,20 @@ stood_for (Stands k) = k
 stood_for (Abbreviates n t) = 0
 
 -- the search goes on in the found scope's own entries
-abbrev pub plain_within : List (List PlainEntry) → Table → Option MeaningTree → List Word → Option MeaningTree
+abbrev pub plain_within : List (List PlainEntry) → Table → Option MeaningTree → List Word
+    → Option MeaningTree
 plain_within entries table found [] = found
 plain_within entries table None (name ∷ names) = None
-plain_within entries table (Some thing) (name ∷ names) = plain_within entries table (plain_latest (table_before table names) name (get_or entries (stood_for thing) [])) names
+plain_within entries table (Some thing) (name ∷ names) =
+    plain_within entries table
+    (plain_latest (table_before table names) name (get_or entries (stood_for thing) [])) names
 
 -- what a name stands for, its qualifiers before it
 abbrev pub plain_find : PlainNames → Table → List Word → Option MeaningTree
 plain_find s table [] = None
-plain_find s table (name ∷ names) = plain_within s.entries table (plain_first (table_before table names) name s.entries s.nested) names
+plain_find s table (name ∷ names) =
+    plain_within s.entries table
+    (plain_first (table_before table names) name s.entries s.nested) names
 
 -- the entry for which a symbol's name after its scopes stands
 abbrev pub plain_symbol : PlainNames → List Word → Word → Option ℕ
@@ -92,7 +104,12 @@ no_plain_names = record { entries = [] ∷ []; nested = 0 ∷ [] }
 -- a further name of the innermost scope
 abbrev pub with_plain_name : Table → Word → MeaningTree → Bool → PlainNames → PlainNames
 with_plain_name table name thing declared s =
-    record { entries = set s.entries (plain_innermost s) (record { table = table; name = name; thing = thing; declared = declared } ∷ plain_entries s (plain_innermost s)); nested = s.nested }
+    record {
+      entries = set s.entries (plain_innermost s)
+          (record { table = table; name = name; thing = thing; declared = declared }
+          ∷ plain_entries s (plain_innermost s));
+      nested = s.nested;
+    }
 
 -- one that the innermost scope declares, and that stands for an entry
 abbrev pub with_plain_entry : Table → Word → ℕ → PlainNames → PlainNames

@@ -1,4 +1,5 @@
--- What the elaboration of each kind of declaration gives, or its first fault (Why3 manual, "logical declarations").
+-- What the elaboration of each kind of declaration gives, or its first fault (Why3 manual, "logical
+-- declarations").
 use Rattle.std.specs.Prelude.{◌≡◌, ℕ, suc, ◌+◌, true, false, List, [], ◌∷◌, ◌++◌, map, length, Option, None}
 use Rattle.elab_groups.specs.tasks.trees.Tree.{Tree}
 use Rattle.elab_groups.specs.tasks.Task.{SymbolTree, AlgebraicTree, MakesType, Constructs, Says}
@@ -29,16 +30,24 @@ abbrev pub plain_type_outcome : PlainSetting → TokenName → ℕ → PlainOutc
 plain_type_outcome c x n = record {
   symbols = type_entry c.theory (plain_full_name c x) n ∷ [];
   scope = with_plain_entry Types x.name (length c.symbols) c.scope;
-  decls = record { theory = c.theory; name = plain_full_name c x; vars = n; body = MakesType (length c.symbols) } ∷ [];
+  decls = record {
+    theory = c.theory;
+    name = plain_full_name c x;
+    vars = n;
+    body =
+        MakesType (length c.symbols);
+  } ∷ [];
   rigid = [];
   matches = [];
 }
 
 -- ---- an alias, which is no declaration and no entry: its name abbreviates its type
 abbrev pub aliased_type : PlainSetting → List TokenName → TypeExpression → Tree
-aliased_type c vs f = type_at (plain_over (c.symbols ++ plain_tuples c (alias_seen f)) c.scope (words vs)) f
+aliased_type c vs f =
+    type_at (plain_over (c.symbols ++ plain_tuples c (alias_seen f)) c.scope (words vs)) f
 
-abbrev pub plain_alias_outcome : PlainSetting → TokenName → List TokenName → TypeExpression → PlainOutcome
+abbrev pub plain_alias_outcome : PlainSetting → TokenName → List TokenName → TypeExpression
+    → PlainOutcome
 plain_alias_outcome c x vs f = record {
   symbols = plain_tuples c (alias_seen f);
   scope = with_plain_name Types x.name (Abbreviates (length vs) (aliased_type c vs f)) true c.scope;
@@ -56,27 +65,43 @@ plain_first_constructor c ts = plain_first_type c ts + length ts
 
 abbrev pub with_plain_constructors : ℕ → List AlgebraicConstructor → PlainNames → PlainNames
 with_plain_constructors n [] names = names
-with_plain_constructors n (k ∷ ks) names = with_plain_constructors (n + (count_forms k.fields + 1)) ks (with_plain_entry Symbols k.called.name n names)
+with_plain_constructors n (k ∷ ks) names =
+    with_plain_constructors (n + (count_forms k.fields + 1)) ks
+    (with_plain_entry Symbols k.called.name n names)
 
 -- the types stand for the entries from i on, their constructors for those from n on
 abbrev pub with_plain_types : ℕ → ℕ → List AlgebraicType → PlainNames → PlainNames
 with_plain_types i n [] names = names
-with_plain_types i n (a ∷ ts) names = with_plain_types (i + 1) (n + entry_count a.constructors) ts (with_plain_constructors n a.constructors (with_plain_entry Types a.called.name i names))
+with_plain_types i n (a ∷ ts) names =
+    with_plain_types (i + 1) (n + entry_count a.constructors) ts
+    (with_plain_constructors n a.constructors (with_plain_entry Types a.called.name i names))
 
 abbrev pub plain_type_names : PlainSetting → List AlgebraicType → PlainNames
-plain_type_names c ts = with_plain_types (plain_first_type c ts) (plain_first_constructor c ts) ts c.scope
+plain_type_names c ts =
+    with_plain_types (plain_first_type c ts) (plain_first_constructor c ts) ts c.scope
 
 abbrev pub plain_inside_types : PlainSetting → List AlgebraicType → Where
-plain_inside_types c ts = plain_over (c.symbols ++ (plain_tuples c (group_seen ts) ++ type_entries c.theory c.within ts)) (plain_type_names c ts) []
+plain_inside_types c ts = plain_over
+    (c.symbols ++ (plain_tuples c (group_seen ts) ++ type_entries c.theory c.within ts))
+    (plain_type_names c ts) []
 
 abbrev pub plain_type_trees : PlainSetting → List AlgebraicType → List AlgebraicTree
-plain_type_trees c ts = algebraic_trees (plain_inside_types c ts) (plain_first_type c ts) (plain_first_constructor c ts) ts
+plain_type_trees c ts = algebraic_trees (plain_inside_types c ts) (plain_first_type c ts)
+    (plain_first_constructor c ts) ts
 
 abbrev pub plain_types_outcome : PlainSetting → List AlgebraicType → PlainOutcome
 plain_types_outcome c ts = record {
-  symbols = plain_tuples c (group_seen ts) ++ (type_entries c.theory c.within ts ++ group_entries c.theory c.within ts (plain_type_trees c ts));
+  symbols = plain_tuples c (group_seen ts)
+      ++ (type_entries c.theory c.within ts
+      ++ group_entries c.theory c.within ts (plain_type_trees c ts));
   scope = plain_type_names c ts;
-  decls = record { theory = c.theory; name = c.within ++ first_name ts; vars = first_vars ts; body = Constructs (plain_type_trees c ts) } ∷ [];
+  decls = record {
+    theory = c.theory;
+    name = c.within ++ first_name ts;
+    vars = first_vars ts;
+    body =
+        Constructs (plain_type_trees c ts);
+  } ∷ [];
   rigid = [];
   matches = [];
 }
@@ -85,15 +110,20 @@ plain_types_outcome c ts = record {
 abbrev pub plain_signatures : PlainSetting → List SymbolTree → List GroupMember → List SignatureTree
 plain_signatures c before ms = map (signature_of (plain_over before c.scope [])) ms
 
-abbrev pub plain_member_entries : PlainSetting → List SymbolTree → List GroupMember → List SymbolTree
-plain_member_entries c before ms = signed_entries c.theory c.within ms (plain_signatures c before ms)
+abbrev pub plain_member_entries : PlainSetting → List SymbolTree → List GroupMember
+    → List SymbolTree
+plain_member_entries c before ms =
+    signed_entries c.theory c.within ms (plain_signatures c before ms)
 
 abbrev pub with_plain_members : ℕ → List GroupMember → PlainNames → PlainNames
 with_plain_members k [] names = names
-with_plain_members k (m ∷ ms) names = with_plain_members (suc k) ms (with_plain_entry Symbols m.called.name k names)
+with_plain_members k (m ∷ ms) names =
+    with_plain_members (suc k) ms (with_plain_entry Symbols m.called.name k names)
 
-abbrev pub plain_inside_group : PlainSetting → List SymbolTree → List GroupMember → PlainNames → Where
-plain_inside_group c before ms names = plain_over (before ++ plain_member_entries c before ms) names []
+abbrev pub plain_inside_group : PlainSetting → List SymbolTree → List GroupMember
+    → PlainNames → Where
+plain_inside_group c before ms names =
+    plain_over (before ++ plain_member_entries c before ms) names []
 
 -- ---- a group of functions, predicates and constants: the entries of its tuples, then those of its members
 abbrev pub plain_group_tuples : PlainSetting → List GroupMember → List SymbolTree
@@ -113,50 +143,73 @@ plain_within_group c ms = plain_inside_group c (plain_before_group c ms) ms (pla
 
 pub record IsPlainGroup (c : PlainSetting) (ms : List GroupMember) (o : PlainOutcome) : Type 0 where
   pub bodies : List Tree
-  pub solved : BodiesSolved (plain_within_group c ms) ms (plain_group_signatures c ms) bodies o.matches
-  pub symbols : o.symbols ≡ plain_group_tuples c ms ++ plain_member_entries c (plain_before_group c ms) ms
+  pub solved : BodiesSolved (plain_within_group c ms) ms (plain_group_signatures c ms) bodies
+      o.matches
+  pub symbols : o.symbols ≡ plain_group_tuples c ms
+      ++ plain_member_entries c (plain_before_group c ms) ms
   pub scope : o.scope ≡ plain_group_scope c ms
-  pub decls : o.decls ≡ group_decls c.theory c.within ms (length (plain_before_group c ms)) (plain_group_signatures c ms) bodies
+  pub decls : o.decls ≡ group_decls c.theory c.within ms (length (plain_before_group c ms))
+      (plain_group_signatures c ms) bodies
   pub rigid : o.rigid ≡ []
 
 -- ---- a group of inductive predicates: the entries of its tuples, then those of its predicates; the names of its clauses stand for the
 -- declaration's number
 abbrev pub with_plain_clauses : ℕ → List InductiveClause → PlainNames → PlainNames
 with_plain_clauses n [] names = names
-with_plain_clauses n (c ∷ cs) names = with_plain_clauses n cs (with_plain_entry Propositions c.called.name n names)
+with_plain_clauses n (c ∷ cs) names =
+    with_plain_clauses n cs (with_plain_entry Propositions c.called.name n names)
 
 abbrev pub with_plain_inductives : ℕ → ℕ → List InductivePredicate → PlainNames → PlainNames
 with_plain_inductives n k [] names = names
-with_plain_inductives n k (d ∷ ds) names = with_plain_inductives n (suc k) ds (with_plain_clauses n d.clauses (with_plain_entry Symbols d.called.name k names))
+with_plain_inductives n k (d ∷ ds) names =
+    with_plain_inductives n (suc k) ds
+    (with_plain_clauses n d.clauses (with_plain_entry Symbols d.called.name k names))
 
 abbrev pub plain_before_inductives : PlainSetting → List InductivePredicate → List SymbolTree
 plain_before_inductives c ds = c.symbols ++ plain_tuples c (inductives_seen unseen ds)
 
 abbrev pub plain_inductives_scope : PlainSetting → List InductivePredicate → PlainNames
-plain_inductives_scope c ds = with_plain_inductives c.decl (length (plain_before_inductives c ds)) ds c.scope
+plain_inductives_scope c ds =
+    with_plain_inductives c.decl (length (plain_before_inductives c ds)) ds c.scope
 
 abbrev pub plain_within_inductives : PlainSetting → List InductivePredicate → Where
-plain_within_inductives c ds = plain_inside_group c (plain_before_inductives c ds) (as_members ds) (plain_inductives_scope c ds)
+plain_within_inductives c ds =
+    plain_inside_group c (plain_before_inductives c ds) (as_members ds)
+    (plain_inductives_scope c ds)
 
-pub record IsPlainInductives (c : PlainSetting) (ds : List InductivePredicate) (o : PlainOutcome) : Type 0 where
+pub record IsPlainInductives (c : PlainSetting) (ds : List InductivePredicate)
+    (o : PlainOutcome) : Type 0 where
   pub clauses : List Tree
-  pub solved : BodiesSolved (plain_within_inductives c ds) (formula_members ds) (clause_signatures ds) clauses o.matches
-  pub symbols : o.symbols ≡ plain_tuples c (inductives_seen unseen ds) ++ plain_member_entries c (plain_before_inductives c ds) (as_members ds)
+  pub solved : BodiesSolved (plain_within_inductives c ds) (formula_members ds)
+      (clause_signatures ds) clauses o.matches
+  pub symbols : o.symbols ≡ plain_tuples c (inductives_seen unseen ds)
+      ++ plain_member_entries c (plain_before_inductives c ds) (as_members ds)
   pub scope : o.scope ≡ plain_inductives_scope c ds
-  pub decls : o.decls ≡ inductive_decls c.theory c.within ds (length (plain_before_inductives c ds)) clauses
+  pub decls : o.decls ≡ inductive_decls c.theory c.within ds
+      (length (plain_before_inductives c ds)) clauses
   pub rigid : o.rigid ≡ []
 
 -- ---- a proposition
 abbrev pub plain_piece : PlainSetting → Expression → NotedTree
-plain_piece c e = piece (plain_tupled c (proposition_seen e)) [] (length (proposition_seen e).vars) None e
+plain_piece c e =
+    piece (plain_tupled c (proposition_seen e)) [] (length (proposition_seen e).vars) None e
 
-pub record IsPlainProposition (c : PlainSetting) (k : PropKind) (x : TokenName) (e : Expression) (o : PlainOutcome) : Type 0 where
+pub record IsPlainProposition (c : PlainSetting) (k : PropKind) (x : TokenName) (e : Expression)
+    (o : PlainOutcome) : Type 0 where
   pub formula : Tree
   pub solved : IsSolved (length (proposition_seen e).vars) (plain_piece c e) formula o.matches
-  pub symbols : o.symbols ≡ plain_tuples c (proposition_seen e) ++ map rigid_symbol (rigid_names k (proposition_seen e).vars)
+  pub symbols : o.symbols ≡ plain_tuples c (proposition_seen e)
+      ++ map rigid_symbol (rigid_names k (proposition_seen e).vars)
   pub scope : o.scope ≡ with_plain_entry Propositions x.name c.decl c.scope
-  pub rigid : o.rigid ≡ entry_numbers (length (c.symbols ++ plain_tuples c (proposition_seen e))) (rigid_names k (proposition_seen e).vars)
-  pub decls : o.decls ≡ record { theory = c.theory; name = plain_full_name c x; vars = schematic k (proposition_seen e).vars; body = Says (said_as k o.rigid formula) } ∷ []
+  pub rigid : o.rigid ≡ entry_numbers (length (c.symbols ++ plain_tuples c (proposition_seen e)))
+      (rigid_names k (proposition_seen e).vars)
+  pub decls : o.decls ≡ record {
+    theory = c.theory;
+    name = plain_full_name c x;
+    vars =
+        schematic k (proposition_seen e).vars;
+    body = Says (said_as k o.rigid formula);
+  } ∷ []
 
 -- ---- all
 abbrev pub IsPlainOutcome : PlainSetting → Declaration → PlainOutcome → Type 0
@@ -178,13 +231,17 @@ plain_used_fault c _ = None
 
 -- of those that it makes, and then of those that it uses
 abbrev pub plain_names_fault : PlainSetting → Declaration → Option NamingFault
-plain_names_fault c d = first_of (made_fault (is_plain_declared c.scope) [] (made_names d)) (plain_used_fault c d)
+plain_names_fault c d =
+    first_of (made_fault (is_plain_declared c.scope) [] (made_names d)) (plain_used_fault c d)
 
 -- the notes of its type equations, and the number of its own type variables
 abbrev pub plain_notes : PlainSetting → Declaration → Notes
 plain_notes c (proposition_declaration k x e) = (plain_piece c e).notes
-plain_notes c (member_group ms) = pieces_notes (bodies_pieces (plain_within_group c ms) ms (plain_group_signatures c ms))
-plain_notes c (inductive ds) = pieces_notes (bodies_pieces (plain_within_inductives c ds) (formula_members ds) (clause_signatures ds))
+plain_notes c (member_group ms) =
+    pieces_notes (bodies_pieces (plain_within_group c ms) ms (plain_group_signatures c ms))
+plain_notes c (inductive ds) =
+    pieces_notes (bodies_pieces (plain_within_inductives c ds) (formula_members ds)
+    (clause_signatures ds))
 plain_notes c _ = no_notes
 
 abbrev pub plain_rigid : PlainSetting → Declaration → ℕ
@@ -195,4 +252,5 @@ plain_rigid c _ = 0
 
 -- its first fault
 abbrev pub IsPlainRefusal : PlainSetting → Declaration → ElabFault → Type 0
-IsPlainRefusal c d f = IsRefusalFor c.decl (plain_names_fault c d) (plain_rigid c d) (plain_notes c d) f
+IsPlainRefusal c d f =
+    IsRefusalFor c.decl (plain_names_fault c d) (plain_rigid c d) (plain_notes c d) f

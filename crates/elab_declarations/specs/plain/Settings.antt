@@ -1,4 +1,5 @@
--- Where a declaration stands, what names mean there, and what it gives (Why3 manual, "logical declarations").
+-- Where a declaration stands, what names mean there, and what it gives (Why3 manual, "logical
+-- declarations").
 use Rattle.std.specs.Prelude.{ℕ, List, ◌++◌}
 use Rattle.elab_groups.specs.tasks.trees.Tree.{Tree}
 use Rattle.elab_groups.specs.tasks.Task.{SymbolTree, DeclarationTree}
@@ -17,8 +18,8 @@ pub record PlainSetting : Type 0 where
   pub symbols : List SymbolTree
   pub scope : PlainNames
 
--- what it gives: further entries, the scopes with the names that it makes, declarations, the entries of its rigid type variables,
--- and its matches in reading order
+-- what it gives: further entries, the scopes with the names that it makes, declarations, the
+-- entries of its rigid type variables, and its matches in reading order
 pub record PlainOutcome : Type 0 where
   pub symbols : List SymbolTree
   pub scope : PlainNames
@@ -28,7 +29,15 @@ pub record PlainOutcome : Type 0 where
 
 -- what names mean over a signature
 abbrev pub plain_over : List SymbolTree → PlainNames → List Word → Where
-plain_over symbols names vars = record { symbols = symbols; types = plain_type names; names = plain_symbol names; tuples = tuple_in symbols; vars = vars }
+plain_over symbols names vars =
+    record {
+      symbols = symbols;
+      types = plain_type names;
+      names = plain_symbol names;
+      tuples =
+          tuple_in symbols;
+      vars = vars;
+    }
 
 -- before the declaration
 abbrev pub plain_around : PlainSetting → List Word → Where

@@ -1,5 +1,5 @@
--- Algebraic types: what a group of them makes, and the first fault of its names (Why3 manual, "logical declarations"). The types
--- of a group see each other.
+-- Algebraic types: what a group of them makes, and the first fault of its names (Why3 manual,
+-- "logical declarations"). The types of a group see each other.
 use Rattle.std.specs.Prelude.{◌≡◌, ℕ, ◌+◌, Bool, true, List, [], ◌∷◌, ◌++◌, map, length, Option, None}
 use Rattle.trees.specs.Tree.{Tree}
 use Rattle.tasks.specs.Task.{SymbolTree, ConstructorTree, AlgebraicTree, Constructs}
@@ -74,12 +74,16 @@ numbering_from n (t ∷ ts) = n ∷ numbering_from (n + 1) ts
 -- ---- names
 abbrev pub with_constructors : ℕ → List AlgebraicConstructor → ScopeNames → ScopeNames
 with_constructors n [] names = names
-with_constructors n (k ∷ ks) names = with_constructors (n + (count_forms k.fields + 1)) ks (with_entry Symbols k.called.name n true names)
+with_constructors n (k ∷ ks) names =
+    with_constructors (n + (count_forms k.fields + 1)) ks
+    (with_entry Symbols k.called.name n true names)
 
 -- the types stand for the entries from i on, their constructors for those from n on
 abbrev pub with_types : ℕ → ℕ → List AlgebraicType → ScopeNames → ScopeNames
 with_types i n [] names = names
-with_types i n (a ∷ ts) names = with_types (i + 1) (n + entry_count a.constructors) ts (with_constructors n a.constructors (with_entry Types a.called.name i true names))
+with_types i n (a ∷ ts) names =
+    with_types (i + 1) (n + entry_count a.constructors) ts
+    (with_constructors n a.constructors (with_entry Types a.called.name i true names))
 
 abbrev pub group_names : Setting → List AlgebraicType → ScopeNames
 group_names c ts = with_types (first_type c ts) (first_constructor c ts) ts c.scope
@@ -87,34 +91,51 @@ group_names c ts = with_types (first_type c ts) (first_constructor c ts) ts c.sc
 -- ---- entries of the types
 abbrev pub type_entries : Word → Word → List AlgebraicType → List SymbolTree
 type_entries theory within [] = []
-type_entries theory within (a ∷ ts) = type_entry theory (within ++ a.called.name) (length a.vars) ∷ type_entries theory within ts
+type_entries theory within (a ∷ ts) =
+    type_entry theory (within ++ a.called.name) (length a.vars) ∷ type_entries theory within ts
 
 -- what names mean where the names of the group are there
 abbrev pub inside_types : Setting → List AlgebraicType → Where
-inside_types c ts = over c.trees (c.symbols ++ (tuples_wanting c (group_seen ts) ++ type_entries c.theory c.within ts)) (group_names c ts) []
+inside_types c ts = over c.trees
+    (c.symbols ++ (tuples_wanting c (group_seen ts) ++ type_entries c.theory c.within ts))
+    (group_names c ts) []
 
 -- ---- the types with their constructors
 abbrev pub constructor_trees : Where → ℕ → List AlgebraicConstructor → List ConstructorTree
 constructor_trees w n [] = []
-constructor_trees w n (k ∷ ks) = record { symbol = n; fields = types_at w k.fields; projections = numbering_from (n + 1) (types_at w k.fields) } ∷ constructor_trees w (n + (count_forms k.fields + 1)) ks
+constructor_trees w n (k ∷ ks) =
+    record {
+      symbol = n;
+      fields = types_at w k.fields;
+      projections =
+          numbering_from (n + 1) (types_at w k.fields);
+    }
+    ∷ constructor_trees w (n + (count_forms k.fields + 1)) ks
 
 abbrev pub algebraic_trees : Where → ℕ → ℕ → List AlgebraicType → List AlgebraicTree
 algebraic_trees w i n [] = []
-algebraic_trees w i n (a ∷ ts) = record { symbol = i; cons = constructor_trees (with_vars w (words a.vars)) n a.constructors } ∷ algebraic_trees w (i + 1) (n + entry_count a.constructors) ts
+algebraic_trees w i n (a ∷ ts) =
+    record { symbol = i; cons = constructor_trees (with_vars w (words a.vars)) n a.constructors }
+    ∷ algebraic_trees w (i + 1) (n + entry_count a.constructors) ts
 
 abbrev pub group_trees : Setting → List AlgebraicType → List AlgebraicTree
 group_trees c ts = algebraic_trees (inside_types c ts) (first_type c ts) (first_constructor c ts) ts
 
 -- ---- entries of the constructors, each before its projections
-abbrev pub constructors_entries : Word → Word → ℕ → Tree → List AlgebraicConstructor → List ConstructorTree → List SymbolTree
+abbrev pub constructors_entries : Word → Word → ℕ → Tree → List AlgebraicConstructor
+    → List ConstructorTree → List SymbolTree
 constructors_entries theory within vars type [] cs = []
 constructors_entries theory within vars type (k ∷ ks) [] = []
-constructors_entries theory within vars type (k ∷ ks) (c ∷ cs) = constructor_entries theory (within ++ k.called.name) vars type c.fields ++ constructors_entries theory within vars type ks cs
+constructors_entries theory within vars type (k ∷ ks) (c ∷ cs) =
+    constructor_entries theory (within ++ k.called.name) vars type c.fields
+    ++ constructors_entries theory within vars type ks cs
 
 abbrev pub group_entries : Word → Word → List AlgebraicType → List AlgebraicTree → List SymbolTree
 group_entries theory within [] ys = []
 group_entries theory within (a ∷ ts) [] = []
-group_entries theory within (a ∷ ts) (y ∷ ys) = constructors_entries theory within (length a.vars) (own_type y.symbol (length a.vars)) a.constructors y.cons ++ group_entries theory within ts ys
+group_entries theory within (a ∷ ts) (y ∷ ys) =
+    constructors_entries theory within (length a.vars) (own_type y.symbol (length a.vars))
+    a.constructors y.cons ++ group_entries theory within ts ys
 
 -- ---- what a group makes
 -- a declaration has the name and the type variables of its first type
@@ -128,9 +149,17 @@ first_vars (a ∷ ts) = length a.vars
 
 abbrev pub group_outcome : Setting → List AlgebraicType → Outcome
 group_outcome c ts = record {
-  symbols = tuples_wanting c (group_seen ts) ++ (type_entries c.theory c.within ts ++ group_entries c.theory c.within ts (group_trees c ts));
+  symbols = tuples_wanting c (group_seen ts)
+      ++ (type_entries c.theory c.within ts
+      ++ group_entries c.theory c.within ts (group_trees c ts));
   scope = group_names c ts;
-  decls = record { theory = c.theory; name = c.within ++ first_name ts; vars = first_vars ts; body = Constructs (group_trees c ts) } ∷ [];
+  decls = record {
+    theory = c.theory;
+    name = c.within ++ first_name ts;
+    vars = first_vars ts;
+    body =
+        Constructs (group_trees c ts);
+  } ∷ [];
   rigid = [];
   matches = [];
 }
@@ -142,8 +171,11 @@ group_made names ts = made_fault (declared_in names) [] (made_type_names ts)
 abbrev pub type_group_fault : Setting → List AlgebraicType → Option NamingFault
 type_group_fault c ts = first_of (group_made c.scope ts) (types_fault (inside_types c ts) ts)
 
-abbrev pub AreTypesElaborated : Setting → List AlgebraicType → Signature → List Tree → Signature → ScopeNames → Elaborated → Type 0
-AreTypesElaborated c ts g s' g' scope' made = IsElaboratedAs (λ (o : Outcome). o ≡ group_outcome c ts) (type_group_fault c ts) c.symbols g s' g' scope' made
+abbrev pub AreTypesElaborated : Setting → List AlgebraicType → Signature → List Tree → Signature
+    → ScopeNames → Elaborated → Type 0
+AreTypesElaborated c ts g s' g' scope' made =
+    IsElaboratedAs (λ (o : Outcome). o ≡ group_outcome c ts) (type_group_fault c ts) c.symbols g s'
+    g' scope' made
 
 -- it has no type equations
 abbrev pub IsTypesRefusal : Setting → List AlgebraicType → ElabFault → Type 0
@@ -151,15 +183,22 @@ IsTypesRefusal c ts f = IsRefusalFor c.decl (type_group_fault c ts) 0 no_notes f
 
 -- ---- the names that it makes, by those that it made before in each table
 -- a constructor that the scope declared, or that the group made before
-abbrev pub constructors_made : (Word → Bool) → List Word → List AlgebraicConstructor → Option NamingFault
+abbrev pub constructors_made : (Word → Bool) → List Word → List AlgebraicConstructor
+    → Option NamingFault
 constructors_made declared before [] = None
-constructors_made declared before (k ∷ ks) = first_of (name_made (declared k.called.name) before k.called) (constructors_made declared (before ++ k.called.name ∷ []) ks)
+constructors_made declared before (k ∷ ks) =
+    first_of (name_made (declared k.called.name) before k.called)
+    (constructors_made declared (before ++ k.called.name ∷ []) ks)
 
 abbrev pub constructor_words : List AlgebraicConstructor → List Word
 constructor_words ks = map (λ (k : AlgebraicConstructor). k.called.name) ks
 
-abbrev pub types_made : (Table → Word → Bool) → List Word → List Word → List AlgebraicType → Option NamingFault
+abbrev pub types_made : (Table → Word → Bool) → List Word → List Word → List AlgebraicType
+    → Option NamingFault
 types_made declared types constructors [] = None
 types_made declared types constructors (a ∷ ts) =
     first_of (name_made (declared Types a.called.name) types a.called)
-    (first_of (list_fault [] a.vars) (first_of (constructors_made (declared Symbols) constructors a.constructors) (types_made declared (types ++ a.called.name ∷ []) (constructors ++ constructor_words a.constructors) ts)))
+    (first_of (list_fault [] a.vars)
+    (first_of (constructors_made (declared Symbols) constructors a.constructors)
+    (types_made declared (types ++ a.called.name ∷ [])
+    (constructors ++ constructor_words a.constructors) ts)))

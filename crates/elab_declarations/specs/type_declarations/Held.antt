@@ -1,4 +1,5 @@
--- Algebraic types in code: each field is a type of the store, and has the type variables of its own type alone.
+-- Algebraic types in code: each field is a type of the store, and has the type variables of its own
+-- type alone.
 use Rattle.std.specs.Prelude.{ℕ, List, [], ◌∷◌, All, length}
 use Rattle.trees.specs.Tree.{Tree}
 use Rattle.trees.specs.Facts.{TyVarsBelow}

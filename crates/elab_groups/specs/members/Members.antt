@@ -1,5 +1,6 @@
--- The members of a group of functions, predicates and constants: what they see, their signatures, the entries and the names that
--- they make, and the first fault of the names that they use (Why3 manual, "logical declarations"). They see each other.
+-- The members of a group of functions, predicates and constants: what they see, their signatures,
+-- the entries and the names that they make, and the first fault of the names that they use (Why3
+-- manual, "logical declarations"). They see each other.
 use Rattle.std.specs.Prelude.{◌≡◌, ℕ, suc, Bool, true, false, ◌||◌, List, [], ◌∷◌, ◌++◌, map, reverse, length, Option, Some, None, option_map}
 use Rattle.std.specs.Option.{is_none, is_some}
 use Rattle.trees.specs.Tree.{Tree}
@@ -30,7 +31,8 @@ body_seen s (Some e) = seen s e
 
 abbrev pub members_seen : SeenTree → List GroupMember → SeenTree
 members_seen s [] = s
-members_seen s (m ∷ ms) = members_seen (body_seen (type_seen (params_seen s m.params) m.result) m.body) ms
+members_seen s (m ∷ ms) =
+    members_seen (body_seen (type_seen (params_seen s m.params) m.result) m.body) ms
 
 -- ---- signatures: type variables, and the types of parameters and of a result
 pub record SignatureTree : Type 0 where
@@ -52,7 +54,12 @@ parameter_types w (p ∷ ps) = type_copies (type_at w p.of_type) p.names ++ para
 abbrev pub signature_of : Where → GroupMember → SignatureTree
 signature_of w m =
     let v = with_vars w (own_variables m) in
-    record { vars = own_variables m; args = parameter_types v m.params; result = option_map (type_at v) m.result }
+    record {
+      vars = own_variables m;
+      args = parameter_types v m.params;
+      result =
+          option_map (type_at v) m.result;
+    }
 
 -- a parameter without names is one that no name can mean, since a name of a source has a character
 abbrev pub parameter_words : List TokenName → List Word
@@ -73,7 +80,15 @@ abbrev pub signed_entries : Word → Word → List GroupMember → List Signatur
 signed_entries theory within [] gs = []
 signed_entries theory within (m ∷ ms) [] = []
 signed_entries theory within (m ∷ ms) (g ∷ gs) =
-    record { theory = theory; name = within ++ m.called.name; kind = symbol_kind_of m.result; vars = length g.vars; args = g.args; result = g.result } ∷ signed_entries theory within ms gs
+    record {
+      theory = theory;
+      name = within ++ m.called.name;
+      kind = symbol_kind_of m.result;
+      vars =
+          length g.vars;
+      args = g.args;
+      result = g.result;
+    } ∷ signed_entries theory within ms gs
 
 -- after these entries
 abbrev pub signature_trees : Setting → List SymbolTree → List GroupMember → List SignatureTree
@@ -85,7 +100,8 @@ member_entries c before ms = signed_entries c.theory c.within ms (signature_tree
 -- the members' names stand for the entries from a place on
 abbrev pub with_members : ℕ → List GroupMember → ScopeNames → ScopeNames
 with_members k [] names = names
-with_members k (m ∷ ms) names = with_members (suc k) ms (with_entry Symbols m.called.name k true names)
+with_members k (m ∷ ms) names =
+    with_members (suc k) ms (with_entry Symbols m.called.name k true names)
 
 -- what names mean where the members' entries come after these, in scopes that have their names
 abbrev pub inside_group : Setting → List SymbolTree → List GroupMember → ScopeNames → Where
@@ -94,19 +110,25 @@ inside_group c before ms names = over c.trees (before ++ member_entries c before
 -- ---- the first fault of names
 -- the name of a member that the scope declared or that is before it, and then its parameters
 abbrev pub member_made : (Word → Bool) → List Word → TokenName → List Parameter → Option NamingFault
-member_made declared before c ps = first_of (fault_if (declared c.name || is_some (place_of c.name before)) (Duplicate c.at)) (list_fault [] (names_of_parameters ps))
+member_made declared before c ps =
+    first_of (fault_if (declared c.name || is_some (place_of c.name before)) (Duplicate c.at))
+    (list_fault [] (names_of_parameters ps))
 
 abbrev pub members_made : (Word → Bool) → List Word → List GroupMember → Option NamingFault
 members_made declared before [] = None
-members_made declared before (m ∷ ms) = first_of (member_made declared before m.called m.params) (members_made declared (before ++ m.called.name ∷ []) ms)
+members_made declared before (m ∷ ms) =
+    first_of (member_made declared before m.called m.params)
+    (members_made declared (before ++ m.called.name ∷ []) ms)
 
 -- of those that are used, where the members are there
 abbrev pub body_fault : Where → GroupMember → List Word → Option Expression → Option NamingFault
 body_fault w m vars None = None
-body_fault w m vars (Some e) = fault (with_vars w vars) false (reverse (words_of_parameters m.params)) (is_none m.result) e
+body_fault w m vars (Some e) =
+    fault (with_vars w vars) false (reverse (words_of_parameters m.params)) (is_none m.result) e
 
 abbrev pub member_fault : Where → GroupMember → Option NamingFault
-member_fault w m = first_of (params_fault w m.params) (first_of (type_fault w true m.result) (body_fault w m (own_variables m) m.body))
+member_fault w m = first_of (params_fault w m.params)
+    (first_of (type_fault w true m.result) (body_fault w m (own_variables m) m.body))
 
 abbrev pub members_fault : Where → List GroupMember → Option NamingFault
 members_fault w [] = None

@@ -31,21 +31,30 @@ abbrev pub result_form : Option TypeTree → Option TypeExpression
 result_form t = option_map type_expression_of t
 
 abbrev pub member_at : MemberSource → GroupMember
-member_at m = record { called = symbol (declared_name m.name.now); params = parameters_of m.params.now; result = result_form (option_copied m.result); body = option_map expression_of (option_copied m.body) }
+member_at m = record {
+  called = symbol (declared_name m.name.now);
+  params =
+      parameters_of m.params.now;
+  result = result_form (option_copied m.result);
+  body =
+      option_map expression_of (option_copied m.body);
+}
 
 abbrev pub members_at : List MemberSource → List GroupMember
 members_at ms = map member_at ms
 
 -- ---- signatures
 abbrev pub signed_at : List Tree → Signed → SignatureTree
-signed_at s it = record { vars = it.vars; args = trees_at s it.args; result = option_map (tree_at s) it.result }
+signed_at s it =
+    record { vars = it.vars; args = trees_at s it.args; result = option_map (tree_at s) it.result }
 
 pub record SignedHeld (s : List Tree) (it : Signed) : Type 0 where
   pub args : All (HoldsType s) it.args
   pub result : IfSome it.result (HoldsType s)
 
 -- the entries of members are made after others, whether their names are there or not
-pub record IsEntered (c : Setting) (before : List SymbolTree) (ms : List GroupMember) (g : Signature) (s' : List Tree) (g' : Signature) (it : Signatures) : Type 0 where
+pub record IsEntered (c : Setting) (before : List SymbolTree) (ms : List GroupMember)
+    (g : Signature) (s' : List Tree) (g' : Signature) (it : Signatures) : Type 0 where
   pub number : it.number ≡ length before
   pub held : All (SignedHeld s') it.list.items
   pub signed : map (signed_at s') it.list.items ≡ signature_trees c before ms
@@ -61,7 +70,8 @@ pub record IsScopedSignature (g : SignatureTree) : Type 0 where
   pub args : AllByRecursion (TyVarsBelow (length g.vars)) g.args
   pub result : IfSome g.result (TyVarsBelow (length g.vars))
 
--- the body of a member has no fault of names; it has a type for each parameter, and a result where one is due
+-- the body of a member has no fault of names; it has a type for each parameter, and a result where
+-- one is due
 pub record IsResolved (w : Where) (m : GroupMember) (g : SignatureTree) : Type 0 where
   pub right : body_fault w m g.vars m.body ≡ None
   pub count : length g.args ≡ length (words_of_parameters m.params)

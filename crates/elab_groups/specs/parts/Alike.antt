@@ -1,5 +1,5 @@
--- Places at which names mean alike: a name stands for entries of one kind with as many arguments, and for types with as many type
--- variables. The first fault of names asks for no more.
+-- Places at which names mean alike: a name stands for entries of one kind with as many arguments,
+-- and for types with as many type variables. The first fault of names asks for no more.
 use Rattle.std.specs.Prelude.{◌≡◌, ℕ, List, length, option_map}
 use Rattle.tasks.specs.Task.{SymbolTree, symbol_or}
 use Rattle.tasks.specs.declared.signature.SymbolKind.{SymbolKind}
@@ -15,12 +15,16 @@ pub record EntryShape : Type 0 where
   pub count : ℕ
 
 abbrev pub shape : List SymbolTree → ℕ → EntryShape
-shape symbols k = record { kind = (symbol_or symbols k).kind; count = length (symbol_or symbols k).args }
+shape symbols k =
+    record { kind = (symbol_or symbols k).kind; count = length (symbol_or symbols k).args }
 
 pub record TypesAlike (w v : Where) : Type 0 where
-  pub types : (qs : List Word) (x : Word) → option_map (meaning_arity w.symbols) (w.types qs x) ≡ option_map (meaning_arity v.symbols) (v.types qs x)
+  pub types : (qs : List Word) (x : Word)
+      → option_map (meaning_arity w.symbols) (w.types qs x)
+      ≡ option_map (meaning_arity v.symbols) (v.types qs x)
   pub vars : w.vars ≡ v.vars
 
 pub record AreScopesAlike (w v : Where) : Type 0 where
   pub forms : TypesAlike w v
-  pub names : (qs : List Word) (x : Word) → option_map (shape w.symbols) (w.names qs x) ≡ option_map (shape v.symbols) (v.names qs x)
+  pub names : (qs : List Word) (x : Word)
+      → option_map (shape w.symbols) (w.names qs x) ≡ option_map (shape v.symbols) (v.names qs x)

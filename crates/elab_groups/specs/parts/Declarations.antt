@@ -1,4 +1,5 @@
--- Declarations in abstract syntax: what each makes, and its first fault of names (Why3 manual, "logical declarations").
+-- Declarations in abstract syntax: what each makes, and its first fault of names (Why3 manual,
+-- "logical declarations").
 use Rattle.std.specs.Prelude.{ℕ, Bool, true, false, cond, ◌||◌, List, [], ◌∷◌, ◌++◌, map, Option, Some, None, option_map}
 use Rattle.std.specs.Option.{is_some}
 use Rattle.std.specs.Str.{bytes_eq}
@@ -75,27 +76,65 @@ abbrev pub parameter_of : source.ParamGroup → Parameter
 parameter_of p = record { names = map word p.names; of_type = type_expression p.of_type }
 
 abbrev pub group_member : source.Member → GroupMember
-group_member m = record { called = symbol m.name; params = map parameter_of m.params; result = option_map type_expression m.result; body = Some (expression m.body) }
+group_member m = record {
+  called = symbol m.name;
+  params = map parameter_of m.params;
+  result =
+      option_map type_expression m.result;
+  body = Some (expression m.body);
+}
 
 abbrev pub constructor : source.Constructor → AlgebraicConstructor
 constructor c = record { called = word c.name; fields = type_expressions c.fields }
 
 abbrev pub algebraic_type : source.Algebraic → AlgebraicType
-algebraic_type a = record { called = word a.name; vars = map word a.vars; constructors = map constructor a.constructors }
+algebraic_type a = record {
+  called = word a.name;
+  vars = map word a.vars;
+  constructors =
+      map constructor a.constructors;
+}
 
 abbrev pub clause : source.Clause → InductiveClause
 clause c = record { called = symbol c.name; prop = expression c.prop }
 
 abbrev pub inductive_predicate : source.Inductive → InductivePredicate
-inductive_predicate d = record { called = symbol d.name; params = map parameter_of d.params; clauses = map clause d.clauses }
+inductive_predicate d = record {
+  called = symbol d.name;
+  params =
+      map parameter_of d.params;
+  clauses = map clause d.clauses;
+}
 
 abbrev pub declaration : source.SyntaxDeclaration → Option Declaration
 declaration (source.type_decl a n vs None) = Some (abstract_type (word n) (map word vs))
-declaration (source.type_decl a n vs (Some f)) = Some (alias (word n) (map word vs) (type_expression f))
+declaration (source.type_decl a n vs (Some f)) =
+    Some (alias (word n) (map word vs) (type_expression f))
 declaration (source.algebraic_decl a ts) = Some (algebraic (map algebraic_type ts))
-declaration (source.function_decl a c ps f e ms) = Some (member_group (record { called = symbol c; params = map parameter_of ps; result = Some (type_expression f); body = option_map expression e } ∷ map group_member ms))
-declaration (source.predicate_decl a c ps e ms) = Some (member_group (record { called = symbol c; params = map parameter_of ps; result = None; body = option_map expression e } ∷ map group_member ms))
-declaration (source.constant_decl a c f e) = Some (member_group (record { called = symbol c; params = []; result = Some (type_expression f); body = option_map expression e } ∷ []))
+declaration (source.function_decl a c ps f e ms) =
+    Some (member_group (record {
+      called = symbol c;
+      params = map parameter_of ps;
+      result =
+          Some (type_expression f);
+      body = option_map expression e;
+    } ∷ map group_member ms))
+declaration (source.predicate_decl a c ps e ms) =
+    Some (member_group (record {
+      called = symbol c;
+      params = map parameter_of ps;
+      result =
+          None;
+      body = option_map expression e;
+    } ∷ map group_member ms))
+declaration (source.constant_decl a c f e) =
+    Some (member_group (record {
+      called = symbol c;
+      params = [];
+      result =
+          Some (type_expression f);
+      body = option_map expression e;
+    } ∷ []))
 declaration (source.inductive_decl a ds) = Some (inductive (map inductive_predicate ds))
 declaration (source.prop_decl a k c e) = Some (proposition_declaration k (symbol c) (expression e))
 declaration _ = None
@@ -115,18 +154,22 @@ made_by_constructors cs = map (λ (c : AlgebraicConstructor). makes Symbols c.ca
 
 abbrev pub made_type_names : List AlgebraicType → List Made
 made_type_names [] = []
-made_type_names (a ∷ ts) = makes Types a.called ∷ binds_names a.vars ∷ (made_by_constructors a.constructors ++ made_type_names ts)
+made_type_names (a ∷ ts) = makes Types a.called ∷ binds_names a.vars
+    ∷ (made_by_constructors a.constructors ++ made_type_names ts)
 
 abbrev pub made_by_members : List GroupMember → List Made
 made_by_members [] = []
-made_by_members (m ∷ ms) = makes Symbols m.called ∷ binds_names (names_of_parameters m.params) ∷ made_by_members ms
+made_by_members (m ∷ ms) =
+    makes Symbols m.called ∷ binds_names (names_of_parameters m.params) ∷ made_by_members ms
 
 abbrev pub made_by_clauses : List InductiveClause → List Made
 made_by_clauses cs = map (λ (c : InductiveClause). makes Propositions c.called) cs
 
 abbrev pub made_by_inductives : List InductivePredicate → List Made
 made_by_inductives [] = []
-made_by_inductives (d ∷ ds) = makes Symbols d.called ∷ binds_names (names_of_parameters d.params) ∷ (made_by_clauses d.clauses ++ made_by_inductives ds)
+made_by_inductives (d ∷ ds) =
+    makes Symbols d.called ∷ binds_names (names_of_parameters d.params)
+    ∷ (made_by_clauses d.clauses ++ made_by_inductives ds)
 
 abbrev pub made_names : Declaration → List Made
 made_names (abstract_type c vs) = makes Types c ∷ binds_names vs ∷ []
@@ -139,18 +182,24 @@ made_names (proposition_declaration k c e) = makes Propositions c ∷ []
 -- the second of two equal names in a list
 abbrev pub list_fault : List Word → List TokenName → Option NamingFault
 list_fault seen [] = None
-list_fault seen (c ∷ cs) = first_of (fault_if (is_some (place_of c.name seen)) (Duplicate c.at)) (list_fault (seen ++ c.name ∷ []) cs)
+list_fault seen (c ∷ cs) = first_of (fault_if (is_some (place_of c.name seen)) (Duplicate c.at))
+    (list_fault (seen ++ c.name ∷ []) cs)
 
 abbrev pub made_before : Table → Word → List Made → Bool
 made_before table x [] = false
-made_before table x (makes t c ∷ ms) = cond (same_table table t) (bytes_eq c.name x || made_before table x ms) (made_before table x ms)
+made_before table x (makes t c ∷ ms) =
+    cond (same_table table t) (bytes_eq c.name x || made_before table x ms) (made_before table x ms)
 made_before table x (binds_names cs ∷ ms) = made_before table x ms
 
--- the first name that the scope declared before, that the declaration made before, or that occurs twice in a list of parameters
+-- the first name that the scope declared before, that the declaration made before, or that occurs
+-- twice in a list of parameters
 abbrev pub made_fault : (Table → Word → Bool) → List Made → List Made → Option NamingFault
 made_fault declared before [] = None
-made_fault declared before (makes t c ∷ ms) = first_of (fault_if (declared t c.name || made_before t c.name before) (Duplicate c.at)) (made_fault declared (makes t c ∷ before) ms)
-made_fault declared before (binds_names cs ∷ ms) = first_of (list_fault [] cs) (made_fault declared (binds_names cs ∷ before) ms)
+made_fault declared before (makes t c ∷ ms) =
+    first_of (fault_if (declared t c.name || made_before t c.name before) (Duplicate c.at))
+    (made_fault declared (makes t c ∷ before) ms)
+made_fault declared before (binds_names cs ∷ ms) =
+    first_of (list_fault [] cs) (made_fault declared (binds_names cs ∷ before) ms)
 
 -- ---- type variables
 abbrev pub words : List TokenName → List Word
@@ -167,9 +216,11 @@ signature_variables ps r = (type_seen (params_seen unseen ps) r).vars
 abbrev pub own_variables : GroupMember → List Word
 own_variables m = signature_variables m.params m.result
 
--- a clause has the type variables of its predicate in their order, then its others by first appearance
+-- a clause has the type variables of its predicate in their order, then its others by first
+-- appearance
 abbrev pub clause_variables : InductivePredicate → InductiveClause → List Word
-clause_variables d c = (seen (record { vars = signature_variables d.params None; widths = [] }) c.prop).vars
+clause_variables d c =
+    (seen (record { vars = signature_variables d.params None; widths = [] }) c.prop).vars
 
 abbrev pub with_vars : Where → List Word → Where
 with_vars w vs = record w { vars = vs }
@@ -185,7 +236,8 @@ constructors_fault w (c ∷ cs) = first_of (forms_fault w false c.fields) (const
 
 abbrev pub types_fault : Where → List AlgebraicType → Option NamingFault
 types_fault w [] = None
-types_fault w (a ∷ ts) = first_of (constructors_fault (with_vars w (words a.vars)) a.constructors) (types_fault w ts)
+types_fault w (a ∷ ts) =
+    first_of (constructors_fault (with_vars w (words a.vars)) a.constructors) (types_fault w ts)
 
 -- the parameters of an inductive predicate aren't variables of its clauses
 abbrev pub clauses_fault : Where → List InductiveClause → Option NamingFault
@@ -194,4 +246,6 @@ clauses_fault w (c ∷ cs) = first_of (fault w true [] true c.prop) (clauses_fau
 
 abbrev pub inductives_fault : Where → List InductivePredicate → Option NamingFault
 inductives_fault w [] = None
-inductives_fault w (d ∷ ds) = first_of (params_fault w d.params) (first_of (clauses_fault w d.clauses) (inductives_fault w ds))
+inductives_fault w (d ∷ ds) =
+    first_of (params_fault w d.params)
+    (first_of (clauses_fault w d.clauses) (inductives_fault w ds))

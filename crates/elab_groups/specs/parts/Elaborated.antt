@@ -1,4 +1,5 @@
--- Type equations of a declaration: when they determine its trees, and their first fault (rank-1 polymorphism; most general types).
+-- Type equations of a declaration: when they determine its trees, and their first fault (rank-1
+-- polymorphism; most general types).
 use Rattle.std.specs.Prelude.{◌≡◌, ℕ, ◌+◌, ◌<◌, List, [], take, map, length, slice_get, Some}
 use Rattle.tasks.specs.trees.Tree.{Tree}
 use Rattle.open_types.specs.unify_types.Assigned.{assign}
@@ -15,7 +16,8 @@ use Rattle.elab_groups.specs.declared.parts.solution.TypingFault.TheVariants as 
 
 -- all solutions by types agree at an unknown
 abbrev pub IsFixedUnknown : ℕ → List (Tree × Tree) → ℕ → Type 0
-IsFixedUnknown rigid es u = (f g : ℕ → Tree) → IsSolution rigid f es → IsSolution rigid g es → f u ≡ g u
+IsFixedUnknown rigid es u =
+    (f g : ℕ → Tree) → IsSolution rigid f es → IsSolution rigid g es → f u ≡ g u
 
 -- there is a solution, and all agree at each unknown that is taken
 pub record IsDetermined (rigid : ℕ) (ns : Notes) : Type 0 where
@@ -28,19 +30,26 @@ matches_assigned rigid f ms = map (λ (m : ℕ × List Tree). (m.0, map (assign 
 
 -- the matches at every solution
 abbrev pub AreMatches : ℕ → Notes → List (ℕ × List Tree) → Type 0
-AreMatches rigid ns ms = (f : ℕ → Tree) → IsSolution rigid f ns.equations → matches_assigned rigid f ns.matches ≡ ms
+AreMatches rigid ns ms =
+    (f : ℕ → Tree) → IsSolution rigid f ns.equations → matches_assigned rigid f ns.matches ≡ ms
 
--- the tree and the matches of a piece at every solution of its equations, of which there is one in effect
-pub record IsSolved (rigid : ℕ) (p : NotedTree) (e : Tree) (ms : List (ℕ × List Tree)) : Type 0 where
+-- the tree and the matches of a piece at every solution of its equations, of which there is one in
+-- effect
+pub record IsSolved (rigid : ℕ) (p : NotedTree) (e : Tree)
+    (ms : List (ℕ × List Tree)) : Type 0 where
   pub determined : IsDetermined rigid p.notes
   pub tree : (f : ℕ → Tree) → IsSolution rigid f p.notes.equations → assign rigid f p.tree ≡ e
   pub matches : AreMatches rigid p.notes ms
 
--- the least prefix without a solution; the node that takes the first unknown at which solutions differ
+-- the least prefix without a solution; the node that takes the first unknown at which solutions
+-- differ
 abbrev pub IsTypingFault : ℕ → Notes → TypingFault → Type 0
 IsTypingFault rigid ns types.Memory = Unit {0}
-IsTypingFault rigid ns (types.Clash k) = (k < length ns.equations) × IsUnsolvable rigid (take (k + 1) ns.equations) × IsSolvable rigid (take k ns.equations)
-IsTypingFault rigid ns (types.Undetermined token) = (i : ℕ) × (slice_get ns.takers i ≡ Some token) × IsLeftOpen rigid ns.equations (rigid + i)
+IsTypingFault rigid ns (types.Clash k) =
+    (k < length ns.equations) × IsUnsolvable rigid (take (k + 1) ns.equations)
+    × IsSolvable rigid (take k ns.equations)
+IsTypingFault rigid ns (types.Undetermined token) =
+    (i : ℕ) × (slice_get ns.takers i ≡ Some token) × IsLeftOpen rigid ns.equations (rigid + i)
     × ((j : ℕ) → j < i → IsFixedUnknown rigid ns.equations (rigid + j))
 
 -- ---- names and faults

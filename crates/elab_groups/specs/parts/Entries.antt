@@ -1,4 +1,5 @@
--- What a signature and scopes keep, and the entries of a signature (Why3 manual, "logical declarations").
+-- What a signature and scopes keep, and the entries of a signature (Why3 manual, "logical
+-- declarations").
 use Rattle.std.specs.Prelude.{◌≡◌, ℕ, ◌<◌, List, ◌++◌, slice_get, All, Some}
 use Rattle.tasks.specs.trees.Tree.{Tree}
 use Rattle.tasks.specs.trees.Node.{tree_at}
@@ -24,7 +25,8 @@ pub record IsSignature (s : List Tree) (is : List SymbolInfo) : Type 0 where
   pub scoped : All IsScopedEntry (symbols_at s is)
 
 -- further entries come after those of a signature, which else stays
-pub record IsExtended (s : List Tree) (g : Signature) (s' : List Tree) (g' : Signature) (more : List SymbolTree) : Type 0 where
+pub record IsExtended (s : List Tree) (g : Signature) (s' : List Tree) (g' : Signature)
+    (more : List SymbolTree) : Type 0 where
   pub symbols : symbols_at s' g'.symbols ≡ symbols_at s g.symbols ++ more
   pub signature : IsSignature s' g'.symbols
   pub ints : g'.ints ≡ g.ints
@@ -32,7 +34,8 @@ pub record IsExtended (s : List Tree) (g : Signature) (s' : List Tree) (g' : Sig
 -- a name of a type stands for one of so many entries, or for a type at its own type variables
 abbrev pub IsTypeNameMeaning : List Tree → ℕ → TypeName → Type 0
 IsTypeNameMeaning s count (stands.Entry k) = k < count
-IsTypeNameMeaning s count (stands.Alias vars ty) = HoldsType s (record { 0 = ty }) × TyVarsBelow vars (tree_at s (record { 0 = ty }))
+IsTypeNameMeaning s count (stands.Alias vars ty) =
+    HoldsType s (record { 0 = ty }) × TyVarsBelow vars (tree_at s (record { 0 = ty }))
 
 abbrev pub IsThing : List Tree → ℕ → Table → TypeName → Type 0
 IsThing s count Types thing = IsTypeNameMeaning s count thing

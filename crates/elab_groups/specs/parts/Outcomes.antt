@@ -1,5 +1,5 @@
--- What the elaboration of a declaration gives where it is, or its first fault (Why3 manual, "logical declarations"). Each kind of
--- declaration says by these what it makes.
+-- What the elaboration of a declaration gives where it is, or its first fault (Why3 manual,
+-- "logical declarations"). Each kind of declaration says by these what it makes.
 use Rattle.std.specs.Prelude.{◌≡◌, ℕ, Bool, true, All, List, ◌++◌, map, length, Option, Some, None, option_map}
 use Rattle.tasks.specs.trees.Tree.{Tree, Leaf, HTyRigid}
 use Rattle.tasks.specs.Task.{SymbolTree, DeclarationTree}
@@ -24,7 +24,8 @@ use Rattle.elab_groups.specs.parts.Elaborated.{IsTypingFault, elab_naming_fault,
 use Rattle.elab_groups.specs.parts.Entries.{tuple_in, wanting_tuples, IsSignature, AreScopes}
 use Rattle.elab_groups.specs.parts.Declarations.{TokenName}
 
--- where a declaration stands: its theory's path, the names of the open scopes, its number, the store, the signature and the scopes
+-- where a declaration stands: its theory's path, the names of the open scopes, its number, the
+-- store, the signature and the scopes
 pub record Setting : Type 0 where
   pub theory : Word
   pub within : Word
@@ -33,8 +34,8 @@ pub record Setting : Type 0 where
   pub symbols : List SymbolTree
   pub scope : ScopeNames
 
--- what it gives: further entries, the scopes with the names that it makes, declarations, the entries of its rigid type variables,
--- and its matches in reading order
+-- what it gives: further entries, the scopes with the names that it makes, declarations, the
+-- entries of its rigid type variables, and its matches in reading order
 pub record Outcome : Type 0 where
   pub symbols : List SymbolTree
   pub scope : ScopeNames
@@ -75,14 +76,21 @@ abbrev pub IsNameRefused : Bool → ℕ → NamingFault → Type 0
 IsNameRefused declared token names.Memory = Unit {0}
 IsNameRefused declared token f = (declared ≡ true) × (f ≡ names.Duplicate token)
 
--- The first fault of the declaration of a number: of these names, or of types where no name is at fault. Want of memory tells nothing
-pub data IsRefusalFor (decl : ℕ) (first : Option NamingFault) (rigid : ℕ) (ns : Notes) (f : ElabFault) : Type 0 where
+-- The first fault of the declaration of a number: of these names, or of types where no name is at
+-- fault. Want of memory tells nothing
+pub data IsRefusalFor (decl : ℕ) (first : Option NamingFault) (rigid : ℕ) (ns : Notes)
+    (f : ElabFault) : Type 0 where
   wants_memory : f ≡ elab.Memory → IsRefusalFor decl first rigid ns f
-  of_names : (g : NamingFault) → f ≡ elab_naming_fault decl g → first ≡ Some g → IsRefusalFor decl first rigid ns f
-  of_types : (g : TypingFault) → f ≡ elab_typing_fault decl g → first ≡ None → IsTypingFault rigid ns g → IsRefusalFor decl first rigid ns f
+  of_names : (g : NamingFault) → f ≡ elab_naming_fault decl g → first ≡ Some g
+      → IsRefusalFor decl first rigid ns f
+  of_types : (g : TypingFault) → f ≡ elab_typing_fault decl g → first ≡ None
+      → IsTypingFault rigid ns g → IsRefusalFor decl first rigid ns f
 
--- A declaration without a fault of names gives an outcome: what is made, and what the signature and the scopes have then
-pub record IsElaboratedAs (Is : Outcome → Type 0) (first : Option NamingFault) (symbols : List SymbolTree) (g : Signature) (s' : List Tree) (g' : Signature) (scope' : ScopeNames) (made : Elaborated) : Type 0 where
+-- A declaration without a fault of names gives an outcome: what is made, and what the signature and
+-- the scopes have then
+pub record IsElaboratedAs (Is : Outcome → Type 0) (first : Option NamingFault)
+    (symbols : List SymbolTree) (g : Signature) (s' : List Tree) (g' : Signature)
+    (scope' : ScopeNames) (made : Elaborated) : Type 0 where
   pub outcome : Outcome
   pub is : Is outcome
   pub named : first ≡ None
@@ -94,17 +102,35 @@ pub record IsElaboratedAs (Is : Outcome → Type 0) (first : Option NamingFault)
   pub matches : map (match_at s') made.matches ≡ outcome.matches
 
 -- what is made is held, and the signature and the scopes are kept well
-pub record IsKept (s : List Tree) (g : Signature) (names : ScopeNames) (made : Elaborated) : Type 0 where
+pub record IsKept (s : List Tree) (g : Signature) (names : ScopeNames)
+    (made : Elaborated) : Type 0 where
   pub signature : IsSignature s g.symbols
   pub scopes : AreScopes s (length g.symbols) names
   pub decls : All (DeclHeld s) made.decls
   pub matches : All (MatchHeld s) made.matches
 
 abbrev pub setting : Place → List Tree → Signature → ScopeNames → Setting
-setting p s g names = record { theory = p.theory.now; within = p.within.now; decl = p.decl; trees = s; symbols = symbols_at s g.symbols; scope = names }
+setting p s g names = record {
+  theory = p.theory.now;
+  within = p.within.now;
+  decl = p.decl;
+  trees =
+      s;
+  symbols = symbols_at s g.symbols;
+  scope = names;
+}
 
 abbrev pub setting_where : Word → Word → ℕ → List Tree → Signature → ScopeNames → Setting
-setting_where theory within at s g names = record { theory = theory; within = within; decl = at; trees = s; symbols = symbols_at s g.symbols; scope = names }
+setting_where theory within at s g names =
+    record {
+      theory = theory;
+      within = within;
+      decl = at;
+      trees = s;
+      symbols =
+          symbols_at s g.symbols;
+      scope = names;
+    }
 
 abbrev pub rigid_types : List ℕ → List Tree
 rigid_types ks = map (λ k. Leaf (HTyRigid k)) ks

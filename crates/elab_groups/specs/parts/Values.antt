@@ -22,10 +22,12 @@ use Rattle.open_types.specs.declared.unify_types.UnifyFault.TheVariants as unify
 
 -- the values of a solution are types
 abbrev pub AreKinds : List Tree → ℕ → Solution → Type 0
-AreKinds s rigid solution = (u : ℕ) (id : TermId) → rigid ≤ u → value_of solution u ≡ Some id → Holds s id × (sort_of (tree_at s id) ≡ Kind)
+AreKinds s rigid solution = (u : ℕ) (id : TermId) → rigid ≤ u → value_of solution u ≡ Some id
+    → Holds s id × (sort_of (tree_at s id) ≡ Kind)
 
 -- the declaration's own type variable, or the value of an unknown
-pub record IsValueAt (s : List Tree) (rigid : ℕ) (solution : Solution) (i : ℕ) (id : TermId) : Type 0 where
+pub record IsValueAt (s : List Tree) (rigid : ℕ) (solution : Solution) (i : ℕ)
+    (id : TermId) : Type 0 where
   pub own : i < rigid → tree_at s id ≡ Leaf (HTyVar i)
   pub value : rigid ≤ i → value_of solution i ≡ Some id
 
@@ -33,26 +35,31 @@ abbrev pub IsTypeNumbered : List Tree → ℕ → Solution → ℕ → Option Te
 IsTypeNumbered s rigid solution i None = (rigid ≤ i) × (value_of solution i ≡ None)
 IsTypeNumbered s rigid solution i (Some id) = HoldsType s id × IsValueAt s rigid solution i id
 
-pub record AreSolutionValues (s : List Tree) (rigid : ℕ) (solution : Solution) (n : ℕ) (types : List TermId) : Type 0 where
+pub record AreSolutionValues (s : List Tree) (rigid : ℕ) (solution : Solution) (n : ℕ)
+    (types : List TermId) : Type 0 where
   pub count : length types ≡ n
   pub held : All (HoldsType s) types
   pub values : (i : ℕ) (d : TermId) → i < n → IsValueAt s rigid solution i (get_or types i d)
 
 -- the notes after so many takers, which are the declaration's own type variables
 abbrev pub notes_after : ℕ → Notes → Notes
-notes_after rigid ns = record { equations = ns.equations; takers = drop rigid ns.takers; matches = ns.matches }
+notes_after rigid ns =
+    record { equations = ns.equations; takers = drop rigid ns.takers; matches = ns.matches }
 
 -- the types of all type variables at every solution, by their numbers
-pub record AreSolvedTypes (s : List Tree) (rigid : ℕ) (ns : Notes) (types : List TermId) : Type 0 where
+pub record AreSolvedTypes (s : List Tree) (rigid : ℕ) (ns : Notes)
+    (types : List TermId) : Type 0 where
   pub determined : IsDetermined rigid ns
   pub held : All (HoldsType s) types
   pub count : length types ≡ rigid + taken ns
-  pub each : (f : ℕ → Tree) → IsSolution rigid f ns.equations → (j : ℕ) → j < length types → get_or (trees_at s types) j (TyVar j) ≡ assign rigid f (TyVar j)
+  pub each : (f : ℕ → Tree) → IsSolution rigid f ns.equations → (j : ℕ) → j < length types
+      → get_or (trees_at s types) j (TyVar j) ≡ assign rigid f (TyVar j)
 
 -- the first unknown without a value, and the token of the node that takes it
 abbrev pub IsFirstOpen : ℕ → Solution → List ℕ → TypingFault → Type 0
 IsFirstOpen rigid solution takers Memory = Unit {0}
-IsFirstOpen rigid solution takers (Undetermined token) = (i : ℕ) × (rigid ≤ i) × (slice_get takers i ≡ Some token) × (value_of solution i ≡ None)
+IsFirstOpen rigid solution takers (Undetermined token) =
+    (i : ℕ) × (rigid ≤ i) × (slice_get takers i ≡ Some token) × (value_of solution i ≡ None)
     × ((j : ℕ) → rigid ≤ j → j < i → (id : TermId) × (value_of solution j ≡ Some id))
 IsFirstOpen rigid solution takers _ = ⊥
 

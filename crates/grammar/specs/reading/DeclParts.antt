@@ -40,7 +40,8 @@ pub data ParamPart : Type 0 where
   param_names : List Name → SyntaxForm → ParamPart
   param_types : SyntaxForms → ParamPart
 
--- after a parenthesis and a name: other names and the type, or the arguments of the type with that name and other types
+-- after a parenthesis and a name: other names and the type, or the arguments of the type with that
+-- name and other types
 pub data NamePart : Type 0 where
   name_names : List Name → SyntaxForm → NamePart
   name_types : SyntaxForms → SyntaxForms → NamePart
@@ -83,13 +84,15 @@ abbrev pub new_constructor : Name → FieldsPart → Constructor
 new_constructor n p = record { name = n; fields = p.fields }
 
 abbrev pub with_constructor : Bool → Name → FieldsPart → ConPart
-with_constructor b n p = record { bar = b; constructors = new_constructor n p ∷ p.constructors; others = p.others }
+with_constructor b n p =
+    record { bar = b; constructors = new_constructor n p ∷ p.constructors; others = p.others }
 
 abbrev pub new_algebraic : Name → List Name → ConPart → Algebraic
 new_algebraic n vs c = record { name = n; vars = vs; bar = c.bar; constructors = c.constructors }
 
 abbrev pub upper_type : ℕ → Word → UpperPart → TypePart
-upper_type i w (scope_of d ts) = is_alias (composed (at i) (called i (w ∷ d.scopes) (lower d.last)) ts)
+upper_type i w (scope_of d ts) =
+    is_alias (composed (at i) (called i (w ∷ d.scopes) (lower d.last)) ts)
 upper_type i w (fields_of p) = is_algebraic (with_constructor false (name i w) p)
 
 abbrev pub typed_as : At → Name → List Name → Option TypePart → SyntaxDeclaration
@@ -106,7 +109,8 @@ lone i w = composed (at i) (called i [] (lower w)) no_forms
 
 abbrev pub behind_paren : ℕ → Word → NamePart → ParamPart
 behind_paren i w (name_names ns f) = param_names (name i w ∷ ns) f
-behind_paren i w (name_types ts fs) = param_types (more_forms (composed (at i) (called i [] (lower w)) ts) fs)
+behind_paren i w (name_types ts fs) =
+    param_types (more_forms (composed (at i) (called i [] (lower w)) ts) fs)
 
 abbrev pub name_before : ℕ → Word → NamePart → NamePart
 name_before i w (name_names ns f) = name_names (name i w ∷ ns) f
@@ -119,7 +123,8 @@ abbrev pub new_inductive : Called → List ParamGroup → ClausePart → Inducti
 new_inductive c ps p = record { name = c; params = ps; bar = p.bar; clauses = p.rest.clauses }
 
 abbrev pub with_clause : Called → SyntaxTree → ClausesPart → ClausesPart
-with_clause c e p = record { clauses = record { name = c; prop = e } ∷ p.clauses; others = p.others }
+with_clause c e p =
+    record { clauses = record { name = c; prop = e } ∷ p.clauses; others = p.others }
 
 abbrev pub path_on : ℕ → Word → Path → Path
 path_on i w p = record { at = i; parts = w ∷ p.parts }

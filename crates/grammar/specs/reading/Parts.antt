@@ -94,7 +94,8 @@ scope_own w (Some d) = record { scopes = w ∷ d.scopes; own = d.own }
 abbrev pub dotted_name : ℕ → Scoped → Called
 dotted_name i d = called i d.scopes d.own
 
--- after the first pattern of an alternative: its other patterns, other alternatives, the body and other branches
+-- after the first pattern of an alternative: its other patterns, other alternatives, the body and
+-- other branches
 pub record ArmPart : Type 0 where
   pub patterns : SyntaxForms
   pub alternatives : List SyntaxForms
@@ -143,10 +144,22 @@ abbrev pub binder_with : Name → BinderPart → TypedBinder
 binder_with n b = binds (n ∷ b.names) b.of_type
 
 abbrev pub next_pattern : SyntaxForm → ArmPart → ArmPart
-next_pattern p a = record { patterns = more_forms p a.patterns; alternatives = a.alternatives; body = a.body; others = a.others }
+next_pattern p a = record {
+  patterns = more_forms p a.patterns;
+  alternatives =
+      a.alternatives;
+  body = a.body;
+  others = a.others;
+}
 
 abbrev pub next_alternative : SyntaxForm → ArmPart → ArmPart
-next_alternative p a = record { patterns = no_forms; alternatives = more_forms p a.patterns ∷ a.alternatives; body = a.body; others = a.others }
+next_alternative p a = record {
+  patterns = no_forms;
+  alternatives =
+      more_forms p a.patterns ∷ a.alternatives;
+  body = a.body;
+  others = a.others;
+}
 
 abbrev pub next_term : Bool → SyntaxTree → TermsPart → TermsPart
 next_term b e p = record { terms = more e p.terms; bars = b ∷ p.bars; body = p.body }

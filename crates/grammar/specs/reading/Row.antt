@@ -99,16 +99,34 @@ pub record ReadingRow (s : Symbol) : Type 0 where
   pub flat : (k : List Symbol) → behind k ≡ symbols ++ k
   pub act : (k : List Symbol) → ℕ → Word → Vals (behind k) → Val s × Vals k
 
-abbrev pub row : (s : Symbol) → Terminal → (ss : List Symbol) → (ℕ → Word → Vals ss → Val s) → ReadingRow s
-row s x ss f = record { first = x; behind = λ k. ss ++ k; symbols = ss; flat = λ k. refl; act = λ k i w vs. (f i w (front ss k vs), back ss k vs) }
+abbrev pub row : (s : Symbol) → Terminal → (ss : List Symbol) → (ℕ → Word → Vals ss → Val s)
+    → ReadingRow s
+row s x ss f = record {
+  first = x;
+  behind = λ k. ss ++ k;
+  symbols = ss;
+  flat = λ k. refl;
+  act =
+      λ k i w vs. (f i w (front ss k vs), back ss k vs);
+}
 
 -- What another rule reads, and symbols after it.
-abbrev pub then_row : (s a : Symbol) (ss : List Symbol) → (Val a → Vals ss → Val s) → ReadingRow a → ReadingRow s
-then_row s a ss f r = record { first = r.first; behind = λ k. r.behind (ss ++ k); symbols = r.symbols ++ ss; flat = λ k. r.flat (ss ++ k) ∙ sym (append_assoc r.symbols ss k); act = λ k i w vs. joined k (r.act (ss ++ k) i w vs) }
+abbrev pub then_row : (s a : Symbol) (ss : List Symbol) → (Val a → Vals ss → Val s) → ReadingRow a
+    → ReadingRow s
+then_row s a ss f r = record {
+  first = r.first;
+  behind = λ k. r.behind (ss ++ k);
+  symbols =
+      r.symbols ++ ss;
+  flat = λ k. r.flat (ss ++ k) ∙ sym (append_assoc r.symbols ss k);
+  act =
+      λ k i w vs. joined k (r.act (ss ++ k) i w vs);
+}
   where
     joined : (k : List Symbol) → Val a × Vals (ss ++ k) → Val s × Vals k
     joined k v = (f v.0 (front ss k v.1), back ss k v.1)
 
-abbrev pub extend : (s a : Symbol) (ss : List Symbol) → (Val a → Vals ss → Val s) → List (ReadingRow a) → List (ReadingRow s)
+abbrev pub extend : (s a : Symbol) (ss : List Symbol) → (Val a → Vals ss → Val s)
+    → List (ReadingRow a) → List (ReadingRow s)
 extend s a ss f [] = []
 extend s a ss f (r ∷ rs) = then_row s a ss f r ∷ extend s a ss f rs

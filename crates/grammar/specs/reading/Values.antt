@@ -38,18 +38,24 @@ abbrev pub find : {s : Symbol} → List (ReadingRow s) → Terminal → Option (
 find [] x = None
 find (r ∷ rs) x = cond (same r.first x) (Some r) (find rs x)
 
-abbrev pub with_blank : (s : Symbol) (k : List Symbol) → Option (Val s) → Option (Vals k) → Option (Val s × Vals k)
+abbrev pub with_blank : (s : Symbol) (k : List Symbol) → Option (Val s) → Option (Vals k)
+    → Option (Val s × Vals k)
 with_blank s k (Some v) (Some vs) = Some (v, vs)
 with_blank s k None r = None
 with_blank s k (Some v) None = None
 
-abbrev pub by_row : (s : Symbol) (k : List Symbol) → ((k : List Symbol) → Option (Vals k)) → ℕ → Word → Option (ReadingRow s) → Option (Val s × Vals k) → Option (Val s × Vals k)
+abbrev pub by_row : (s : Symbol) (k : List Symbol) → ((k : List Symbol) → Option (Vals k)) → ℕ
+    → Word → Option (ReadingRow s) → Option (Val s × Vals k) → Option (Val s × Vals k)
 by_row s k rest i w (Some r) other = option_map (λ vs. r.act k i w vs) (rest (r.behind k))
 by_row s k rest i w None other = other
 
-abbrev pub values_over : ((k : List Symbol) → Option (Vals k)) → ℕ → Lexeme → Bool → (k : List Symbol) → Option (Vals k)
+abbrev pub values_over : ((k : List Symbol) → Option (Vals k)) → ℕ → Lexeme → Bool
+    → (k : List Symbol) → Option (Vals k)
 values_over rest i x b [] = None
-values_over rest i x b (s ∷ k) = cond (sealed b s) (with_blank s k (blank s) (values_over rest i x true k)) (by_row s k rest i x.text (find (rows s) x.terminal) (with_blank s k (blank s) (values_over rest i x (is_seal s) k)))
+values_over rest i x b (s ∷ k) =
+    cond (sealed b s) (with_blank s k (blank s) (values_over rest i x true k))
+    (by_row s k rest i x.text (find (rows s) x.terminal)
+    (with_blank s k (blank s) (values_over rest i x (is_seal s) k)))
 
 abbrev pub at_end : (k : List Symbol) → Option (Vals k)
 at_end [] = Some tt

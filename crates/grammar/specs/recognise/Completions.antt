@@ -14,7 +14,8 @@ spelled_lexemes (k ∷ ks) (w ∷ ws) = lexeme_by (terminal_of k) w ∷ spelled_
 spelled_lexemes _ _ = []
 
 -- After the tokens some of these kinds, as a text can have them, make a right tree.
-pub record CompletesWith {V : Type 0} (is : V → Type 0) (write : V → List Lexeme) (xs : List Lexeme) (ks : List TokenKind) : Type 0 where
+pub record CompletesWith {V : Type 0} (is : V → Type 0) (write : V → List Lexeme) (xs : List Lexeme)
+    (ks : List TokenKind) : Type 0 where
   pub strings : List Word
   pub are : AreStrings ks strings
   pub tree : V

@@ -1,10 +1,12 @@
--- How deep a token is nested, over terminals alone: the brackets that are open around it, and what is counted in each.
+-- How deep a token is nested, over terminals alone: the brackets that are open around it, and what
+-- is counted in each.
 use Rattle.std.specs.Prelude.{ℕ, ◌+◌, ◌<◌, ◌≤◌, List, [], ◌∷◌, length, sum, take}
 use Rattle.grammar.specs.recognise.Common.{Terminal, Opens, Closes, Counts, Restarts, Keeps}
 use Rattle.tokens_why.specs.declared.terminal.Terminal.TheVariants as t
 use Rattle.grammar.specs.declared.recognise.depth.Nesting.{Nesting}
 
--- Each word with which a declaration begins lets the innermost bracket count from 0, but for those that open one.
+-- Each word with which a declaration begins lets the innermost bracket count from 0, but for those
+-- that open one.
 abbrev pub nesting : Terminal → Nesting
 nesting t.LParen = Opens
 nesting t.LBrack = Opens
@@ -49,7 +51,8 @@ nesting t.WithWord = Restarts
 nesting t.Bar = Restarts
 nesting _ = Keeps
 
--- the counters of the open brackets, the innermost first, after a token; outside of brackets nothing is counted
+-- the counters of the open brackets, the innermost first, after a token; outside of brackets
+-- nothing is counted
 abbrev pub nested : Nesting → List ℕ → List ℕ
 nested Opens ns = 0 ∷ ns
 nested Closes (n ∷ ns) = ns

@@ -4,9 +4,10 @@ use Rattle.grammar.specs.recognise.Common.{⊤, Token, rest, SyntaxTree, IsLevel
 use Rattle.grammar.specs.declared.symbols.Symbol.TheVariants as s
 use Rattle.grammar.specs.declared.recognise.fault.SyntaxFault.TheVariants as f
 
--- The longest expression from a token on, and the token after it: the one right tree of its tokens that has their places. No
--- right tree has more of them.
-pub record IsLongestTreeAt (text : List ℕ) (ts : List Token) (from : ℕ) (t : SyntaxTree) (to : ℕ) : Type 0 where
+-- The longest expression from a token on, and the token after it: the one right tree of its tokens
+-- that has their places. No right tree has more of them.
+pub record IsLongestTreeAt (text : List ℕ) (ts : List Token) (from : ℕ) (t : SyntaxTree)
+    (to : ℕ) : Type 0 where
   pub count : ℕ
   pub end : to ≡ from + count
   pub is : IsLongestTree IsLevel (IsPlacedTree from) write (rest text ts from) t count
@@ -16,16 +17,20 @@ pub record EndsAt (text : List ℕ) (ts : List Token) (from to : ℕ) : Type 0 w
   pub tree : SyntaxTree
   pub within : to ≤ length ts
   pub longest : IsLongestTreeAt text ts from tree to
-  pub reads : read (take longest.count (rest text ts from)) from false (s.Expr 0 ∷ []) ≡ Some (tree, tt)
+  pub reads : read (take longest.count (rest text ts from)) from false (s.Expr 0 ∷ [])
+      ≡ Some (tree, tt)
 
--- No expression is there. The tokens up to a place begin one, and with the next token, if there is one, they begin none.
+-- No expression is there. The tokens up to a place begin one, and with the next token, if there is
+-- one, they begin none.
 pub record IsFaultAt (text : List ℕ) (ts : List Token) (from i : ℕ) : Type 0 where
   pub count : ℕ
   pub place : i ≡ from + count
   pub high : count ≤ length (rest text ts from)
-  pub none : (m : ℕ) → m ≤ length (rest text ts from) → IsNone IsLevel write (take m (rest text ts from))
+  pub none : (m : ℕ) → m ≤ length (rest text ts from)
+      → IsNone IsLevel write (take m (rest text ts from))
   pub begins : Begins IsLevel write (take count (rest text ts from))
-  pub stops : count < length (rest text ts from) → Begins IsLevel write (take (count + 1) (rest text ts from)) → ⊥
+  pub stops : count < length (rest text ts from)
+      → Begins IsLevel write (take (count + 1) (rest text ts from)) → ⊥
 
 -- want of memory, or the least place with which no expression begins
 abbrev pub IsExpressionRefusal : List ℕ → List Token → ℕ → SyntaxFault → Type 0

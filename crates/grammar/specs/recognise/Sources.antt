@@ -33,10 +33,12 @@ pub record IsProgramDecl (xs : List Lexeme) (i : ℕ) : Type 0 where
   pub program : begins_program token.terminal ≡ true
   pub scope : Begins IsLevelFile write_file (take i xs ++ mark t.ScopeWord ∷ [])
 
--- What a refusal says: want of memory; else the first token that is nested too deep; else the least place with which no source
--- begins, which may be that of a declaration of a program.
+-- What a refusal says: want of memory; else the first token that is nested too deep; else the least
+-- place with which no source begins, which may be that of a declaration of a program.
 abbrev pub IsSyntaxRefusal : List Lexeme → SyntaxFault → Type 0
 IsSyntaxRefusal xs f.Memory = ⊤
 IsSyntaxRefusal xs (f.TooDeep i) = IsTooDeep (terminals xs) i
-IsSyntaxRefusal xs (f.Syntax i) = IsShallow (terminals xs) × IsFileFault xs i × (IsProgramDecl xs i → ⊥)
-IsSyntaxRefusal xs (f.ProgramDecl i) = IsShallow (terminals xs) × IsFileFault xs i × IsProgramDecl xs i
+IsSyntaxRefusal xs (f.Syntax i) =
+    IsShallow (terminals xs) × IsFileFault xs i × (IsProgramDecl xs i → ⊥)
+IsSyntaxRefusal xs (f.ProgramDecl i) =
+    IsShallow (terminals xs) × IsFileFault xs i × IsProgramDecl xs i

@@ -1,4 +1,5 @@
--- What code has that makes the test of a pattern: numbers that are held, as many terms as patterns, and a constructor's types.
+-- What code has that makes the test of a pattern: numbers that are held, as many terms as patterns,
+-- and a constructor's types.
 use Rattle.std.specs.Prelude.{◌≡◌, ℕ, ◌+◌, ◌⊎◌, List, length}
 use Rattle.trees.specs.declared.TermId.{TermId}
 use Rattle.trees.specs.declared.Sort.TheVariants.{Kind, Formula, Pattern}
@@ -37,7 +38,8 @@ IsCount (Three (HPatCon k) a b c) n = n ≡ 1
 IsCount _ n = Unit {0}
 
 -- a pattern or a list of patterns, typed in a valid task, and as many terms as it is asked of
-pub record CanAsk (s : List Tree) (look : Lookup) (pattern : TermId) (terms : List TermId) : Type 0 where
+pub record CanAsk (s : List Tree) (look : Lookup) (pattern : TermId)
+    (terms : List TermId) : Type 0 where
   pub look_held : LookupHeld s look
   pub valid : IsValid (task_at s look.task.now)
   pub pattern_held : Holds s pattern

@@ -15,10 +15,15 @@ has_width n (m ∷ ms) = m == n || has_width n ms
 
 -- what is new comes after the others
 abbrev pub with_variable : Word → SeenTree → SeenTree
-with_variable v s = record { vars = cond (is_some (place_of v s.vars)) s.vars (s.vars ++ v ∷ []); widths = s.widths }
+with_variable v s = record {
+  vars =
+      cond (is_some (place_of v s.vars)) s.vars (s.vars ++ v ∷ []);
+  widths = s.widths;
+}
 
 abbrev pub with_width : ℕ → SeenTree → SeenTree
-with_width n s = record { vars = s.vars; widths = cond (has_width n s.widths) s.widths (s.widths ++ n ∷ []) }
+with_width n s =
+    record { vars = s.vars; widths = cond (has_width n s.widths) s.widths (s.widths ++ n ∷ []) }
 
 abbrev mutual
   pub form_seen : SeenTree → TypeExpression → SeenTree

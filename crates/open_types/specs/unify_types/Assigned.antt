@@ -1,4 +1,5 @@
--- Types at assigned unknowns, and the solutions of type equations (Robinson's unification; rank-1 polymorphism).
+-- Types at assigned unknowns, and the solutions of type equations (Robinson's unification; rank-1
+-- polymorphism).
 use Rattle.std.specs.Prelude.{◌≡◌, ℕ, Bool, true, false, nat_lt, if◌then◌else◌, List, [], ◌∷◌, ◌⊎◌}
 use Rattle.trees.specs.Tree.{Tree, Leaf, One, Two, Three, Head, HTyVar, HTyRigid, HTyApp, HEnd, HCell}
 use Rattle.trees.specs.Node.{tree_at}
@@ -12,7 +13,8 @@ abbrev pub leaf_assigned : ℕ → (ℕ → Tree) → Head → Tree
 leaf_assigned rigid f (HTyVar j) = if nat_lt j rigid then Variable j else f j
 leaf_assigned rigid f h = Leaf h
 
--- the tree with what is assigned in place of each unknown; the type variables below `rigid` stand for themselves
+-- the tree with what is assigned in place of each unknown; the type variables below `rigid` stand
+-- for themselves
 abbrev pub assign : ℕ → (ℕ → Tree) → Tree → Tree
 assign rigid f (Leaf h) = leaf_assigned rigid f h
 assign rigid f (One h a) = One h (assign rigid f a)

@@ -22,10 +22,14 @@ abbrev pub resolve : ℕ → List Binding → ℕ → Tree
 resolve rigid [] j = Variable j
 resolve rigid (b ∷ bs) j = assign rigid (replacing b) (resolve rigid bs j)
 
--- each unknown was free when it was bound, to a type that the earlier bindings leave and in which it doesn't occur
+-- each unknown was free when it was bound, to a type that the earlier bindings leave and in which
+-- it doesn't occur
 abbrev pub IsTriangular : ℕ → List Binding → Type 0
 IsTriangular rigid [] = Unit {0}
-IsTriangular rigid (b ∷ bs) = (rigid ≤ b.unknown) × (resolve rigid bs b.unknown ≡ Variable b.unknown) × (Has b.unknown b.type → ⊥) × (assign rigid (resolve rigid bs) b.type ≡ b.type) × IsType b.type × IsTriangular rigid bs
+IsTriangular rigid (b ∷ bs) =
+    (rigid ≤ b.unknown) × (resolve rigid bs b.unknown ≡ Variable b.unknown)
+    × (Has b.unknown b.type → ⊥) × (assign rigid (resolve rigid bs) b.type ≡ b.type) × IsType b.type
+    × IsTriangular rigid bs
 
 -- the assignment agrees with the bindings
 abbrev pub Agrees : ℕ → (ℕ → Tree) → List Binding → Type 0
@@ -52,8 +56,11 @@ BindingsHeld s [] = Unit {0}
 BindingsHeld s (b ∷ bs) = Holds s b.ty × BindingsHeld s bs
 
 -- each number in the map has its tree under the substitution
-abbrev pub AreUnderSubstitution : {S : Type 0} → ℕ → List Binding → List Tree → HashMap ℕ TermId S → Type 0
-AreUnderSubstitution rigid bs s m = (k : ℕ) (v : TermId) → get nat_eq m k ≡ Some v → (k < length s) × (v.0 < length s) × (tree_at s v ≡ assign rigid (resolve rigid bs) (get_or s k (Leaf HEnd)))
+abbrev pub AreUnderSubstitution : {S : Type 0} → ℕ → List Binding → List Tree
+    → HashMap ℕ TermId S → Type 0
+AreUnderSubstitution rigid bs s m = (k : ℕ) (v : TermId) → get nat_eq m k ≡ Some v
+    → (k < length s) × (v.0 < length s)
+    × (tree_at s v ≡ assign rigid (resolve rigid bs) (get_or s k (Leaf HEnd)))
 
 -- the unknown that is looked for, or any
 abbrev pub is_sought : ℕ → Option ℕ → ℕ → Bool
@@ -69,8 +76,10 @@ abbrev pub has_sought : ℕ → Option ℕ → Tree → Bool
 has_sought rigid sought (Leaf h) = leaf_has_sought rigid sought h
 has_sought rigid sought (One h a) = has_sought rigid sought a
 has_sought rigid sought (Two h a b) = has_sought rigid sought a || has_sought rigid sought b
-has_sought rigid sought (Three h a b c) = has_sought rigid sought a || (has_sought rigid sought b || has_sought rigid sought c)
+has_sought rigid sought (Three h a b c) =
+    has_sought rigid sought a || (has_sought rigid sought b || has_sought rigid sought c)
 
 -- what is looked for occurs in none of these numbers
 abbrev pub AreClear : {S : Type 0} → ℕ → Option ℕ → List Tree → HashSet ℕ S → Type 0
-AreClear rigid sought s set = (k : ℕ) → contains nat_eq set k ≡ true → has_sought rigid sought (get_or s k (Leaf HEnd)) ≡ false
+AreClear rigid sought s set = (k : ℕ) → contains nat_eq set k ≡ true
+    → has_sought rigid sought (get_or s k (Leaf HEnd)) ≡ false

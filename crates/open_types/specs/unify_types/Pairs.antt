@@ -1,5 +1,5 @@
--- Type equations as pairs of trees, and what is promised of them (first-order unification). A type is a well-sorted tree of the
--- sort of types.
+-- Type equations as pairs of trees, and what is promised of them (first-order unification). A type
+-- is a well-sorted tree of the sort of types.
 use Rattle.std.specs.Prelude.{◌≡◌, ℕ, ◌+◌, ◌<◌, ◌≤◌, List, [], ◌∷◌, take, length, get_or, Option, Some, None}
 use Rattle.trees.specs.declared.TermId.{TermId}
 use Rattle.trees.specs.declared.Sort.TheVariants.{Kind}
@@ -48,7 +48,8 @@ IsUnsolvable rigid es = (f : ℕ → Tree) → SolvesAll rigid f es → ⊥
 pub record HasPrincipal (rigid : ℕ) (es : List (Tree × Tree)) : Type 0 where
   pub assigned : ℕ → Tree
   pub solution : IsSolution rigid assigned es
-  pub general : (f : ℕ → Tree) → SolvesAll rigid f es → (j : ℕ) → rigid ≤ j → assign rigid f (assigned j) ≡ f j
+  pub general : (f : ℕ → Tree) → SolvesAll rigid f es → (j : ℕ) → rigid ≤ j
+      → assign rigid f (assigned j) ≡ f j
 
 -- two solutions by types differ at the unknown
 pub record IsLeftOpen (rigid : ℕ) (es : List (Tree × Tree)) (u : ℕ) : Type 0 where
@@ -58,12 +59,15 @@ pub record IsLeftOpen (rigid : ℕ) (es : List (Tree × Tree)) (u : ℕ) : Type 
   pub second_solves : IsSolution rigid second es
   pub differ : first u ≡ second u → ⊥
 
--- the type of the unknown in every solution, as a number of the grown store, or none where two solutions differ
+-- the type of the unknown in every solution, as a number of the grown store, or none where two
+-- solutions differ
 abbrev pub IsFixedAs : ℕ → List (Tree × Tree) → List Tree → ℕ → Option TermId → Type 0
 IsFixedAs rigid es new u None = IsLeftOpen rigid es u
-IsFixedAs rigid es new u (Some id) = Holds new id × ((f : ℕ → Tree) → SolvesAll rigid f es → f u ≡ tree_at new id)
+IsFixedAs rigid es new u (Some id) =
+    Holds new id × ((f : ℕ → Tree) → SolvesAll rigid f es → f u ≡ tree_at new id)
 
 -- equations 0 to k have no solution, and those before k have one
 abbrev pub IsLeastPrefix : ℕ → List (Tree × Tree) → UnifyFault → Type 0
 IsLeastPrefix rigid es Memory = Unit {0}
-IsLeastPrefix rigid es (Clash k) = (k < length es) × IsUnsolvable rigid (take (k + 1) es) × IsSolvable rigid (take k es)
+IsLeastPrefix rigid es (Clash k) =
+    (k < length es) × IsUnsolvable rigid (take (k + 1) es) × IsSolvable rigid (take k es)

@@ -1,4 +1,5 @@
--- What is promised of a list of type equations: a most general solution and its values, or the least prefix without one.
+-- What is promised of a list of type equations: a most general solution and its values, or the
+-- least prefix without one.
 use Rattle.std.specs.Prelude.{◌≡◌, ℕ, ◌+◌, ◌<◌, ◌≤◌, List, take, length, get_or, Option, Some, None}
 use Rattle.trees.specs.declared.TermId.{TermId}
 use Rattle.trees.specs.Tree.{Tree}
@@ -35,7 +36,8 @@ pub record HasMostGeneral (rigid : ℕ) (s : List Tree) (es : List Equation) : T
   pub assigned : ℕ → Tree
   pub types : (j : ℕ) → IsType (assigned j)
   pub solves : Solves rigid assigned s es
-  pub general : (f : ℕ → Tree) → Solves rigid f s es → (j : ℕ) → rigid ≤ j → assign rigid f (assigned j) ≡ f j
+  pub general : (f : ℕ → Tree) → Solves rigid f s es → (j : ℕ) → rigid ≤ j
+      → assign rigid f (assigned j) ≡ f j
 
 -- two solutions by types differ at the unknown
 pub record IsOpenUnknown (rigid : ℕ) (s : List Tree) (es : List Equation) (u : ℕ) : Type 0 where
@@ -47,18 +49,22 @@ pub record IsOpenUnknown (rigid : ℕ) (s : List Tree) (es : List Equation) (u :
   pub second_solves : Solves rigid second s es
   pub differ : first u ≡ second u → ⊥
 
--- the type of the unknown in every solution, as a number of the grown store, or none where two solutions differ
+-- the type of the unknown in every solution, as a number of the grown store, or none where two
+-- solutions differ
 abbrev pub IsValue : ℕ → List Tree → List Equation → List Tree → ℕ → Option TermId → Type 0
 IsValue rigid s es new u None = IsOpenUnknown rigid s es u
-IsValue rigid s es new u (Some id) = Holds new id × ((f : ℕ → Tree) → Solves rigid f s es → f u ≡ tree_at new id)
+IsValue rigid s es new u (Some id) =
+    Holds new id × ((f : ℕ → Tree) → Solves rigid f s es → f u ≡ tree_at new id)
 
 -- equations 0 to k have no solution, and those before k have one
 abbrev pub IsLeastClash : ℕ → List Tree → List Equation → UnifyFault → Type 0
 IsLeastClash rigid s es Memory = Unit {0}
-IsLeastClash rigid s es (Clash k) = (k < length es) × HasNoSolution rigid s (take (k + 1) es) × HasSolution rigid s (take k es)
+IsLeastClash rigid s es (Clash k) =
+    (k < length es) × HasNoSolution rigid s (take (k + 1) es) × HasSolution rigid s (take k es)
 
 -- what agrees with the bindings is what solves the first k equations
-pub record SolvesFirst (rigid : ℕ) (old : List Tree) (es : List Equation) (k : ℕ) (s : List Tree) (bs : List Bound) : Type 0 where
+pub record SolvesFirst (rigid : ℕ) (old : List Tree) (es : List Equation) (k : ℕ) (s : List Tree)
+    (bs : List Bound) : Type 0 where
   pub grows : Grows old s
   pub bound : BindingsHeld s bs
   pub triangular : IsTriangular rigid (bound_over s bs)

@@ -7,7 +7,8 @@ use Rattle.grammar.specs.declared.symbols.Symbol.TheVariants as s
 -- names, none or more, and then a colon
 abbrev pub names_before_colon : List Lexeme → Bool
 names_before_colon [] = false
-names_before_colon (x ∷ xs) = if same t.Lident x.terminal then names_before_colon xs else same t.Colon x.terminal
+names_before_colon (x ∷ xs) =
+    if same t.Lident x.terminal then names_before_colon xs else same t.Colon x.terminal
 
 -- names, one or more, and then a colon
 abbrev pub begins_names : List Lexeme → ℕ → Bool

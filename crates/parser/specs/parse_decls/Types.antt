@@ -7,7 +7,9 @@ use Rattle.grammar.specs.declared.symbols.Symbol.TheVariants as s
 -- Type variables side by side, each at its token.
 abbrev pub AreTypeVariablesAt : List Lexeme → ℕ → List Name → ℕ → Type 0
 AreTypeVariablesAt xs i [] j = i ≡ j
-AreTypeVariablesAt xs i (n ∷ ns) j = (same t.TyVar (terminal_at xs i) ≡ true) × (n ≡ name i (token_at xs i).text) × AreTypeVariablesAt xs (i + 1) ns j
+AreTypeVariablesAt xs i (n ∷ ns) j =
+    (same t.TyVar (terminal_at xs i) ≡ true) × (n ≡ name i (token_at xs i).text)
+    × AreTypeVariablesAt xs (i + 1) ns j
 
 -- All of the type variables that stand side by side.
 pub record IsReadNames (xs : List Lexeme) (i : ℕ) (ns : List Name) (j : ℕ) : Type 0 where
@@ -35,7 +37,8 @@ pub record IsConstructor (xs : List Lexeme) (i : ℕ) (c : Constructor) (j : ℕ
   pub fields : SyntaxForms
   pub spelled : constructor_at xs i fields ≡ c
   pub ends : begins_atype (terminal_at xs j) ≡ false
-  pub is : Begun xs 0 (λ k. s.Fields ∷ k) (i + 1) (λ k. s.Fields ∷ k) (λ k us. (fields_part fields us.0.constructors us.0.others, us.1)) j
+  pub is : Begun xs 0 (λ k. s.Fields ∷ k) (i + 1) (λ k. s.Fields ∷ k)
+      (λ k us. (fields_part fields us.0.constructors us.0.others, us.1)) j
 
 -- What is read after the name of the first of constructors has these, and then no more.
 pub record IsConstructors (xs : List Lexeme) (i : ℕ) (cs : List Constructor) (j : ℕ) : Type 0 where
@@ -44,16 +47,20 @@ pub record IsConstructors (xs : List Lexeme) (i : ℕ) (cs : List Constructor) (
   pub spelled : constructor_at xs i fields ∷ others ≡ cs
   pub ends : begins_atype (terminal_at xs j) ≡ false
   pub last : same t.Bar (terminal_at xs j) ≡ false
-  pub is : Begun xs 0 (λ k. s.Fields ∷ k) (i + 1) (λ k. s.Fields ∷ k) (λ k us. (fields_part fields others us.0.others, us.1)) j
+  pub is : Begun xs 0 (λ k. s.Fields ∷ k) (i + 1) (λ k. s.Fields ∷ k)
+      (λ k us. (fields_part fields others us.0.others, us.1)) j
 
 -- What is read after an equality sign has these constructors, a bar before them or not.
-pub record IsCon (xs : List Lexeme) (i : ℕ) (b : Bool) (cs : List Constructor) (j : ℕ) : Type 0 where
+pub record IsCon (xs : List Lexeme) (i : ℕ) (b : Bool) (cs : List Constructor)
+    (j : ℕ) : Type 0 where
   pub ends : begins_atype (terminal_at xs j) ≡ false
   pub last : same t.Bar (terminal_at xs j) ≡ false
-  pub is : Begun xs 1 (λ k. s.Con ∷ k) i (λ k. s.Fields ∷ k) (λ k us. (con_part b cs us.0.others, us.1)) j
+  pub is : Begun xs 1 (λ k. s.Con ∷ k) i (λ k. s.Fields ∷ k)
+      (λ k us. (con_part b cs us.0.others, us.1)) j
 
 -- What is read as a type's name and the rest of it is this algebraic type.
 pub record IsReadAlgebraic (xs : List Lexeme) (i : ℕ) (a : Algebraic) (j : ℕ) : Type 0 where
   pub ends : begins_atype (terminal_at xs j) ≡ false
   pub last : same t.Bar (terminal_at xs j) ≡ false
-  pub is : Begun xs 1 (λ k. s.Take t.Lident ∷ s.Algvars ∷ k) i (λ k. s.Fields ∷ k) (λ k us. (a.name, (alg_part a.vars (con_part a.bar a.constructors us.0.others), us.1))) j
+  pub is : Begun xs 1 (λ k. s.Take t.Lident ∷ s.Algvars ∷ k) i (λ k. s.Fields ∷ k)
+      (λ k us. (a.name, (alg_part a.vars (con_part a.bar a.constructors us.0.others), us.1))) j

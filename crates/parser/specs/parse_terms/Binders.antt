@@ -11,4 +11,16 @@ pub record IsNaming (xs : List Lexeme) (i : ℕ) (ns : List Name) (j : ℕ) : Ty
   pub others : List Name
   pub spelled : first ∷ others ≡ ns
   pub ends : same t.Lident (terminal_at xs j) ≡ false
-  pub is : Begun xs 1 (λ k. s.Take t.Lident ∷ s.Binder ∷ k) i (λ k. s.Binder ∷ k) (λ k us. (first, (record { names = others ++ us.0.names; of_type = us.0.of_type; bound = us.0.bound }, us.1))) j
+  pub is : Begun xs 1 (λ k. s.Take t.Lident ∷ s.Binder ∷ k) i (λ k. s.Binder ∷ k)
+      (λ k us. (
+        first,
+        (
+          record {
+            names = others ++ us.0.names;
+            of_type = us.0.of_type;
+            bound =
+                us.0.bound;
+          },
+          us.1,
+        ),
+      )) j

@@ -34,31 +34,45 @@ CanRead xs s i = CanRun xs (λ k. s ∷ k) i
 pub record IsRead (xs : List Lexeme) (s : Symbol) (i : ℕ) (v : Val s) (j : ℕ) : Type 0 where
   pub ahead : i + least s ≤ j
   pub within : j ≤ length xs
-  pub reads : (k : List Symbol) (vs : Val s × Vals k) → read (lexemes_from xs i) i false (s ∷ k) ≡ Some vs → (vs.0 ≡ v) × (read (lexemes_from xs j) j false k ≡ Some vs.1)
+  pub reads : (k : List Symbol) (vs : Val s × Vals k)
+      → read (lexemes_from xs i) i false (s ∷ k) ≡ Some vs
+      → (vs.0 ≡ v) × (read (lexemes_from xs j) j false k ≡ Some vs.1)
 
 -- What is read as symbols goes on, at least n tokens further, as others, whose values make theirs.
-pub record Begun (xs : List Lexeme) (n : ℕ) (from : List Symbol → List Symbol) (i : ℕ) (to : List Symbol → List Symbol) (act : (k : List Symbol) → Vals (to k) → Vals (from k)) (j : ℕ) : Type 0 where
+pub record Begun (xs : List Lexeme) (n : ℕ) (from : List Symbol → List Symbol) (i : ℕ)
+    (to : List Symbol → List Symbol) (act : (k : List Symbol) → Vals (to k) → Vals (from k))
+    (j : ℕ) : Type 0 where
   pub ahead : i + n ≤ j
   pub within : j ≤ length xs
   pub can : CanRun xs from i
-  pub reads : (k : List Symbol) (vs : Vals (from k)) → read (lexemes_from xs i) i false (from k) ≡ Some vs → (us : Vals (to k)) × (read (lexemes_from xs j) j false (to k) ≡ Some us) × (act k us ≡ vs)
+  pub reads : (k : List Symbol) (vs : Vals (from k))
+      → read (lexemes_from xs i) i false (from k) ≡ Some vs
+      → (us : Vals (to k)) × (read (lexemes_from xs j) j false (to k) ≡ Some us) × (act k us ≡ vs)
 
--- What is read as an expression is the tree, and goes on at a further token; after a tree that ends open the tails are silent.
+-- What is read as an expression is the tree, and goes on at a further token; after a tree that ends
+-- open the tails are silent.
 pub record IsExpr (xs : List Lexeme) (m i : ℕ) (e : SyntaxTree) (j : ℕ) : Type 0 where
   pub ahead : i < j
   pub within : j ≤ length xs
-  pub reads : (k : List Symbol) (vs : SyntaxTree × Vals k) → read (lexemes_from xs i) i false (s.Expr m ∷ k) ≡ Some vs → (vs.0 ≡ e) × (read (lexemes_from xs j) j (ends_open e) k ≡ Some vs.1)
+  pub reads : (k : List Symbol) (vs : SyntaxTree × Vals k)
+      → read (lexemes_from xs i) i false (s.Expr m ∷ k) ≡ Some vs
+      → (vs.0 ≡ e) × (read (lexemes_from xs j) j (ends_open e) k ≡ Some vs.1)
 
 -- The same of a tree after which operators may follow, the tree binding so tightly.
 pub record Climb (xs : List Lexeme) (m i : ℕ) (e : SyntaxTree) (u j : ℕ) : Type 0 where
   pub ahead : i < j
   pub within : j ≤ length xs
   pub first : first_token e ≡ i
-  pub can : (k : List Symbol) × (vs : Chain × Vals k) × (read (lexemes_from xs j) j (ends_open e) (s.Tail m u ∷ k) ≡ Some vs)
-  pub reads : (k : List Symbol) (vs : SyntaxTree × Vals k) → read (lexemes_from xs i) i false (s.Expr m ∷ k) ≡ Some vs → (c : Chain) × (vs.0 ≡ attach e c) × (read (lexemes_from xs j) j (ends_open e) (s.Tail m u ∷ k) ≡ Some (c, vs.1))
+  pub can : (k : List Symbol) × (vs : Chain × Vals k)
+      × (read (lexemes_from xs j) j (ends_open e) (s.Tail m u ∷ k) ≡ Some vs)
+  pub reads : (k : List Symbol) (vs : SyntaxTree × Vals k)
+      → read (lexemes_from xs i) i false (s.Expr m ∷ k) ≡ Some vs
+      → (c : Chain) × (vs.0 ≡ attach e c)
+      × (read (lexemes_from xs j) j (ends_open e) (s.Tail m u ∷ k) ≡ Some (c, vs.1))
 
 -- What is read as an application or an atom is the tree, which is there and does not end open.
-pub record IsReadClosed (xs : List Lexeme) (s : Symbol) (i : ℕ) (v : Val s) (e : SyntaxTree) (j : ℕ) : Type 0 where
+pub record IsReadClosed (xs : List Lexeme) (s : Symbol) (i : ℕ) (v : Val s) (e : SyntaxTree)
+    (j : ℕ) : Type 0 where
   pub first : first_token e ≡ i
   pub closed : ends_open e ≡ false
   pub is : IsRead xs s i v j

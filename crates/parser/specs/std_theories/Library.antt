@@ -65,8 +65,10 @@ list_append =
 abbrev pub library : List LibraryEntry
 library =
     (codes "int.Int", int_int) ∷ (codes "int.Abs", int_abs) ∷ (codes "int.MinMax", int_min_max)
-    ∷ (codes "bool.Bool", bool_bool) ∷ (codes "option.Option", option_option) ∷ (codes "list.List", list_list)
-    ∷ (codes "list.Length", list_length) ∷ (codes "list.Mem", list_mem) ∷ (codes "list.Append", list_append) ∷ []
+    ∷ (codes "bool.Bool", bool_bool) ∷ (codes "option.Option", option_option)
+    ∷ (codes "list.List", list_list)
+    ∷ (codes "list.Length", list_length) ∷ (codes "list.Mem", list_mem)
+    ∷ (codes "list.Append", list_append) ∷ []
 
 -- the entries of the code's table
 abbrev pub library_entry : Bor (List ℕ) × Bor (List ℕ) → LibraryEntry

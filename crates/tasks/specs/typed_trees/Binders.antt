@@ -17,7 +17,8 @@ binder_head Arm = HArm
 -- the types of the variables, innermost first
 abbrev pub binders_at : List Tree → Binders → List Tree
 binders_at s Outside = []
-binders_at s (Inside' binder first p outer) = bound_types (binder_head binder) (tree_at s first) ++ binders_at s outer
+binders_at s (Inside' binder first p outer) =
+    bound_types (binder_head binder) (tree_at s first) ++ binders_at s outer
 
 abbrev pub BindersHeld : List Tree → Binders → Type 0
 BindersHeld s Outside = Unit {0}

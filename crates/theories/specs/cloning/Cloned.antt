@@ -1,5 +1,6 @@
--- A theory that is cloned, or the first fault of a clone: a type variable that occurs twice in an element, the path, the names on the
--- right of the elements, and an element that is wrong (Why3 manual, "theory cloning").
+-- A theory that is cloned, or the first fault of a clone: a type variable that occurs twice in an
+-- element, the path, the names on the right of the elements, and an element that is wrong (Why3
+-- manual, "theory cloning").
 use Rattle.std.specs.Prelude.{◌≡◌, ℕ, List, ◌++◌, Option, Some, None, codes}
 use Rattle.tasks.specs.trees.Tree.{Tree}
 use Rattle.tasks.specs.trees.Node.{Grows}
@@ -34,8 +35,10 @@ use Rattle.clones.specs.clone_copies.Moves.{AreMovesMapped}
 abbrev pub symbols_tupled : StateTree → List Element → List SymbolTree
 symbols_tupled c es = c.symbols ++ rights_tuples c.symbols es
 
-abbrev pub sides_over : Origin → List Tree → List SymbolTree → ScopeNames → List Element → List SideTree
-sides_over o s symbols names es = sides_made (λ x. last_place symbols o x None o.own) s symbols names es
+abbrev pub sides_over : Origin → List Tree → List SymbolTree → ScopeNames → List Element
+    → List SideTree
+sides_over o s symbols names es =
+    sides_made (λ x. last_place symbols o x None o.own) s symbols names es
 
 abbrev pub sides_in : StateTree → KnownTree → List Element → List SideTree
 sides_in c t es = sides_over (origin_of c.decls t) c.trees c.symbols c.opened.scope es
@@ -48,7 +51,8 @@ map_in c t es = clone_map (symbols_tupled c es) (origin_of c.decls t) (sides_in 
 
 -- the elements are right, or are refused at a token
 abbrev pub AreTold : StateTree → KnownTree → List Element → Option ℕ → Type 0
-AreTold c t es o = SidesTold (symbols_tupled c es) (origin_of c.decls t) (tried_in c t es) no_fates (sides_in c t es) o
+AreTold c t es o = SidesTold (symbols_tupled c es) (origin_of c.decls t) (tried_in c t es) no_fates
+    (sides_in c t es) o
 
 -- ---- the clone
 -- the names of the scopes of the copies
@@ -70,18 +74,28 @@ copying_in c t es within = record {
 -- with the entries of the copies
 abbrev pub with_copied_entries : StateTree → KnownTree → List Element → Word → StateTree
 with_copied_entries c t es within = record c {
-  symbols = symbols_tupled c es ++ entries_copied (symbols_tupled c es) (map_in c t es) c.opened.path within (kept (origin_of c.decls t) (fates_of (sides_in c t es)));
+  symbols = symbols_tupled c es
+      ++ entries_copied (symbols_tupled c es) (map_in c t es) c.opened.path within
+      (kept (origin_of c.decls t) (fates_of (sides_in c t es)));
 }
 
 -- names come into scopes as by `use`
 abbrev pub with_names : Link → Word → Option Word → List Move → StateTree → StateTree
-with_names l last alias ms c = record c { opened = record c.opened { scope = brought l last alias ms c.opened.scope; moves = c.opened.moves ++ handed l ms } }
+with_names l last alias ms c =
+    record c {
+      opened = record c.opened
+          { scope = brought l last alias ms c.opened.scope; moves = c.opened.moves ++ handed l ms };
+    }
 
-abbrev pub state_cloned : Link → Word → Option Word → List Element → KnownTree → List Move → StateTree → StateTree
+abbrev pub state_cloned : Link → Word → Option Word → List Element → KnownTree → List Move
+    → StateTree → StateTree
 state_cloned l last alias es t ms c =
-    with_names l last alias ms (with_places (copying_in c t es (within_of l last alias c.opened.within)) t.visible (with_copied_entries c t es (within_of l last alias c.opened.within)))
+    with_names l last alias ms
+    (with_places (copying_in c t es (within_of l last alias c.opened.within)) t.visible
+    (with_copied_entries c t es (within_of l last alias c.opened.within)))
 
-pub record IsCloned (l : Link) (p : Path) (alias : Option Name) (es : List Element) (c c' : StateTree) : Type 0 where
+pub record IsCloned (l : Link) (p : Path) (alias : Option Name) (es : List Element)
+    (c c' : StateTree) : Type 0 where
   pub variables : all_variables_fault es ≡ None
   pub theory : KnownTree
   pub found : known_named c.known (path_text p.parts) ≡ Some theory
@@ -90,7 +104,8 @@ pub record IsCloned (l : Link) (p : Path) (alias : Option Name) (es : List Eleme
   pub grows : Grows c.trees c'.trees
   pub moves : List Move
   pub mapped : AreMovesMapped c'.trees (symbols_tupled c es) (map_in c theory es) theory.moves moves
-  pub is : c' ≡ record (state_cloned l (last_part p.parts) (alias_text alias) es theory moves c) { trees = c'.trees }
+  pub is : c' ≡ record (state_cloned l (last_part p.parts) (alias_text alias) es theory moves c)
+      { trees = c'.trees }
 
 -- ---- its faults
 abbrev pub naming : ℕ → NamingFault → SourceFault
@@ -107,13 +122,23 @@ pub record IsNamesFault (number : ℕ) (found : Option NamingFault) (f : SourceF
   pub is : f ≡ naming number fault
 
 -- the first wrong element
-pub record IsElementFault (number : ℕ) (symbols : List SymbolTree) (o : Origin) (xs : List SideTree) (f : SourceFault) : Type 0 where
+pub record IsElementFault (number : ℕ) (symbols : List SymbolTree) (o : Origin) (xs : List SideTree)
+    (f : SourceFault) : Type 0 where
   pub token : ℕ
   pub told : SidesTold symbols o (tried_map symbols o xs) no_fates xs (Some token)
   pub is : f ≡ fault.BadSubstitution number token
 
-pub data IsCloneFault (p : Path) (es : List Element) (c : StateTree) (f : SourceFault) : Type 0 where
+pub data IsCloneFault (p : Path) (es : List Element) (c : StateTree)
+    (f : SourceFault) : Type 0 where
   of_variables : IsNamesFault c.number (all_variables_fault es) f → IsCloneFault p es c f
-  of_path : all_variables_fault es ≡ None → IsUnknownTheory p c.known c.number f → IsCloneFault p es c f
-  of_clone_names : (t : KnownTree) → all_variables_fault es ≡ None → known_named c.known (path_text p.parts) ≡ Some t → IsNamesFault c.number (rights_fault c.trees c.symbols c.opened.scope es) f → IsCloneFault p es c f
-  of_elements : (t : KnownTree) → all_variables_fault es ≡ None → known_named c.known (path_text p.parts) ≡ Some t → rights_fault c.trees c.symbols c.opened.scope es ≡ None → IsElementFault c.number (symbols_tupled c es) (origin_of c.decls t) (sides_in c t es) f → IsCloneFault p es c f
+  of_path : all_variables_fault es ≡ None → IsUnknownTheory p c.known c.number f
+      → IsCloneFault p es c f
+  of_clone_names : (t : KnownTree) → all_variables_fault es ≡ None
+      → known_named c.known (path_text p.parts) ≡ Some t
+      → IsNamesFault c.number (rights_fault c.trees c.symbols c.opened.scope es) f
+      → IsCloneFault p es c f
+  of_elements : (t : KnownTree) → all_variables_fault es ≡ None
+      → known_named c.known (path_text p.parts) ≡ Some t
+      → rights_fault c.trees c.symbols c.opened.scope es ≡ None
+      → IsElementFault c.number (symbols_tupled c es) (origin_of c.decls t) (sides_in c t es) f
+      → IsCloneFault p es c f

@@ -1,4 +1,5 @@
--- A theory that is copied in code: the map with the symbols that the copies make, what is asked before, and what is known after.
+-- A theory that is copied in code: the map with the symbols that the copies make, what is asked
+-- before, and what is known after.
 use Rattle.std.specs.Prelude.{◌≡◌, ℕ, ◌<◌, List, [], ◌++◌, length, All, Option, IfSome}
 use Rattle.tasks.specs.trees.Tree.{Tree}
 use Rattle.tasks.specs.trees.Sorts.{sort_of}
@@ -37,7 +38,9 @@ pub record IsRenaming (s : List Tree) (m : Map) (ks : List ℕ) (r : Renaming) :
 -- the map by which elements replace what a theory has, of the theory at a place
 abbrev pub IsPlannedRenaming : List Tree → Typed → ℕ → Plan → Renaming → Type 0
 IsPlannedRenaming s t k p =
-    IsRenaming s (planned_map s (symbols_at s t.sig.symbols) (origin_of (declarations_at s t.decls) (known_theory_at s t k)) p) (planned_kept (origin_of (declarations_at s t.decls) (known_theory_at s t k)) p)
+    IsRenaming s (planned_map s (symbols_at s t.sig.symbols)
+    (origin_of (declarations_at s t.decls) (known_theory_at s t k)) p)
+    (planned_kept (origin_of (declarations_at s t.decls) (known_theory_at s t k)) p)
 
 -- ---- entries as a signature keeps them
 -- the types of an entry are types
@@ -52,7 +55,8 @@ pub record IsKeptEntry (e : SymbolTree) : Type 0 where
 
 -- ---- the copies
 abbrev pub entries_made : KnownTree → Copying → StateTree → List SymbolTree
-entries_made t x c = entries_copied c.symbols x.mapping c.opened.path x.within (kept (origin_of c.decls t) x.fates)
+entries_made t x c =
+    entries_copied c.symbols x.mapping c.opened.path x.within (kept (origin_of c.decls t) x.fates)
 
 -- with their entries, and with all of them
 abbrev pub with_made : KnownTree → Copying → StateTree → StateTree
@@ -62,21 +66,26 @@ abbrev pub with_theory_copies : KnownTree → Copying → StateTree → StateTre
 with_theory_copies t x c = with_places x t.visible (with_made t x c)
 
 -- a theory can be copied by what elements replace
-pub record IsCopyReady (s : List Tree) (t : Typed) (o : Opened) (k : ℕ) (it : Own) (p : Plan) (within : Word) : Type 0 where
+pub record IsCopyReady (s : List Tree) (t : Typed) (o : Opened) (k : ℕ) (it : Own) (p : Plan)
+    (within : Word) : Type 0 where
   pub held : StateHeld s t o
   pub there : k < length t.known
   pub own : IsOwnOf (declarations_at s t.decls) (known_theory_at s t k) it
   pub types : All (TypeForHeld s) p.types.items
   pub moves : All (MoveHeld s) (known_theory_at s t k).moves
-  pub kept : All IsKeptEntry (entries_made (known_theory_at s t k) (planned s (state_at s t o) (known_theory_at s t k) p within) (state_at s t o))
+  pub kept : All IsKeptEntry (entries_made (known_theory_at s t k)
+      (planned s (state_at s t o) (known_theory_at s t k) p within) (state_at s t o))
 
 -- its contents are copied, and these names are passed on
-pub record AreContents (t : KnownTree) (x : Copying) (moves : List Move) (c c' : StateTree) : Type 0 where
+pub record AreContents (t : KnownTree) (x : Copying) (moves : List Move)
+    (c c' : StateTree) : Type 0 where
   pub mapped : AreMovesMapped c'.trees c.symbols x.mapping t.moves moves
   pub is : record c' { trees = [] } ≡ with_theory_copies t x (record c { trees = [] })
 
 -- it is copied, and its names come into scopes
-pub record IsTheoryCopied (l : Link) (last : Word) (alias : Option Word) (t : KnownTree) (x : Copying) (c c' : StateTree) : Type 0 where
+pub record IsTheoryCopied (l : Link) (last : Word) (alias : Option Word) (t : KnownTree)
+    (x : Copying) (c c' : StateTree) : Type 0 where
   pub moves : List Move
   pub mapped : AreMovesMapped c'.trees c.symbols x.mapping t.moves moves
-  pub is : record c' { trees = [] } ≡ with_names l last alias moves (with_theory_copies t x (record c { trees = [] }))
+  pub is : record c' { trees = [] }
+      ≡ with_names l last alias moves (with_theory_copies t x (record c { trees = [] }))

@@ -1,4 +1,5 @@
--- What the elements of a clone are read as: what they replace, or their first fault; and what the theory is copied by.
+-- What the elements of a clone are read as: what they replace, or their first fault; and what the
+-- theory is copied by.
 use Rattle.std.specs.Prelude.{◌≡◌, ℕ, List, ◌++◌, length, None}
 use Rattle.tasks.specs.trees.Tree.{Tree}
 use Rattle.tasks.specs.Task.{SymbolTree}
@@ -19,22 +20,30 @@ use Rattle.clones.specs.clone_copies.Places.{Copying}
 use Rattle.theories.specs.cloning.Cloned.{sides_over, IsNamesFault, IsElementFault}
 
 -- all are right over a signature, and replace this in a later store
-pub record AreElementsRead (s : List Tree) (symbols : List SymbolTree) (scope : ScopeNames) (o : Origin) (es : List Element) (s' : List Tree) (p : Plan) : Type 0 where
+pub record AreElementsRead (s : List Tree) (symbols : List SymbolTree) (scope : ScopeNames)
+    (o : Origin) (es : List Element) (s' : List Tree) (p : Plan) : Type 0 where
   pub names : rights_fault s symbols scope es ≡ None
-  pub right : SidesTold (symbols ++ rights_tuples symbols es) o (tried_map (symbols ++ rights_tuples symbols es) o (sides_over o s symbols scope es)) no_fates (sides_over o s symbols scope es) None
+  pub right : SidesTold (symbols ++ rights_tuples symbols es) o
+      (tried_map (symbols ++ rights_tuples symbols es) o (sides_over o s symbols scope es)) no_fates
+      (sides_over o s symbols scope es) None
   pub plan : IsPlan s' (symbols ++ rights_tuples symbols es) o (sides_over o s symbols scope es) p
 
 -- the names on the right have a fault, or else an element is wrong
-pub data IsElementsFault (number : ℕ) (s : List Tree) (symbols : List SymbolTree) (scope : ScopeNames) (o : Origin) (es : List Element) (f : SourceFault) : Type 0 where
-  in_names : IsNamesFault number (rights_fault s symbols scope es) f → IsElementsFault number s symbols scope o es f
-  in_elements : rights_fault s symbols scope es ≡ None → IsElementFault number (symbols ++ rights_tuples symbols es) o (sides_over o s symbols scope es) f → IsElementsFault number s symbols scope o es f
+pub data IsElementsFault (number : ℕ) (s : List Tree) (symbols : List SymbolTree)
+    (scope : ScopeNames) (o : Origin) (es : List Element) (f : SourceFault) : Type 0 where
+  in_names : IsNamesFault number (rights_fault s symbols scope es) f
+      → IsElementsFault number s symbols scope o es f
+  in_elements : rights_fault s symbols scope es ≡ None
+      → IsElementFault number (symbols ++ rights_tuples symbols es) o
+      (sides_over o s symbols scope es) f → IsElementsFault number s symbols scope o es f
 
 -- the symbols of the copies, and the map
 abbrev pub planned_kept : Origin → Plan → List ℕ
 planned_kept o p = kept o (fates_at p.fates)
 
 abbrev pub planned_map : List Tree → List SymbolTree → Origin → Plan → Map
-planned_map s symbols o p = map_of (type_pairs_at s p.types.items) (symbol_pairs p.symbols.items) (length symbols) (planned_kept o p)
+planned_map s symbols o p = map_of (type_pairs_at s p.types.items) (symbol_pairs p.symbols.items)
+    (length symbols) (planned_kept o p)
 
 -- a theory is copied by what elements replace, into scopes of these names
 abbrev pub planned : List Tree → StateTree → KnownTree → Plan → Word → Copying

@@ -1,4 +1,5 @@
--- The names that a declaration made in a scope, as moves that bring them into others (Why3 manual, "use and clone").
+-- The names that a declaration made in a scope, as moves that bring them into others (Why3 manual,
+-- "use and clone").
 use Rattle.std.specs.Prelude.{List, [], ◌∷◌, ◌++◌, Option, Some, None, option_map}
 use Rattle.elab_groups.specs.scopes.Names.{ScopeNames, find_number, find_name}
 use Rattle.elab_groups.specs.scopes.declared.Table.{Table}
@@ -11,7 +12,8 @@ use Rattle.elab_groups.specs.parts.Declarations.{Declaration, Made, makes, binds
 use Rattle.theory_states.specs.declared.moves.Move.{Move}
 use Rattle.theory_states.specs.declared.moves.Move.TheVariants.{Brings}
 
--- what a name in a table stands for: in the table of types an entry or an alias, in another one a number
+-- what a name in a table stands for: in the table of types an entry or an alias, in another one a
+-- number
 abbrev pub thing_named : ScopeNames → Table → Word → Option TypeName
 thing_named names Types x = find_name names Types (x ∷ [])
 thing_named names Symbols x = option_map stands.Entry (find_number names Symbols (x ∷ []))
@@ -25,7 +27,8 @@ brought_as table x (Some thing) = Brings table x thing ∷ []
 -- the names that are made in tables, in reading order, each with what it stands for
 abbrev pub moves_made : ScopeNames → List Made → List Move
 moves_made names [] = []
-moves_made names (makes table c ∷ ms) = brought_as table c.name (thing_named names table c.name) ++ moves_made names ms
+moves_made names (makes table c ∷ ms) =
+    brought_as table c.name (thing_named names table c.name) ++ moves_made names ms
 moves_made names (binds_names cs ∷ ms) = moves_made names ms
 
 -- those of a declaration of a source; a `use`, a `clone` and a `scope` make none here

@@ -1,4 +1,5 @@
--- The steps of the typing of a declaration in code: what is elaborated and checked, or why it is refused.
+-- The steps of the typing of a declaration in code: what is elaborated and checked, or why it is
+-- refused.
 use Rattle.std.specs.Prelude.{◌≡◌, ℕ, List, map, All, Some}
 use Rattle.tasks.specs.trees.Tree.{Tree}
 use Rattle.tasks.specs.Task.{SymbolTree, BodyTree}
@@ -28,20 +29,25 @@ abbrev pub IsRefusedBy : Setting → Declaration → SourceFault → Type 0
 IsRefusedBy c d f = (g : ElabFault) × IsRefusal c d g × (f ≡ elaboration_fault g)
 
 -- for a side condition, in the declaration of a number
-abbrev pub IsRefusedFor : ℕ → List SymbolTree → List (ℕ × List Tree) → List BodyTree → SourceFault → Type 0
-IsRefusedFor n symbols ms bs f = (g : SideFault) × IsSideFault symbols ms bs g × (f ≡ side_fault n g)
+abbrev pub IsRefusedFor : ℕ → List SymbolTree → List (ℕ × List Tree) → List BodyTree
+    → SourceFault → Type 0
+IsRefusedFor n symbols ms bs f =
+    (g : SideFault) × IsSideFault symbols ms bs g × (f ≡ side_fault n g)
 
 -- what is made is right, and its names are in the scope of the open theory
-pub record IsNextState (s : List Tree) (t : Typed) (o : Opened) (d : source.SyntaxDeclaration) (s' : List Tree) (t' : Typed) (o' : Opened) (made : Elaborated) : Type 0 where
+pub record IsNextState (s : List Tree) (t : Typed) (o : Opened) (d : source.SyntaxDeclaration)
+    (s' : List Tree) (t' : Typed) (o' : Opened) (made : Elaborated) : Type 0 where
   pub parts : Declaration
   pub of : declaration d ≡ Some parts
   pub elaborated : IsElaborated (state_setting (state_at s t o)) parts t.sig s' t'.sig o'.scope made
   pub kept : IsKept s' t'.sig o'.scope made
   pub covered : All (IsCovered (symbols_at s' t'.sig.symbols)) (map (match_at s') made.matches)
-  pub checked : All (HasNoFault (symbols_at s' t'.sig.symbols)) (bodies (declarations_at s' made.decls))
+  pub checked : All (HasNoFault (symbols_at s' t'.sig.symbols))
+      (bodies (declarations_at s' made.decls))
   pub typed : t' ≡ record t { sig = t'.sig }
   pub opened : o' ≡ record o { scope = o'.scope }
 
 -- the type variables of a proposition have names with a quote, as those of the tokens of a text
 abbrev pub AreQuoted : source.SyntaxDeclaration → Type 0
-AreQuoted d = (k : PropKind) (y : TokenName) (x : Expression) → declaration d ≡ Some (proposition_declaration k y x) → All IsQuoted (proposition_seen x).vars
+AreQuoted d = (k : PropKind) (y : TokenName) (x : Expression)
+    → declaration d ≡ Some (proposition_declaration k y x) → All IsQuoted (proposition_seen x).vars

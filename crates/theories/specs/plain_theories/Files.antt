@@ -1,4 +1,5 @@
--- The theories of a source, after those of the embedded library, and the first fault (Why3 manual, "theories").
+-- The theories of a source, after those of the embedded library, and the first fault (Why3 manual,
+-- "theories").
 use Rattle.std.specs.Prelude.{◌≡◌, ◌⊎◌, ℕ, ◌+◌, ◌||◌, Bool, true, false, List, [], ◌∷◌, ◌++◌, map, length, Some}
 use Rattle.std.specs.Option.{is_some}
 use Rattle.std.specs.Str.{bytes_eq}
@@ -24,18 +25,22 @@ IsPlainBegun path c c' = c' ≡ record c { opened = plain_empty path; number = c
 
 -- the open theory ends, and is known
 abbrev pub IsPlainEnded : PlainState → PlainState → Type 0
-IsPlainEnded c c' = c' ≡ record c { known = c.known ++ plain_known_as c.opened ∷ []; opened = plain_empty [] }
+IsPlainEnded c c' =
+    c' ≡ record c { known = c.known ++ plain_known_as c.opened ∷ []; opened = plain_empty [] }
 
 abbrev pub IsPlainTheoryTyped : List ℕ → SyntaxDeclarations → PlainState → PlainState → Type 0
-IsPlainTheoryTyped path ds = PlainThen (IsPlainBegun path) (PlainThen (ArePlainTyped ds) IsPlainEnded)
+IsPlainTheoryTyped path ds =
+    PlainThen (IsPlainBegun path) (PlainThen (ArePlainTyped ds) IsPlainEnded)
 
 abbrev pub IsPlainTheoryFault : List ℕ → SyntaxDeclarations → PlainState → SourceFault → Type 0
 IsPlainTheoryFault path ds = PlainFaultThen (IsPlainBegun path) (ArePlainFaulty ds)
 
 -- ---- the theories of a file
--- a path is taken where a theory has it, and so is that of what is built in; no theory of a source is without a name
+-- a path is taken where a theory has it, and so is that of what is built in; no theory of a source
+-- is without a name
 abbrev pub is_plainly_taken : List ℕ → List PlainKnown → Bool
-is_plainly_taken path known = is_empty path || (bytes_eq path builtin || is_some (plain_named known path))
+is_plainly_taken path known =
+    is_empty path || (bytes_eq path builtin || is_some (plain_named known path))
 
 -- a theory whose path is new
 pub record IsPlainNew (path : List ℕ) (ds : SyntaxDeclarations) (c c' : PlainState) : Type 0 where
@@ -43,16 +48,20 @@ pub record IsPlainNew (path : List ℕ) (ds : SyntaxDeclarations) (c c' : PlainS
   pub typed : IsPlainTheoryTyped path ds c c'
 
 -- a path that is taken, told at the theory's name, or a fault of the theory
-pub data IsPlainNewFault (path : List ℕ) (token : ℕ) (ds : SyntaxDeclarations) (c : PlainState) (f : SourceFault) : Type 0 where
-  taken_before : is_plainly_taken path c.known ≡ true → f ≡ Duplicate c.number token → IsPlainNewFault path token ds c f
-  inside_theory : is_plainly_taken path c.known ≡ false → IsPlainTheoryFault path ds c f → IsPlainNewFault path token ds c f
+pub data IsPlainNewFault (path : List ℕ) (token : ℕ) (ds : SyntaxDeclarations) (c : PlainState)
+    (f : SourceFault) : Type 0 where
+  taken_before : is_plainly_taken path c.known ≡ true → f ≡ Duplicate c.number token
+      → IsPlainNewFault path token ds c f
+  inside_theory : is_plainly_taken path c.known ≡ false → IsPlainTheoryFault path ds c f
+      → IsPlainNewFault path token ds c f
 
 -- each theory of a source has its name as its path
 abbrev pub ArePlainTypedIn : List SyntaxTheory → PlainState → PlainState → Type 0
 ArePlainTypedIn = PlainSteps (λ (t : SyntaxTheory). IsPlainNew t.name.text t.decls)
 
 abbrev pub ArePlainFaultyIn : List SyntaxTheory → PlainState → SourceFault → Type 0
-ArePlainFaultyIn = PlainFirstFault (λ (t : SyntaxTheory). IsPlainNew t.name.text t.decls) (λ (t : SyntaxTheory). IsPlainNewFault t.name.text t.name.at t.decls)
+ArePlainFaultyIn = PlainFirstFault (λ (t : SyntaxTheory). IsPlainNew t.name.text t.decls)
+    (λ (t : SyntaxTheory). IsPlainNewFault t.name.text t.name.at t.decls)
 
 -- ---- the embedded library
 -- each theory has the path of its file, and its declarations have numbers of their own
@@ -66,18 +75,29 @@ abbrev pub ArePlainEmbeddedIn : List ℕ → List SyntaxTheory → PlainState �
 ArePlainEmbeddedIn path = PlainSteps (IsPlainEmbedded path)
 
 abbrev pub ArePlainEmbeddedFaultyIn : List ℕ → List SyntaxTheory → PlainState → SourceFault → Type 0
-ArePlainEmbeddedFaultyIn path = PlainFirstFault (IsPlainEmbedded path) (λ (t : SyntaxTheory). IsPlainNewFault path t.name.at t.decls)
+ArePlainEmbeddedFaultyIn path =
+    PlainFirstFault (IsPlainEmbedded path)
+    (λ (t : SyntaxTheory). IsPlainNewFault path t.name.at t.decls)
 
 abbrev pub ArePlainEmbedded : List (List ℕ × File) → PlainState → PlainState → Type 0
 ArePlainEmbedded = PlainSteps (λ (f : List ℕ × File). ArePlainEmbeddedIn f.0 (file_of f.1))
 
 abbrev pub ArePlainEmbeddedFaulty : List (List ℕ × File) → PlainState → SourceFault → Type 0
-ArePlainEmbeddedFaulty = PlainFirstFault (λ (f : List ℕ × File). ArePlainEmbeddedIn f.0 (file_of f.1)) (λ (f : List ℕ × File). ArePlainEmbeddedFaultyIn f.0 (file_of f.1))
+ArePlainEmbeddedFaulty = PlainFirstFault
+    (λ (f : List ℕ × File). ArePlainEmbeddedIn f.0 (file_of f.1))
+    (λ (f : List ℕ × File). ArePlainEmbeddedFaultyIn f.0 (file_of f.1))
 
 -- ---- a source
 -- with `int` alone
 abbrev pub plain_nothing : PlainState
-plain_nothing = record { symbols = int_symbol ∷ []; decls = []; known = []; opened = plain_empty []; number = 0 }
+plain_nothing = record {
+  symbols = int_symbol ∷ [];
+  decls = [];
+  known = [];
+  opened =
+      plain_empty [];
+  number = 0;
+}
 
 -- the theories of the library are known
 pub record IsPlainLibrary (c : PlainState) : Type 0 where
@@ -89,7 +109,14 @@ abbrev pub plain_visible : PlainState → PlainKnown → KnownTheoryTree
 plain_visible c t = record { path = t.path; decls = at_places c.decls t.visible; goals = t.goals }
 
 abbrev pub plain_theories_of : ℕ → PlainState → TheoriesTree
-plain_theories_of embedded c = record { symbols = c.symbols; ints = Some int_entries; embedded = embedded; list = map (plain_visible c) c.known }
+plain_theories_of embedded c =
+    record {
+      symbols = c.symbols;
+      ints = Some int_entries;
+      embedded = embedded;
+      list =
+          map (plain_visible c) c.known;
+    }
 
 -- the theories of a source, after those of the library
 pub record PlainTheoriesOf (source : List SyntaxTheory) (all : TheoriesTree) : Type 0 where

@@ -1,5 +1,5 @@
--- The names that a theory passes on, as moves in a scope: a name is brought in, or a scope is opened or left (Why3 manual, "use and
--- clone").
+-- The names that a theory passes on, as moves in a scope: a name is brought in, or a scope is
+-- opened or left (Why3 manual, "use and clone").
 use Rattle.std.specs.Prelude.{ℕ, false, nat_lt, if◌then◌else◌, List, [], ◌∷◌, ◌++◌, map, length, Option, Some, None}
 use Rattle.tasks.specs.trees.Tree.{Tree}
 use Rattle.tasks.specs.Task.{SymbolTree, symbol_or}
@@ -39,10 +39,12 @@ plain_replayed (m ∷ ms) names = plain_replayed ms (plain_moved m names)
 abbrev pub plain_in_scope : Word → List PlainMove → PlainNames → PlainNames
 plain_in_scope x ms names = plain_left (plain_replayed ms (with_plain_scope x false names))
 
--- `use T` makes the scope and imports, `use T as N` makes the scope alone, and `use export T` makes none
+-- `use T` makes the scope and imports, `use T as N` makes the scope alone, and `use export T` makes
+-- none
 abbrev pub plain_brought : Link → Word → Option Word → List PlainMove → PlainNames → PlainNames
 plain_brought Export last alias ms names = plain_replayed ms names
-plain_brought Import last alias ms names = plain_replayed ms (plain_in_scope (name_or last alias) ms names)
+plain_brought Import last alias ms names =
+    plain_replayed ms (plain_in_scope (name_or last alias) ms names)
 plain_brought Bare last (Some x) ms names = plain_in_scope x ms names
 plain_brought Bare last None ms names = plain_replayed ms (plain_in_scope last ms names)
 
@@ -60,7 +62,8 @@ brings_found table x (Some thing) = brings_name table x thing ∷ []
 -- the names that are made in tables, in reading order, each with what it stands for
 abbrev pub plain_moves_made : PlainNames → List Made → List PlainMove
 plain_moves_made names [] = []
-plain_moves_made names (makes table c ∷ ms) = brings_found table c.name (plain_find names table (c.name ∷ [])) ++ plain_moves_made names ms
+plain_moves_made names (makes table c ∷ ms) =
+    brings_found table c.name (plain_find names table (c.name ∷ [])) ++ plain_moves_made names ms
 plain_moves_made names (binds_names cs ∷ ms) = plain_moves_made names ms
 
 -- those of a declaration of a source; a `use`, a `clone` and a `scope` make none here
@@ -78,7 +81,8 @@ type_symbol_mapped vars None j = Stands j
 type_symbol_mapped vars (Some e) j = Abbreviates vars e
 
 abbrev pub meaning_mapped : List SymbolTree → Map → Table → MeaningTree → MeaningTree
-meaning_mapped symbols m Types (Stands k) = type_symbol_mapped (symbol_or symbols k).vars (m.types k) (m.symbols k)
+meaning_mapped symbols m Types (Stands k) =
+    type_symbol_mapped (symbol_or symbols k).vars (m.types k) (m.symbols k)
 meaning_mapped symbols m Types (Abbreviates vars e) = Abbreviates vars (mapped m e)
 meaning_mapped symbols m Symbols (Stands k) = Stands (m.symbols k)
 meaning_mapped symbols m Symbols (Abbreviates vars e) = Abbreviates vars e
@@ -86,7 +90,8 @@ meaning_mapped symbols m Propositions t = t
 meaning_mapped symbols m Scopes t = t
 
 abbrev pub plain_move_mapped : List SymbolTree → Map → PlainMove → PlainMove
-plain_move_mapped symbols m (brings_name table x t) = brings_name table x (meaning_mapped symbols m table t)
+plain_move_mapped symbols m (brings_name table x t) =
+    brings_name table x (meaning_mapped symbols m table t)
 plain_move_mapped symbols m (opens_scope x) = opens_scope x
 plain_move_mapped symbols m leaves_scope = leaves_scope
 

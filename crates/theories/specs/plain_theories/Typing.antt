@@ -1,4 +1,5 @@
--- The typing of a theory's declarations, one after another, and their first fault (Why3 manual, "theories").
+-- The typing of a theory's declarations, one after another, and their first fault (Why3 manual,
+-- "theories").
 use Rattle.std.specs.Prelude.{◌≡◌, ◌⊎◌, ℕ, ◌+◌, true, false, codes, List, [], ◌∷◌, ◌++◌}
 use Rattle.elaboration_laws.specs.scopes.declared.Table.TheVariants.{Scopes}
 use Rattle.surface.specs.declared.names.Name.{Name}
@@ -18,17 +19,20 @@ pub record PlainThen (R S : PlainState → PlainState → Type 0) (c c' : PlainS
   pub first : R c between
   pub second : S between c'
 
-pub record PlainFaultThen (R : PlainState → PlainState → Type 0) (Is : PlainState → SourceFault → Type 0) (c : PlainState) (f : SourceFault) : Type 0 where
+pub record PlainFaultThen (R : PlainState → PlainState → Type 0)
+    (Is : PlainState → SourceFault → Type 0) (c : PlainState) (f : SourceFault) : Type 0 where
   pub between : PlainState
   pub first : R c between
   pub fault : Is between f
 
 -- a step for each of a list, in order, and the first fault of these
-abbrev pub PlainSteps : {X : Type 0} → (X → PlainState → PlainState → Type 0) → List X → PlainState → PlainState → Type 0
+abbrev pub PlainSteps : {X : Type 0} → (X → PlainState → PlainState → Type 0) → List X → PlainState
+    → PlainState → Type 0
 PlainSteps R [] c c' = c ≡ c'
 PlainSteps R (x ∷ xs) c c' = PlainThen (R x) (PlainSteps R xs) c c'
 
-abbrev pub PlainFirstFault : {X : Type 0} → (X → PlainState → PlainState → Type 0) → (X → PlainState → SourceFault → Type 0) → List X → PlainState → SourceFault → Type 0
+abbrev pub PlainFirstFault : {X : Type 0} → (X → PlainState → PlainState → Type 0)
+    → (X → PlainState → SourceFault → Type 0) → List X → PlainState → SourceFault → Type 0
 PlainFirstFault R Is [] c f = ⊥
 PlainFirstFault R Is (x ∷ xs) c f = Is x c f ⊎ PlainFaultThen (R x) (PlainFirstFault R Is xs) c f
 
@@ -69,7 +73,8 @@ abbrev mutual
   pub IsPlainTyped : SyntaxDeclaration → PlainState → PlainState → Type 0
   IsPlainTyped (use_decl a l p n) c c' = PlainThen (IsPlainUsed l p n) IsPlainPassed c c'
   IsPlainTyped (clone_decl a l p n es) c c' = PlainThen (IsPlainCloned l p n es) IsPlainPassed c c'
-  IsPlainTyped (scope_decl a n ds) c c' = PlainThen (IsPlainOpened n) (PlainThen (ArePlainTyped ds) (IsPlainLeft c.opened.within)) c c'
+  IsPlainTyped (scope_decl a n ds) c c' =
+      PlainThen (IsPlainOpened n) (PlainThen (ArePlainTyped ds) (IsPlainLeft c.opened.within)) c c'
   IsPlainTyped d c c' = PlainThen (IsPlainDeclared d) IsPlainPassed c c'
 
   pub ArePlainTyped : SyntaxDeclarations → PlainState → PlainState → Type 0
@@ -81,9 +86,11 @@ abbrev mutual
   pub IsPlainFault : SyntaxDeclaration → PlainState → SourceFault → Type 0
   IsPlainFault (use_decl a l p n) c f = IsPlainUnknown p c.known c.number f
   IsPlainFault (clone_decl a l p n es) c f = IsPlainCloneFault p es c f
-  IsPlainFault (scope_decl a n ds) c f = IsPlainTwice n c f ⊎ PlainFaultThen (IsPlainOpened n) (ArePlainFaulty ds) c f
+  IsPlainFault (scope_decl a n ds) c f =
+      IsPlainTwice n c f ⊎ PlainFaultThen (IsPlainOpened n) (ArePlainFaulty ds) c f
   IsPlainFault d c f = IsPlainDeclaredFault d c f
 
   pub ArePlainFaulty : SyntaxDeclarations → PlainState → SourceFault → Type 0
   ArePlainFaulty no_decls c f = ⊥
-  ArePlainFaulty (more_decls d ds) c f = IsPlainFault d c f ⊎ PlainFaultThen (IsPlainTyped d) (ArePlainFaulty ds) c f
+  ArePlainFaulty (more_decls d ds) c f =
+      IsPlainFault d c f ⊎ PlainFaultThen (IsPlainTyped d) (ArePlainFaulty ds) c f

@@ -1,5 +1,6 @@
--- The side conditions of a declaration: each match takes all values, and then the declarations pass their checks (Why3 manual, "pattern
--- matching", "logical declarations"). The first match in reading order counts before any check.
+-- The side conditions of a declaration: each match takes all values, and then the declarations pass
+-- their checks (Why3 manual, "pattern matching", "logical declarations"). The first match in
+-- reading order counts before any check.
 use Rattle.std.specs.Prelude.{◌≡◌, ◌⊎◌, ℕ, List, [], ◌∷◌, map, All, Result, Ok, Err}
 use Rattle.trees.specs.Tree.{Tree}
 use Rattle.trees.specs.Node.{Holds}
@@ -19,12 +20,15 @@ IsCovered symbols m = AreExhaustive symbols m.1
 -- the first match that doesn't take all values has this token
 abbrev pub IsFirstOpenMatch : List SymbolTree → List (ℕ × List Tree) → ℕ → Type 0
 IsFirstOpenMatch symbols [] token = ⊥
-IsFirstOpenMatch symbols (m ∷ ms) token = ((m.0 ≡ token) × (IsCovered symbols m → ⊥)) ⊎ (IsCovered symbols m × IsFirstOpenMatch symbols ms token)
+IsFirstOpenMatch symbols (m ∷ ms) token =
+    ((m.0 ≡ token) × (IsCovered symbols m → ⊥))
+    ⊎ (IsCovered symbols m × IsFirstOpenMatch symbols ms token)
 
 -- the first declaration with a fault has this one
 abbrev pub IsFirstCheckFault : List SymbolTree → List BodyTree → CheckFault → Type 0
 IsFirstCheckFault symbols [] f = ⊥
-IsFirstCheckFault symbols (b ∷ bs) f = HasFault symbols b f ⊎ (HasNoFault symbols b × IsFirstCheckFault symbols bs f)
+IsFirstCheckFault symbols (b ∷ bs) f =
+    HasFault symbols b f ⊎ (HasNoFault symbols b × IsFirstCheckFault symbols bs f)
 
 abbrev pub IsSideFault : List SymbolTree → List (ℕ × List Tree) → List BodyTree → SideFault → Type 0
 IsSideFault symbols ms bs Memory = Unit {0}

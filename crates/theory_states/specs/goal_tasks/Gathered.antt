@@ -14,7 +14,8 @@ pub record AreAmong (found ks : List ℕ) : Type 0 where
 
 -- the symbols of the trees with these numbers are there
 pub record AreGathered (s : List Tree) (found ids : List ℕ) : Type 0 where
-  pub each : (id : ℕ) → IsTrue (is_among ids id) → AreAmong found (named (tree_at s (record { 0 = id })))
+  pub each : (id : ℕ) → IsTrue (is_among ids id)
+      → AreAmong found (named (tree_at s (record { 0 = id })))
 
 -- a walk has gained these, and what it has done is there
 pub record Walks (s : List Tree) (old new done ks : List ℕ) : Type 0 where

@@ -20,10 +20,21 @@ placed ds [] = []
 placed ds (k ∷ ks) = option_to_list (slice_get ds k) ++ placed ds ks
 
 abbrev pub theory_at : List Tree → List Decl → Theory → KnownTheoryTree
-theory_at s ds t = record { path = t.path; decls = declarations_at s (placed ds t.visible); goals = map (goal_at s) t.goals }
+theory_at s ds t = record {
+  path = t.path;
+  decls = declarations_at s (placed ds t.visible);
+  goals =
+      map (goal_at s) t.goals;
+}
 
 abbrev pub theories_at : List Tree → Theories → TheoriesTree
-theories_at s all = record { symbols = symbols_at s all.sig.value.symbols; ints = all.sig.value.ints; embedded = all.embedded; list = map (theory_at s all.decls) all.list }
+theories_at s all = record {
+  symbols = symbols_at s all.sig.value.symbols;
+  ints =
+      all.sig.value.ints;
+  embedded = all.embedded;
+  list = map (theory_at s all.decls) all.list;
+}
 
 abbrev pub GoalHeld : List Tree → GoalAt → Type 0
 GoalHeld s g = Holds s g.prop

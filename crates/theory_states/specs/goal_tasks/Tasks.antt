@@ -1,4 +1,5 @@
--- The task of a goal: the declarations before it, after those of the tuples that occur (Why3 manual, "tasks").
+-- The task of a goal: the declarations before it, after those of the tuples that occur (Why3
+-- manual, "tasks").
 use Rattle.std.specs.Prelude.{◌≡◌, ℕ, List, [], ◌++◌, take, IsSomeAnd}
 use Rattle.tasks.specs.Task.{DeclarationTree, TaskTree}
 use Rattle.theory_states.specs.goal_tasks.Named.{named, declarations_named}
@@ -26,4 +27,6 @@ task_for all t g = record {
 
 -- the task of the goal with this name in the theory with this path
 abbrev pub IsTaskOf : TheoriesTree → List ℕ → List ℕ → TaskTree → Type 0
-IsTaskOf all theory goal task = IsSomeAnd (theory_named all theory) (λ t. IsSomeAnd (goal_named t goal) (λ g. task ≡ task_for all t g))
+IsTaskOf all theory goal task =
+    IsSomeAnd (theory_named all theory)
+    (λ t. IsSomeAnd (goal_named t goal) (λ g. task ≡ task_for all t g))

@@ -1,4 +1,5 @@
--- Theories with the declarations that are in them, and the goals that can be named (Why3 manual, "theories").
+-- Theories with the declarations that are in them, and the goals that can be named (Why3 manual,
+-- "theories").
 use Rattle.std.specs.Prelude.{ℕ, Bool, List, drop, reverse, Option}
 use Rattle.std.specs.List.{find}
 use Rattle.std.specs.Str.{bytes_eq}
@@ -6,8 +7,9 @@ use Rattle.trees.specs.declared.ints.Ints.{Ints}
 use Rattle.trees.specs.Tree.{Tree}
 use Rattle.tasks.specs.Task.{SymbolTree, DeclarationTree}
 
--- a goal, or a lemma that can be named: its name after the names of its scopes, joined by dots; how many declarations are before
--- it; its proposition with the types of its own type variables, and the entries of these
+-- a goal, or a lemma that can be named: its name after the names of its scopes, joined by dots; how
+-- many declarations are before it; its proposition with the types of its own type variables, and
+-- the entries of these
 pub record GoalTree : Type 0 where
   pub name : List ℕ
   pub before : ℕ

@@ -1,4 +1,5 @@
--- A change that puts terms for bound variables and parameters, and types for type variables, keeps sorts.
+-- A change that puts terms for bound variables and parameters, and types for type variables, keeps
+-- sorts.
 use Rattle.std.proofs.Common.{◌≡◌, ◌≢◌, ℕ, ◌+◌, inl, inr, None, Some, refl, ap, ◌∙◌, sym}
 use Rattle.trees.specs.declared.Sort.{Sort}
 use Rattle.trees.specs.declared.Sort.TheVariants.{Kind, Term, Pattern, List}
@@ -29,7 +30,8 @@ two_no_vars : (h : Head) (m n : ℕ) (a b : Tree) → sort_of (Two h a b) ≢ Li
 two_no_vars HCell m n a b e = absurd (e refl)
 two_no_vars _ m n a b e = refl
 
-three_no_vars : (h : Head) (n : ℕ) (a b c : Tree) → sort_of (Three h a b c) ≢ Pattern → three_vars h n ≡ 0
+three_no_vars : (h : Head) (n : ℕ) (a b c : Tree) → sort_of (Three h a b c) ≢ Pattern
+    → three_vars h n ≡ 0
 three_no_vars (HPatCon k) n a b c e = absurd (e refl)
 three_no_vars _ n a b c e = refl
 
@@ -78,8 +80,10 @@ module _ (f : Change) (p : PutsSorts f) where
   leaf_yield _ = refl
 
   one_yield : (d : ℕ) (h : Head) (x : Tree) → yield (one_by f d h x) ≡ one_sort h
-  one_yield d (HBound i) x = top_term (head_of (f.bound d i x)) (yield (f.bound d i x)) (p.bound d i x)
-  one_yield d (HParam n) x = top_term (head_of (f.param d n x)) (yield (f.param d n x)) (p.param d n x)
+  one_yield d (HBound i) x =
+      top_term (head_of (f.bound d i x)) (yield (f.bound d i x)) (p.bound d i x)
+  one_yield d (HParam n) x =
+      top_term (head_of (f.param d n x)) (yield (f.param d n x)) (p.param d n x)
   one_yield d _ x = refl
 
   pub yield-change : (d : ℕ) (e : Tree) → yield (change f d e) ≡ yield e
@@ -100,16 +104,20 @@ module _ (f : Change) (p : PutsSorts f) where
   pub sort_of-change : (d : ℕ) (e : Tree) → sort_of (change f d e) ≡ sort_of e
   sort_of-change d (Leaf h) = leaf_top h
   sort_of-change d (One h a) = one_top d h (change f d a) a
-  sort_of-change d (Two h a b) = ap (top_sort h) (cc (yield-change d a, yield-change (d + binders_over h a) b))
+  sort_of-change d (Two h a b) =
+      ap (top_sort h) (cc (yield-change d a, yield-change (d + binders_over h a) b))
   sort_of-change d (Three h a b c) = ap (λ s. top_sort h (three_sort h s)) (yield-change d b)
 
   leaf_first : (h : Head) → first_sort (leaf_by f h) ≡ None
-  leaf_first (HTyVar j) = first_sort_none (f.ty_var j) (λ l. let k : Kind ≡ List = sym (p.ty_var j) ∙ l in cc)
+  leaf_first (HTyVar j) = first_sort_none (f.ty_var j)
+      (λ l. let k : Kind ≡ List = sym (p.ty_var j) ∙ l in cc)
   leaf_first _ = refl
 
   one_first : (d : ℕ) (h : Head) (x : Tree) → first_sort (one_by f d h x) ≡ None
-  one_first d (HBound i) x = first_sort_none (f.bound d i x) (λ l. let k : Term ≡ List = sym (p.bound d i x) ∙ l in cc)
-  one_first d (HParam n) x = first_sort_none (f.param d n x) (λ l. let k : Term ≡ List = sym (p.param d n x) ∙ l in cc)
+  one_first d (HBound i) x = first_sort_none (f.bound d i x)
+      (λ l. let k : Term ≡ List = sym (p.bound d i x) ∙ l in cc)
+  one_first d (HParam n) x = first_sort_none (f.param d n x)
+      (λ l. let k : Term ≡ List = sym (p.param d n x) ∙ l in cc)
   one_first d _ x = refl
 
   pub first_sort-change : (d : ℕ) (e : Tree) → first_sort (change f d e) ≡ first_sort e
@@ -141,8 +149,24 @@ module _ (f : Change) (p : PutsSorts f) where
   pub one_fits : (d : ℕ) (h : Head) (a : Tree) → Fits (One h a) → Fits (One h (change f d a))
   one_fits d h a t = rw (sort_of-change d a, first_sort-change d a) t
 
-  pub two_fits : (d c : ℕ) (h : Head) (a b : Tree) → Fits (Two h a b) → Fits (Two h (change f d a) (change f c b))
-  two_fits d c h a b t = (rw (sort_of-change d a, first_sort-change d a, sort_of-change c b, first_sort-change c b) t.0, branch_kept c h b t.1)
+  pub two_fits : (d c : ℕ) (h : Head) (a b : Tree) → Fits (Two h a b)
+      → Fits (Two h (change f d a) (change f c b))
+  two_fits d c h a b t = (
+    rw (
+      sort_of-change d a,
+      first_sort-change d a,
+      sort_of-change c b,
+      first_sort-change c b,
+    ) t.0,
+    branch_kept c h b t.1,
+  )
 
-  pub three_fits : (d : ℕ) (h : Head) (a b c : Tree) → Fits (Three h a b c) → Fits (Three h (change f d a) (change f d b) (change f d c))
-  three_fits d h a b c t = rw (sort_of-change d a, first_sort-change d a, sort_of-change d b, first_sort-change d b, sort_of-change d c) t
+  pub three_fits : (d : ℕ) (h : Head) (a b c : Tree) → Fits (Three h a b c)
+      → Fits (Three h (change f d a) (change f d b) (change f d c))
+  three_fits d h a b c t = rw (
+    sort_of-change d a,
+    first_sort-change d a,
+    sort_of-change d b,
+    first_sort-change d b,
+    sort_of-change d c,
+  ) t

@@ -32,13 +32,25 @@ pub record HasInt (s : List Tree) : Type 0 where
   pub is : get_or s 1 (Leaf HEnd) ≡ int_type
 
 abbrev pub empty_summary : Summary
-empty_summary = record { size = 0; height = 0; loose = 0; variables = 0; above_types = 0; above_params = 0; sort = Kind; ty = None }
+empty_summary = record {
+  size = 0;
+  height = 0;
+  loose = 0;
+  variables = 0;
+  above_types =
+      0;
+  above_params = 0;
+  sort = Kind;
+  ty = None;
+}
 
 -- the nodes are sound, `int` is there, and beside each node stands what is to be kept
 pub record IsSoundTable (es : List (Node × Summary)) : Type 0 where
   pub sound : IsSound (keys_of es)
   pub int : HasInt (trees_of (keys_of es))
-  pub kept : (k : ℕ) → k < length es → IsKeptSummary (trees_of (keys_of es)) (get_or (values_of es) k empty_summary) (get_or (trees_of (keys_of es)) k (Leaf HEnd))
+  pub kept : (k : ℕ) → k < length es
+      → IsKeptSummary (trees_of (keys_of es)) (get_or (values_of es) k empty_summary)
+      (get_or (trees_of (keys_of es)) k (Leaf HEnd))
 
 -- the nodes are sound, and `int` is there
 pub record IsSoundList (ns : List Node) : Type 0 where

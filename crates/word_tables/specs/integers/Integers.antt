@@ -6,7 +6,8 @@ use Rattle.std.specs.Option.{option_map}
 abbrev pub number_from : ℕ → ℕ → List ℕ → Option ℕ
 number_from bound n [] = Some n
 number_from bound n (c ∷ cs) =
-    if (nat_le 48 c && nat_le c 57) && nat_lt (n * 10 + (c - 48)) bound then number_from bound (n * 10 + (c - 48)) cs else None
+    if (nat_le 48 c && nat_le c 57)
+    && nat_lt (n * 10 + (c - 48)) bound then number_from bound (n * 10 + (c - 48)) cs else None
 
 -- the number that a word writes in decimal, without leading zeros and below a bound
 abbrev pub number_below : ℕ → List ℕ → Option ℕ

@@ -80,7 +80,8 @@ module _ (t : TaskTree) (valid : IsValid t) where
       (
         refl,
         subst
-            (λ (o : Option SymbolTree). IsSomeAnd o (λ e. (e.kind ≡ Kind) × (0 ≡ e.vars))) (sym valid.int)
+            (λ (o : Option SymbolTree). IsSomeAnd o (λ e. (e.kind ≡ Kind) × (0 ≡ e.vars)))
+            (sym valid.int)
             (refl, refl),
       ),
       (tt, tt),

@@ -19,11 +19,13 @@ above_indices (Three h a b c) = max (above_indices a) (max (above_indices b) (ab
 -- each index of each tree is below the number
 abbrev pub AreIndicesWithin : List Tree → ℕ → List TermId → Type 0
 AreIndicesWithin s room [] = Unit {0}
-AreIndicesWithin s room (id ∷ ids) = (above_indices (tree_at s id) ≤ room) × AreIndicesWithin s room ids
+AreIndicesWithin s room (id ∷ ids) =
+    (above_indices (tree_at s id) ≤ room) × AreIndicesWithin s room ids
 
 -- each remembered number is above each index of the tree
 abbrev pub AreIndexBounds : {S : Type 0} → List Tree → IndexMap ℕ ℕ S → Type 0
-AreIndexBounds s m = (k v : ℕ) → get nat_eq m k ≡ Some v → (k < length s) × (above_indices (get_or s k (Leaf HEnd)) ≤ v)
+AreIndexBounds s m = (k v : ℕ) → get nat_eq m k ≡ Some v
+    → (k < length s) × (above_indices (get_or s k (Leaf HEnd)) ≤ v)
 
 -- what the number for a tree asks for
 pub record CanBound {S : Type 0} (s : List Tree) (m : IndexMap ℕ ℕ S) (e : TermId) : Type 0 where
@@ -31,6 +33,7 @@ pub record CanBound {S : Type 0} (s : List Tree) (m : IndexMap ℕ ℕ S) (e : T
   pub known : AreIndexBounds s m
 
 -- what it gives: a number above each index of the tree; and what is remembered stays right
-pub record IsBounded {S : Type 0} (s : List Tree) (e : TermId) (m : IndexMap ℕ ℕ S) (n : ℕ) : Type 0 where
+pub record IsBounded {S : Type 0} (s : List Tree) (e : TermId) (m : IndexMap ℕ ℕ S)
+    (n : ℕ) : Type 0 where
   pub above : above_indices (tree_at s e) ≤ n
   pub known : AreIndexBounds s m
