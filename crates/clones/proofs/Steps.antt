@@ -13,9 +13,7 @@ use Rattle.trees.specs.binders.Visits.{HoldTypes}
 use Rattle.clones.specs.declared.maps.SymbolMap.{SymbolMap}
 use Rattle.clones.specs.Mapped.{Map, mapped, one_mapped, head_mapped}
 use Rattle.clones.specs.Meaning.{map_at, MapHeld, IsAlike, IsMapped, AreKnown}
-
-some_same : (a b : TermId) → Some a ≡ Some b → a ≡ b
-some_same a b e = cc
+use Rattle.trees.proofs.binders.Rebuilt.{some_same}
 
 -- ---- a map
 module _ (s t : List Tree) (w : Grows s t) (m : SymbolMap) (h : MapHeld s m) where

@@ -5,9 +5,7 @@ use Rattle.elab_groups.specs.trees.Tree.{Tree}
 use Rattle.clones.specs.Mapped.{Map}
 use Rattle.clones.specs.clone_elements.Plans.{same_map, with_symbol, with_type, with_numbers, with_symbols, with_mapped_types, map_of}
 use Rattle.elab_groups.proofs.plain_laws.Bools.{same_number}
-
-pub here : {X : Type 0} (x : X) (xs : List X) → Contains (x ∷ xs) x
-here x xs = (0, omega arith, refl)
+pub use Rattle.elab_groups.proofs.plain_laws.Lists.{first_contained as here}
 
 pub later : {X : Type 0} (y x : X) (xs : List X) → Contains xs x → Contains (y ∷ xs) x
 later y x xs h = (suc h.0, let l = h.1 in omega (arith, l), h.2)

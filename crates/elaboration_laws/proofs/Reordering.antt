@@ -17,6 +17,7 @@ use Rattle.elab_groups.specs.open_types.Patterns.{reordering}
 use Rattle.elab_groups.specs.open_types.Reordered.{sorts_reordering}
 use Rattle.elaboration_laws.proofs.Over.{IsGood}
 use Rattle.elab_groups.proofs.tasks.TypeInstances.{further}
+use Rattle.elab_groups.proofs.plain_laws.Lists.{got_left as first_part}
 
 module _ (places : List ℕ) where
   abbrev pub at : ℕ → Tree → Tree
@@ -184,11 +185,6 @@ behind : (xs ys : List Tree) (i k : ℕ) → i ≡ length xs + k → slice_get (
 behind [] ys i k q = ap (slice_get ys) (omega (arith, q))
 behind (x ∷ xs) ys zero k q = absurd (omega (arith, q))
 behind (x ∷ xs) ys (suc i) k q = behind xs ys i k (omega (arith, q))
-
-first_part : (xs ys : List Tree) (i : ℕ) → i < length xs → slice_get (xs ++ ys) i ≡ slice_get xs i
-first_part [] ys i l = absurd (omega arith)
-first_part (x ∷ xs) ys zero l = refl
-first_part (x ∷ xs) ys (suc i) l = first_part xs ys i (omega arith)
 
 -- under variables of the types `xs`, which those of the types `ys` take the places of
 module _ (v : Vocabulary) (places : List ℕ) (xs ys zs : List Tree) (count : length places ≡ length xs) (counts : length ys ≡ length xs)

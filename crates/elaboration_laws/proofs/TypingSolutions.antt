@@ -35,6 +35,7 @@ use Rattle.elaboration_laws.proofs.Ordered.{order_at}
 use Rattle.elaboration_laws.proofs.Reordering as order
 pub use Rattle.elaboration_laws.proofs.Bodies.{both_solved as solves_both}
 pub use Rattle.theory_states.proofs.goal_tasks.TuplesMade.{variables_count as count_variables}
+pub use Rattle.elab_groups.proofs.plain_laws.Options.{same_some as some_same}
 
 -- ---- lists
 pub tokens_both : (cs ds : List Choice) → tokens (cs ++ ds) ≡ tokens cs ++ tokens ds
@@ -49,9 +50,6 @@ count_tokens xs cs e = ap length e ∙ length-map cs (λ (c : Choice). c.token)
 
 count_choices : (i : ℕ) (ts : List Tree) → length (choices_at i ts) ≡ length ts
 count_choices i ts = length-map ts (λ (t : Tree). record { token = i; type = t })
-
-pub some_same : (a b : Tree) → Some a ≡ Some b → a ≡ b
-some_same a b h = cc (h)
 
 module _ (w : Where) (sc : IsScoped w) (r : ℕ) (own : length w.vars ≤ r) (f : ℕ → Tree) (kinds : (j : ℕ) → IsKind (f j)) where
   abbrev pub at : Tree → Tree

@@ -17,14 +17,12 @@ use Rattle.tasks.specs.Valid.{IsValid}
 use Rattle.tasks.proofs.Declared.{contains_cases, contains_step, none_in, any_iff}
 use Rattle.rules.specs.Rows.{equation, clauses}
 use Rattle.evidence.specs.Facts.{at_symbol, fact_named, IsFoundByName}
+pub use Rattle.tasks.proofs.plain_laws.Lists.{first_contained}
 
 -- ---- what a list contains
 pub first_or_rest : {A : Type 0} (y x : A) (xs : List A) → Contains (x ∷ xs) y → (x ≡ y) ⊎ Contains xs y
 first_or_rest y x xs (zero, l, e) = inl e
 first_or_rest y x xs (suc j, l, e) = inr (j, omega arith, e)
-
-pub first_contained : {A : Type 0} (x : A) (xs : List A) → Contains (x ∷ xs) x
-first_contained x xs = (0, omega arith, refl)
 
 pub rest_contains : {A : Type 0} (y x : A) (xs : List A) → Contains xs y → Contains (x ∷ xs) y
 rest_contains y x xs (j, l, e) = (suc j, omega arith, e)

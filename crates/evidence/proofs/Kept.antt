@@ -23,6 +23,7 @@ use Rattle.evidence.specs.Drafts.{DraftTree, Extends, AddsTrees, Refutes}
 use Rattle.evidence.specs.Inside.{AreLemmas, IsDraft, draft_at}
 use Rattle.evidence.specs.Laws.{AddsTrees_extends}
 use Rattle.evidence.proofs.Rules.{refutes_later}
+use Rattle.tasks.proofs.plain_laws.Options.{same_some as some_same}
 
 steps_pushed : (s : List Tree) (list : List Step) (st : Step) → steps_at s (list ++ st ∷ []) ≡ steps_at s list ++ step_at s st ∷ []
 steps_pushed s list st = map-append (step_at s) list (st ∷ [])
@@ -64,10 +65,6 @@ draft_later s s' t list es g inv =
 
 pub draft_adds : (s s' : List Tree) (t : Task) (list : List Step) (es : List (ℕ × ℕ)) (d : DraftTree) → draft_at s t list ≡ d → Grows s s' → IsDraft s t list es → AddsTrees d (draft_at s' t list)
 draft_adds s s' t list es d is g inv = subst (λ (x : DraftTree). AddsTrees x (draft_at s' t list)) is (adds s s' t list es g inv)
-
--- a formula's step is remembered
-some_same : (j k : ℕ) → Some j ≡ Some k → j ≡ k
-some_same j k e = cc
 
 pub lemma_more : (d : DraftTree) (es fs : List (ℕ × ℕ)) (a : TermId) (k : ℕ) → AreLemmas d es → Holds d.trees a → Refutes d k (neg (tree_at d.trees a) ∷ [])
     → ((q : ℕ) → lookup (nat_eq q) fs ≡ cond (nat_eq a.0 q) (Some k) (lookup (nat_eq q) es)) → AreLemmas d fs

@@ -33,6 +33,7 @@ use Rattle.open_types.specs.Drafts.{HoldsType, symbol_got, IsReady, IsMade, IsWa
 use Rattle.open_types.proofs.Growing.{world_stays, locals_stay, types_stay, types_grow, wanted_stays}
 use Rattle.open_types.proofs.Noting.{next, count_replicate, more_noted, noted_after}
 use Rattle.open_types.proofs.Walking.{none_both, not_if, set_on, walked_both, walked_bare, grown_sort}
+pub use Rattle.tasks.proofs.plain_laws.Lists.{got_held as got_one}
 
 -- ---- names of variables
 pub names_both : (xs ys : List LocalTree) → names (xs ++ ys) ≡ names xs ++ names ys
@@ -91,14 +92,6 @@ pub entry_got : (s : List Tree) (is : List SymbolInfo) (k : ℕ) → symbol_or (
 entry_got s [] k = refl
 entry_got s (x ∷ xs) zero = refl
 entry_got s (x ∷ xs) (suc k) = entry_got s xs k
-
-pub got_one : {A : Type 0} (P : A → Type 0) (xs : List A) (k : ℕ) → All P xs → IfSome (slice_get xs k) P
-got_one {A} P xs k h = of xs (recursion_from_All P xs h) k
-  where
-    of : (ys : List A) → AllByRecursion P ys → (j : ℕ) → IfSome (slice_get ys j) P
-    of [] g j = tt
-    of (y ∷ ys) g zero = g.0
-    of (y ∷ ys) g (suc j) = of ys g.1 j
 
 -- ---- arguments
 pub go_all : {s : List Tree} {d : Constraints} {w : World} {ls : Locals} {t : Option TermId} {es : Expressions} → CanUse s d w ls t es

@@ -27,14 +27,8 @@ use Rattle.open_types.specs.Pieces.{NotedTree, piece, bare_piece, piece_under, b
 use Rattle.open_types.specs.Drafts.{HoldsType, IsReady, IsMade, IsNoted, IsWalked, IsSet, CanWalk, LocalsHeld, local_at, locals_at, names_of_locals, is_due, due}
 use Rattle.open_types.proofs.Growing.{world_stays, world_grows, locals_stay, locals_grow}
 use Rattle.open_types.proofs.Noting.{more_noted, follow_nothing}
-
--- where no fault stands, none is in either part
-pub none_both : (x y : Option NamingFault) → first_of x y ≡ None → (x ≡ None) × (y ≡ None)
-none_both None y h = (refl, h)
-none_both (Some f) y h = absurd (cc)
-
-pub both_none : (x y : Option NamingFault) → x ≡ None → y ≡ None → first_of x y ≡ None
-both_none x y p q = rw p q
+pub use Rattle.name_resolution.proofs.variables.Closing.{both_none}
+pub use Rattle.name_resolution.proofs.variables.Closing.{none_both}
 
 pub not_if : (b : Bool) (f : NamingFault) → fault_if b f ≡ None → b ≡ false
 not_if true f h = absurd (cc)

@@ -1,11 +1,11 @@
 -- Laws of lists and what is at a place of one.
-use Rattle.std.proofs.Common.{All, Bool, List, None, [], ap, append_assoc, arith, bytes_eq, drop, false, get_or, length, map, refl, slice_get, suc, sym, take, true, zero, ℕ, ◌++◌, ◌+◌, ◌<◌, ◌∙◌, ◌∷◌, ◌≡◌}
+use Rattle.std.proofs.Common.{All, Bool, IfSome, List, None, Some, [], ap, append_assoc, arith, bytes_eq, drop, false, get_or, length, map, refl, slice_get, suc, sym, take, true, zero, ℕ, ◌++◌, ◌+◌, ◌<◌, ◌∙◌, ◌∷◌, ◌≡◌}
 use Rattle.std.proofs.lemmas.List.{append-nil, drop_more, map_more, take_more}
 use Rattle.std.proofs.lemmas.List.Concat.{flat_map-append}
 use Rattle.std.proofs.lemmas.List.Elements.{All-cons, All-head, All-nil, All-tail}
 use Rattle.std.proofs.lemmas.Slice.Eq.{bytes_eq-Decides}
 use Rattle.std.specs.Cmp.Lexicographic.{nat_list_eq_equiv}
-use Rattle.std.specs.List.{flat_map}
+use Rattle.std.specs.List.{Contains, flat_map}
 use Rattle.std.specs.Map.{AreApart, IsKeyTest, KeepsOthers, lookup}
 use Rattle.std.specs.Str.{bytes_eq}
 
@@ -55,3 +55,26 @@ All-right P (x ∷ xs) ys a = All-right P xs ys (λ k d l. a (suc k) d (omega ar
 -- what is left from a place on
 pub drop_at : {X : Type 0} (xs : List X) (i : ℕ) (x : X) → x ≡ get_or xs i x → i < length xs → drop i xs ≡ x ∷ drop (i + 1) xs
 drop_at xs i x is l = drop_more xs i x l ∙ ap (λ z. z ∷ drop (i + 1) xs) (sym is)
+
+-- ---- what is at a place
+pub got_left : {X : Type 0} (xs ys : List X) (i : ℕ) → i < length xs → slice_get (xs ++ ys) i ≡ slice_get xs i
+got_left [] ys i l = absurd (omega arith)
+got_left (x ∷ xs) ys zero l = refl
+got_left (x ∷ xs) ys (suc i) l = got_left xs ys i (omega arith)
+
+pub got_last : {X : Type 0} (xs : List X) (x : X) → slice_get (xs ++ x ∷ []) (length xs) ≡ Some x
+got_last [] x = refl
+got_last (y ∷ ys) x = got_last ys x
+
+pub got_held : {X : Type 0} (P : X → Type 0) (xs : List X) (i : ℕ) → All P xs → IfSome (slice_get xs i) P
+got_held P [] i h = tt
+got_held P (x ∷ xs) zero h = All-head P x xs h
+got_held P (x ∷ xs) (suc i) h = got_held P xs i (All-tail P x xs h)
+
+pub first_contained : {X : Type 0} (x : X) (xs : List X) → Contains (x ∷ xs) x
+first_contained x xs = (0, omega arith, refl)
+
+pub got_contained : {X : Type 0} (xs : List X) (i : ℕ) (x : X) → slice_get xs i ≡ Some x → Contains xs x
+got_contained [] i x q = absurd (cc)
+got_contained (y ∷ ys) zero x q = let e : y ≡ x = cc in (0, omega arith, e)
+got_contained (y ∷ ys) (suc i) x q = let h = got_contained ys i x q in (suc h.0, let l = h.1 in omega (arith, l), h.2)

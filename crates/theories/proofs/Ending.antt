@@ -34,6 +34,7 @@ use Rattle.elaboration_laws.proofs.Keeping.{begun_typed, ended_typed}
 use Rattle.theories.specs.Files.{IsTheoryBegun, IsEnded, visible_theory, theories_of, nothing_known}
 use Rattle.theories.specs.Ints.{int_entries}
 use Rattle.theories.specs.Right.{IsStateRight, AreTheoriesRight, IsPath, between_at}
+pub use Rattle.clones.proofs.clone_elements.Looked.{result_held as option_held}
 
 -- a theory begins
 pub begun_is : (s : List Tree) (t : Typed) (path : List ℕ) (n : ℕ) (o : Opened) → opened_at s o ≡ opened_empty path → o.count ≡ n + 1 → IsTheoryBegun path (between_at s t n) (state_at s t o)
@@ -90,10 +91,6 @@ theory_is s ds k = ap (λ (xs : List DeclarationTree). let it : KnownTheoryTree 
 pub theories_are : (s : List Tree) (t : Typed) (n : ℕ) (ks : List KnownTheory) → map (theory_at s t.decls) (map (λ (k : KnownTheory). k.theory) ks) ≡ map (visible_theory (between_at s t n)) (map (known_at s) ks)
 theories_are s t n [] = refl
 theories_are s t n (k ∷ ks) = ap (λ (x : KnownTheoryTree). x ∷ map (theory_at s t.decls) (map (λ (j : KnownTheory). j.theory) ks)) (theory_is s t.decls k) ∙ ap (λ (xs : List KnownTheoryTree). visible_theory (between_at s t n) (known_at s k) ∷ xs) (theories_are s t n ks)
-
-pub option_held : (s : List Tree) (o : Option TermId) → IfSome o (HoldsType s) → IfSome o (Holds s)
-option_held s None h = tt
-option_held s (Some x) h = h.held
 
 pub symbols_held : (s : List Tree) (is : List SymbolInfo) → All (SymbolTyped s) is → All (SymbolHeld s) is
 symbols_held s is a = λ k d l. let one = a k d l in record { args = λ i x h. (one.args i x h).held; result = option_held s (get_or is k d).result one.result }

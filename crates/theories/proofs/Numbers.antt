@@ -9,17 +9,13 @@ use Rattle.elaboration_laws.specs.clones.clone_elements.Plans.{same_map, with_sy
 use Rattle.tasks.proofs.plain_laws.Bools.{same_number}
 use Rattle.elaboration_laws.proofs.Numbers.{types_leave, symbols_leave, numbers_leave, later}
 use Rattle.elaboration_laws.proofs.Widths.{same_width as itself}
+pub use Rattle.tasks.proofs.plain_laws.Lists.{got_contained as contained}
 
 -- ---- numbers from one on
 pub record IsAt (n : ℕ) (ks : List ℕ) (k j : ℕ) : Type 0 where
   pub place : ℕ
   pub at : slice_get ks place ≡ Some k
   pub is : j ≡ n + place
-
-pub contained : (ks : List ℕ) (i k : ℕ) → slice_get ks i ≡ Some k → Contains ks k
-contained [] i k q = absurd (cc)
-contained (j ∷ ks) zero k q = let e : j ≡ k = cc in (0, omega arith, e)
-contained (j ∷ ks) (suc i) k q = later j k ks (contained ks i k q)
 
 numbers_at : (ks : List ℕ) (n : ℕ) (m : Map) (k : ℕ) → IsAt n ks k ((with_numbers n ks m).symbols k) ⊎ ((Contains ks k → ⊥) × ((with_numbers n ks m).symbols k ≡ m.symbols k))
 numbers_at [] n m k = inr ((λ c. none_here k c), refl)

@@ -26,10 +26,7 @@ use Rattle.tr_if.specs.conditionals.lemmas.Typed.{variables_by_parts, above_by_p
 use Rattle.tr_if.proofs.Parts.{first_has, replaced_has}
 use Rattle.tr_if.proofs.Placed.{beyond, beyond_at, hole_filled}
 use Rattle.tr_if.proofs.Typed.{IsTypedTerm, first_typed, atom_formula, atom_stays, replaced_typed, placed_like, IsLike}
-
-at_end : (xs : List Tree) (x : Tree) → slice_get (xs ++ x ∷ []) (length xs) ≡ Some x
-at_end [] x = refl
-at_end (y ∷ ys) x = at_end ys x
+use Rattle.tasks.proofs.plain_laws.Lists.{got_last as at_end}
 
 -- ---- the atom with another term there
 module _ (t : TaskTree) (types : List Tree) (n m : ℕ) (e w z : Tree) (k : is_atom_head (head_of e)) (o : IsOpenUnder t types e n) (q : first_if e ≡ Some w) (p : IsOpenUnder t types z n) (term : sort_of z ≡ Term) (type : type_of z ≡ type_of w) where

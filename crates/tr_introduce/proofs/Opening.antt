@@ -24,6 +24,7 @@ use Rattle.tr_introduce.specs.declared.refuting.Opening.TheVariants as opens_at
 use Rattle.tr_introduce.specs.Introduce.{Judgement, introduced, judgement_sequent, prefix}
 use Rattle.tr_introduce.specs.Steps.{AreParamsBelow, EndsDraftAt, Opens, negation_rule}
 use Rattle.tr_introduce.proofs.Introduced.{of_universal, of_implication, of_neither}
+use Rattle.tasks.proofs.plain_laws.Lists.{got_last as at_last}
 
 pub negation_names : (t : TaskTree) (o : Opening) (i : ℕ) → NamesOwn t (negation_rule o i)
 negation_names t (opens_at.Universal number) i = record { trees = tt; types = All-nil (IsTypeOver t 0) }
@@ -49,11 +50,6 @@ opened_added d d1 d2 x1 x2 front added goal no_goal f a h e r kept o k =
       refuted = (subst (Refutes d2 kept) q1 (regroup d2 kept _ _ (trees_at d1.trees added) k), tt);
       row = subst (λ (z : List Tree). IsRuleRow d2.task z r ((s ++ trees_at d.trees added) ∷ [])) (sym q2) row;
     }
-
--- the last formula of a front with a negated goal
-at_last : (front : List Tree) (e : Tree) → slice_get (front ++ e ∷ []) (length front) ≡ Some e
-at_last [] e = refl
-at_last (x ∷ xs) e = at_last xs e
 
 -- what the negation of a quantifier gives at a new parameter, and that of an implication
 pub opens_universal : (t : TaskTree) (front : List Tree) (goal ty body e : Tree) (number n : ℕ) → goal ≡ Two HForall ty body → n ≡ length front → AreParamsBelow number front goal → e ≡ neg (inst body (Param number ty))

@@ -24,7 +24,7 @@ first_is f (x ∷ xs) d y h = cc
 pub empty_fates : {S : Type 0} (m : IndexMap ℕ Fate S) → m.entries ≡ [] → fates_at m ≡ no_fates
 empty_fates m e = λ i q. ap (lookup (nat_eq q)) e i
 
-result_held : (s : List Tree) (o : Option TermId) → IfSome o (HoldsType s) → IfSome o (Holds s)
+pub result_held : (s : List Tree) (o : Option TermId) → IfSome o (HoldsType s) → IfSome o (Holds s)
 result_held s None h = tt
 result_held s (Some id) h = h.held
 

@@ -14,15 +14,13 @@ use Rattle.elab_groups.specs.declared.parts.solution.TypingFault.TheVariants as 
 use Rattle.elab_groups.specs.parts.Elaborated.{IsTypingFault, elab_naming_fault, elab_typing_fault}
 use Rattle.elab_groups.specs.parts.Outcomes.{IsNameRefused, IsRefusalFor, wants_memory, of_names, of_types}
 use Rattle.name_resolution.proofs.Told.{of_first as told_made}
+pub use Rattle.name_resolution.proofs.variables.Closing.{both_none as no_fault}
 
 -- ---- faults of names
 
 -- of those that it uses
 pub told_used : (f : NamingFault) (a b : Option NamingFault) → a ≡ None → Tells (Err f) b → Tells (Err f) (first_of a b)
 told_used f a b e h = subst (λ (x : Option NamingFault). Tells (Err f) (first_of x b)) (sym e) h
-
-pub no_fault : (a b : Option NamingFault) → a ≡ None → b ≡ None → first_of a b ≡ None
-no_fault a b e h = rw (e, h) refl
 
 module _ (decl : ℕ) (r : ℕ) (ns : Notes) where
   -- want of memory, or the first fault of names

@@ -31,6 +31,7 @@ use Rattle.images.proofs.PatternTyping.{con_pattern}
 use Rattle.images.proofs.PatternLaws.{constructor_results}
 use Rattle.images.specs.declared.match_terms.applied.At.{At}
 use Rattle.images.specs.match_terms.Asking.{task_under, AtHeld, IsCount, CanAsk, AreHeldBoth}
+pub use Rattle.tasks.proofs.plain_laws.Options.{same_some as some_same}
 
 first_is : (s k : Sort) → (Some s ≡ None) ⊎ (Some s ≡ Some k) → s ≡ k
 first_is s k (inl q) = absurd (cc)
@@ -117,9 +118,6 @@ pub conjunction_step : (s s1 : List Tree) (g : Grows s s1) (ids rest : List Term
 conjunction_step s s1 g ids rest first more e h q n m r =
     let f : AreHeldOfSort Formula s (first ∷ rest) = subst (AreHeldOfSort Formula s) q h in
     m ∙ ap (λ (z : Tree). Two (HJoin And) z (tree_at s1 more)) (g.same first.0 f.0.0) ∙ ap (Two (HJoin And) (tree_at s first)) r ∙ sym (ap (λ is. conjunction (trees_at s is)) q ∙ longer_conjunction (tree_at s first) s rest n)
-
-some_same : (a b : Tree) → Some a ≡ Some b → a ≡ b
-some_same a b q = cc
 
 pub result_kind : (t : TaskTree) (k : ℕ) (e : Tree) → HasClosedResult t k → (symbol_or t.symbols k).result ≡ Some e → sort_of e ≡ Kind
 result_kind t k e h q = ap sort_of (some_same e h.result (sym q ∙ h.is)) ∙ h.kind

@@ -18,6 +18,8 @@ use Rattle.tasks.proofs.TypeInstances.{one_further}
 use Rattle.tasks.proofs.KeptInstances.{slot}
 use Rattle.images.proofs.Images.{expression_sort}
 use Rattle.images.specs.typing_laws.HasTyping.{OneSuits, Suits, HasSorts, HasTyping}
+pub use Rattle.images.proofs.TypesAt.{types_parameters}
+pub use Rattle.images.proofs.TypesAt.{types_above}
 
 -- ---- with the bound, and without it
 one_suits : (h : Head) (a : Sort) (x : Option Sort) → OneFits h a x → OneSuits h a x
@@ -260,19 +262,6 @@ only_typed t types more (Three h a b c) o x = absurd o
 -- a type is typed under any binders
 pub kind_has : (t : Vocabulary) (types more : List Tree) (e : Tree) → sort_of e ≡ Kind → HasTyping t types e → HasTyping t more e
 kind_has t types more e k x = only_typed t types more e (kinds_only e (has_sorts t types e x) (inl k)) x
-
--- ---- parameters of types: none
-pub types_above : (e : Tree) → OnlyTypes e → above_params e ≡ 0
-types_above (Leaf h) o = refl
-types_above (One h a) o = rw o.0.1 (types_above a o.1)
-types_above (Two h a b) o = omega (arith, types_above a o.1, types_above b o.2)
-types_above (Three h a b c) o = absurd o
-
-pub types_parameters : (ps : List Tree) (e : Tree) → OnlyTypes e → ParametersOf ps e
-types_parameters ps (Leaf h) o = tt
-types_parameters ps (One h a) o = rw o.0.1 (tt, types_parameters ps a o.1)
-types_parameters ps (Two h a b) o = (types_parameters ps a o.1, types_parameters ps b o.2)
-types_parameters ps (Three h a b c) o = absurd o
 
 -- ---- closed trees that aren't too large
 one_closed : (t : Vocabulary) (types : List Tree) (h : Head) (a : Tree) → OneTyped t types h a → loose a ≤ length types → loose (One h a) ≤ length types

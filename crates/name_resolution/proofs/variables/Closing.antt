@@ -24,11 +24,11 @@ AreIn us vs = (v : Word) → IsIn v us → IsIn v vs
 abbrev Stay : SeenTree → SeenTree → Type 0
 Stay s t = AreIn s.vars t.vars
 
-none_both : (x y : Option NamingFault) → first_of x y ≡ None → (x ≡ None) × (y ≡ None)
+pub none_both : (x y : Option NamingFault) → first_of x y ≡ None → (x ≡ None) × (y ≡ None)
 none_both None y h = (refl, h)
 none_both (Some f) y h = absurd (cc)
 
-both_none : (x y : Option NamingFault) → x ≡ None → y ≡ None → first_of x y ≡ None
+pub both_none : (x y : Option NamingFault) → x ≡ None → y ≡ None → first_of x y ≡ None
 both_none x y p q = rw p q
 
 head_or : (b : Bool) (x : Option ℕ) → b ≡ true → is_some (cond b (Some 0) x) ≡ true

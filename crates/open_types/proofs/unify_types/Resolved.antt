@@ -10,6 +10,8 @@ use Rattle.open_types.specs.declared.unify_types.bindings.Bound.{Bound}
 use Rattle.open_types.specs.unify_types.Assigned.{Variable, assign, IsTypeOrTypes, IsType}
 use Rattle.open_types.specs.unify_types.Bound.{Binding, replacing, resolve, IsTriangular, Agrees, type_bound, bound_over, BindingsHeld, AreUnderSubstitution}
 use Rattle.open_types.proofs.unify_types.Assigning.{assign-unknown, resolve-agrees, resolve-types, typed-assign}
+pub use Rattle.trees.proofs.binders.Rebuilt.{some_same as some_is}
+pub use Rattle.trees.proofs.binders.Rebuilt.{held_later as held_grown}
 
 pub on_ok : {T E : Type 0} (r : Result T E) (P : Type 0) → P → OnOk r P
 on_ok (Ok x) P p = p
@@ -17,9 +19,6 @@ on_ok (Err e) P p = tt
 
 pub tree_grown : (s s' : List Tree) (id : TermId) → Grows s s' → Holds s id → tree_at s' id ≡ tree_at s id
 tree_grown s s' id g h = g.same id.0 h
-
-pub held_grown : (s s' : List Tree) (id : TermId) → Grows s s' → Holds s id → Holds s' id
-held_grown s s' id g h = let l : length s ≤ length s' = g.longer in omega arith
 
 pub over_grown : (s s' : List Tree) (bs : List Bound) → Grows s s' → BindingsHeld s bs → bound_over s' bs ≡ bound_over s bs
 over_grown s s' [] g h = refl
@@ -31,9 +30,6 @@ over_grown s s' (b ∷ bs) g h =
 pub are_held_grown : (s s' : List Tree) (bs : List Bound) → Grows s s' → BindingsHeld s bs → BindingsHeld s' bs
 are_held_grown s s' [] g h = tt
 are_held_grown s s' (b ∷ bs) g h = (held_grown s s' b.ty g h.0, are_held_grown s s' bs g h.1)
-
-pub some_is : (x y : TermId) → Some x ≡ Some y → x ≡ y
-some_is x y e = cc
 
 -- the type that an unknown is bound to
 pub bound_held : (s : List Tree) (u : ℕ) (ty : TermId) (bs : List Bound) → BindingsHeld s bs → type_bound u bs ≡ Some ty → Holds s ty

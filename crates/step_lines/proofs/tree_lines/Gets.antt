@@ -4,6 +4,7 @@ use Rattle.std.specs.Borrow.{Bor}
 use Rattle.std.specs.Option.{is_some, option_map, option_copied}
 use Rattle.std.proofs.lemmas.Bool.Decides.{nat_tests}
 use Rattle.std.proofs.lemmas.List.Elements.{All-head, All-tail}
+use Rattle.tasks.proofs.plain_laws.Lists.{got_held as held_at}
 
 none_past : {A : Type 0} (xs : List A) (i : ℕ) → length xs ≤ i → None ≡ slice_get xs i
 none_past [] i le = refl
@@ -22,11 +23,6 @@ slice_got (Some x) xs i e h = let lt : i < length xs = grind (arith, nat_tests) 
 pub copied_map : {A B : Type 0} (f : A → B) (r : Option (Bor A)) → option_map (λ i. f i.now) r ≡ option_map f (option_copied r)
 copied_map f None = refl
 copied_map f (Some x) = refl
-
-held_at : {A : Type 0} (P : A → Type 0) (xs : List A) (i : ℕ) → All P xs → IfSome (slice_get xs i) P
-held_at P [] i h = tt
-held_at P (x ∷ xs) zero h = All-head P x xs h
-held_at P (x ∷ xs) (suc i) h = held_at P xs i (All-tail P x xs h)
 
 pub held_copied : {A : Type 0} (P : A → Type 0) (r : Option (Bor A)) (xs : List A) (i : ℕ) → option_copied r ≡ slice_get xs i → All P xs → IfSome r (λ x. P x.now)
 held_copied P None xs i e h = tt

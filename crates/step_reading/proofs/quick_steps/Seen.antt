@@ -18,6 +18,7 @@ use Rattle.tasks.specs.Open.{VariableHas, VariablesHave, one_has, OpenTyped, Par
 use Rattle.tasks.specs.typed_trees.Variables.{HaveAt, CanHaveAll}
 use Rattle.tasks.proofs.typed_trees.Variables.{closed_at, bound_at}
 use Rattle.step_reading.specs.quick_steps.Variables.{AreSeen, ToldOfTree}
+use Rattle.tasks.proofs.plain_laws.Lists.{got_left as get_left}
 
 -- the greatest depth that the code keeps
 abbrev kept : ℕ → ℕ
@@ -165,12 +166,6 @@ module _ (depth : ℕ) (types : List Tree) (e : Tree) (h : Head) where
       is = λ t. record { is = λ d k. rw q (three_have d h a b c types ((x.is refl).is d k) ((y.is refl).is d k) ((z.is t).is d k)) };
       can = λ k. z.can (can_three k).2;
     }
-
--- the variables of a list of patterns
-get_left : (xs ys : List Tree) (k : ℕ) → k < length xs → slice_get (xs ++ ys) k ≡ slice_get xs k
-get_left [] ys k l = absurd (omega arith)
-get_left (x ∷ xs) ys zero l = refl
-get_left (x ∷ xs) ys (suc k) l = get_left xs ys k (omega arith)
 
 get_right : (xs ys : List Tree) (k : ℕ) → length xs ≤ k → slice_get (xs ++ ys) k ≡ slice_get ys (k - length xs)
 get_right [] ys k l = ap (slice_get ys) (let q : k ≡ k - 0 = omega arith in q)

@@ -14,6 +14,7 @@ use Rattle.name_tables.specs.declared.name_entries.names.NameEntry.{NameEntry}
 use Rattle.step_lines.specs.tree_lines.Named.{NameMeaning, meaning, meaning_by, entry_meaning, entry_named, cells}
 use Rattle.step_writing.specs.declared.tree_writing.spelling.Spelling.{Spelling}
 use Rattle.step_writing.specs.tree_writing.Spelt.{Key, key_of, same_key, IsPlaceNoted, IsReached, AreNoted, IsSpelt, Spells}
+use Rattle.tasks.proofs.plain_laws.Options.{same_some as some_place}
 
 same_key_is : (p q : Key) → same_key p q ≡ true → (p.0 ≡ q.0) × (p.1 ≡ q.1) × (p.2 ≡ q.2)
 same_key_is p q h = (grind arith, grind arith, grind arith)
@@ -47,9 +48,6 @@ cells_parts (x ∷ xs) (y ∷ ys) e =
 
 pub no_cells : (xs : List Tree) → cells xs ≡ Leaf HEnd → xs ≡ []
 no_cells xs e = cells_parts xs [] e
-
-some_place : (i j : ℕ) → Some i ≡ Some j → i ≡ j
-some_place i j e = cc
 
 some_entry : (i j : NameEntry) → Some i ≡ Some j → i ≡ j
 some_entry i j e = cc

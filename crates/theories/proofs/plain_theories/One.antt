@@ -38,6 +38,7 @@ use Rattle.theories.specs.plain_theories.Cloned.{plain_rights_fault, plain_origi
 use Rattle.theories.specs.plain_theories.Typing.{PlainThen, PlainFaultThen, PlainSteps, PlainFirstFault, IsPlainPassed, IsPlainOpened, IsPlainLeft, IsPlainTwice, IsPlainTyped, ArePlainTyped, IsPlainFault, ArePlainFaulty}
 use Rattle.theories.specs.plain_theories.Files.{IsPlainBegun, IsPlainEnded, IsPlainTheoryTyped, IsPlainTheoryFault, is_plainly_taken, IsPlainNew, IsPlainNewFault, taken_before, inside_theory, ArePlainTypedIn, ArePlainFaultyIn, IsPlainRestarted, IsPlainEmbedded, ArePlainEmbeddedIn, ArePlainEmbeddedFaultyIn, ArePlainEmbedded, ArePlainEmbeddedFaulty, plain_nothing, IsPlainLibrary, plain_theories_of, PlainTheoriesOf, IsPlainLibraryFault, IsPlainFirstFault}
 use Rattle.theories.proofs.plain_theories.OneOutcome.{one_outcome, one_plain_refusal, refusal_or}
+use Rattle.tasks.proofs.plain_laws.Options.{same_some as one_token}
 
 abbrev pub GoesOnce : (PlainState → PlainState → Type 0) → Type 0
 GoesOnce R = (c a b : PlainState) → R c a → R c b → a ≡ b
@@ -165,9 +166,6 @@ one_name n o f g a b = a.is ∙ ap (naming n) (one_part o a.fault b.fault a.firs
 
 token_or : (i : ℕ) → None ≡ Some i → ⊥
 token_or i e = cc
-
-one_token : (i j : ℕ) → Some i ≡ Some j → i ≡ j
-one_token i j e = cc
 
 module _ (p : Path) (es : List Element) where
   abbrev path : List ℕ

@@ -27,6 +27,7 @@ use Rattle.tr_discriminate.proofs.wanted_instances.Nodes.{said_nodes}
 use Rattle.tr_discriminate.specs.instance_sets.Made.{IsTypeTree, AreTypeLists, IsSearchable, IsSearchableBody, polymorphic_formula, PutsDeclarations, IsAboveAllowed, instances_of}
 pub use Rattle.tr_discriminate.proofs.Early.{fault_there as fault_passed}
 pub use Rattle.tr_discriminate.proofs.Searching.{holds_all as types_held}
+pub use Rattle.trees.proofs.Sizes.{size_some as size_positive}
 
 two_nodes : (ds es : List DeclarationTree) → declaration_nodes (ds ++ es) ≡ declaration_nodes ds + declaration_nodes es
 two_nodes ds es = sum_by-append (λ (d : DeclarationTree). body_nodes d.body) ds es
@@ -139,12 +140,6 @@ above_here put xs s s1 old mid n m i x l q h f =
     above_weaker m n (put x) (flat_map put xs) (λ b. omega (arith, here, e, h.spent, b)) f
 
 -- ---- the wanted instances of a proposition
-pub size_positive : (e : Tree) → 1 ≤ size e
-size_positive (Leaf h) = omega arith
-size_positive (One h a) = omega arith
-size_positive (Two h a b) = omega arith
-size_positive (Three h a b c) = omega arith
-
 module _ (ys : List Tree) where
   leaf_size : (h : Head) → 1 ≤ size (leaf_by (typing ys) h)
   leaf_size (HTyVar j) = size_positive (get_or ys j (TyVar j))

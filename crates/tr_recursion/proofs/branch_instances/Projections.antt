@@ -7,6 +7,7 @@ use Rattle.tasks.specs.Task.{DefinitionTree, InductiveTree, ConstructorTree, Alg
 use Rattle.tasks.specs.Roles.{RoleTree, PlainRole, DefinedRole, InductiveRole, AlgebraicRole, ConstructorRole, ProjectionRole, or_role, defined_as, inductive_as, projection_at, projected_as, constructed_as, algebraic_as, role_in, is_made_by, maker, role, role_by}
 use Rattle.tasks.specs.Valid.{IsValid}
 use Rattle.tasks.proofs.Declared.{contains_cases, contains_step, none_in, any_iff}
+use Rattle.tasks.proofs.plain_laws.Lists.{got_contained as at_place}
 
 -- ---- no number is twice in a list
 abbrev AreOnce : List ℕ → Type 0
@@ -31,11 +32,6 @@ once_both (x ∷ xs) ys k a h m = elim (contains_cases x k xs h) [
   | inl e ↦ a.0 (Contains-append_right xs ys x (subst (Contains ys) e m))
   | inr n ↦ once_both xs ys k a.1 n m
 ]
-
-at_place : (ks : List ℕ) (j p : ℕ) → slice_get ks j ≡ Some p → Contains ks p
-at_place [] j p e = absurd (cc)
-at_place (k ∷ ks) zero p e = let s : k ≡ p = cc in contains_step k p ks (inl (sym s))
-at_place (k ∷ ks) (suc j) p e = contains_step k p ks (inr (at_place ks j p e))
 
 tested : (k j : ℕ) → k ≡ j → (k == j) ≡ true
 tested k j e = grind (arith, nat_tests)

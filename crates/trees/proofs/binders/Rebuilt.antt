@@ -22,7 +22,7 @@ pub changed_held : (f : Change) (s t : List Tree) (e : Tree) (id : TermId) (dept
 changed_held f s t e id depth w h k = rw (w.same id.0 h) k
 
 -- ---- what is remembered
-some_same : (a b : TermId) → Some a ≡ Some b → a ≡ b
+pub some_same : (a b : TermId) → Some a ≡ Some b → a ≡ b
 some_same a b e = cc
 
 pub both_true : (a b : Bool) → a && b ≡ true → (a ≡ true) × (b ≡ true)

@@ -351,11 +351,11 @@ walk_use-returns-in-None-clause-walked t c =
 
 -- ---- an entry before its operands
 pub walk_symbol-begin_use-requires-clause-info : goal.walk_symbol-begin_use-requires-clause-info
-walk_symbol-begin_use-requires-clause-info t c = rw (sym c.entry_at-info.ensures) at (got_one {A = SymbolInfo} (SymbolTyped c.args.store.now) c.args.world.now.symbols.now c.entry_number-symbol.result c.requires.set.world.symbols)
+walk_symbol-begin_use-requires-clause-info t c = rw (sym c.entry_at-info.ensures) at (got_one {X = SymbolInfo} (SymbolTyped c.args.store.now) c.args.world.now.symbols.now c.entry_number-symbol.result c.requires.set.world.symbols)
 
 pub walk_symbol-types_put-requires-clause-args : goal.walk_symbol-types_put-requires-clause-args
 walk_symbol-types_put-requires-clause-args t c =
-    let typed = rw (sym c.entry_at-info.ensures) at (got_one {A = SymbolInfo} (SymbolTyped c.args.store.now) c.args.world.now.symbols.now c.entry_number-symbol.result c.requires.set.world.symbols) in
+    let typed = rw (sym c.entry_at-info.ensures) at (got_one {X = SymbolInfo} (SymbolTyped c.args.store.now) c.args.world.now.symbols.now c.entry_number-symbol.result c.requires.set.world.symbols) in
     types_grow _ _ c.begin_use.ensures.grows c.entry_args.result.now (c.entry_args.ensures.held c.args.store.now typed)
 
 pub walk_symbol-walk_all-requires : goal.walk_symbol-walk_all-requires
@@ -377,7 +377,7 @@ pub walk_symbol-returns-clause-walked : goal.walk_symbol-returns-clause-walked
 walk_symbol-returns-clause-walked t c =
     let s = c.args.store.now in
     let k = c.entry_number-symbol.result in
-    let typed = rw (sym c.entry_at-info.ensures) at (got_one {A = SymbolInfo} (SymbolTyped s) c.args.world.now.symbols.now k c.requires.set.world.symbols) in
+    let typed = rw (sym c.entry_at-info.ensures) at (got_one {X = SymbolInfo} (SymbolTyped s) c.args.world.now.symbols.now k c.requires.set.world.symbols) in
     let e = symbol_got s (option_copied c.entry_at-info.result) in
     let g = c.begin_use.ensures.grows in
     let same = entry_got s c.args.world.now.symbols.now k ∙ ap (symbol_got s) (sym c.entry_at-info.ensures) in

@@ -71,11 +71,11 @@ walk_pattern-returns-in_ok-bind_variable-in-Alias-clause-matched t c =
 
 -- ---- the entry of a constructor
 pub walk_constructor-begin_use-requires-clause-info : goal.walk_constructor-begin_use-requires-clause-info
-walk_constructor-begin_use-requires-clause-info t c = rw (sym c.entry_at-info.ensures) at (got_one {A = SymbolInfo} (SymbolTyped c.args.store.now) c.args.world.now.symbols.now c.entry_number-symbol.result c.requires.world.symbols)
+walk_constructor-begin_use-requires-clause-info t c = rw (sym c.entry_at-info.ensures) at (got_one {X = SymbolInfo} (SymbolTyped c.args.store.now) c.args.world.now.symbols.now c.entry_number-symbol.result c.requires.world.symbols)
 
 pub walk_constructor-types_put-requires-clause-args : goal.walk_constructor-types_put-requires-clause-args
 walk_constructor-types_put-requires-clause-args t c =
-    let typed = rw (sym c.entry_at-info.ensures) at (got_one {A = SymbolInfo} (SymbolTyped c.args.store.now) c.args.world.now.symbols.now c.entry_number-symbol.result c.requires.world.symbols) in
+    let typed = rw (sym c.entry_at-info.ensures) at (got_one {X = SymbolInfo} (SymbolTyped c.args.store.now) c.args.world.now.symbols.now c.entry_number-symbol.result c.requires.world.symbols) in
     types_grow _ _ c.begin_use.ensures.grows c.entry_args.result.now (c.entry_args.ensures.held c.args.store.now typed)
 
 pub walk_constructor-walk_patterns-requires : goal.walk_constructor-walk_patterns-requires
@@ -104,7 +104,7 @@ pub walk_constructor-returns-clause-matched : goal.walk_constructor-returns-clau
 walk_constructor-returns-clause-matched t c =
     let s = c.args.store.now in
     let k = c.entry_number-symbol.result in
-    let typed = rw (sym c.entry_at-info.ensures) at (got_one {A = SymbolInfo} (SymbolTyped s) c.args.world.now.symbols.now k c.requires.world.symbols) in
+    let typed = rw (sym c.entry_at-info.ensures) at (got_one {X = SymbolInfo} (SymbolTyped s) c.args.world.now.symbols.now k c.requires.world.symbols) in
     let e = symbol_got s (option_copied c.entry_at-info.result) in
     let g = c.begin_use.ensures.grows in
     let same = entry_got s c.args.world.now.symbols.now k ∙ ap (symbol_got s) (sym c.entry_at-info.ensures) in

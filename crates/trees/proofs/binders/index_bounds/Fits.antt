@@ -10,6 +10,8 @@ use Rattle.trees.specs.laws.Indices.{shift_below, shift_above}
 use Rattle.trees.proofs.Many.{many_below, many_at, many_above, cases_many}
 use Rattle.trees.proofs.Sizes.{pat_vars_le}
 use Rattle.trees.specs.binders.index_bounds.Bounds.{one_above, above_indices, AreIndicesWithin}
+use Rattle.trees.proofs.Sizes.{binders_le as few_binders}
+use Rattle.trees.proofs.Sizes.{size_some as some_nodes}
 
 more_above : (h : Head) (n : ℕ) → n ≤ one_above h n
 more_above (HBound i) n = omega arith
@@ -71,19 +73,6 @@ pub many_fit : (s : List Tree) (e : Tree) (ids : List TermId) (m room : ℕ) →
 many_fit s e ids m room f l n w = put_fits (trees_at s ids) m (within_each s room m ids n w) 0 e f l
 
 -- ---- no index of a tree is above the variables and nodes that it has
-some_nodes : (e : Tree) → 1 ≤ size e
-some_nodes (Leaf h) = omega arith
-some_nodes (One h a) = omega arith
-some_nodes (Two h a b) = omega arith
-some_nodes (Three h a b c) = omega arith
-
-few_binders : (h : Head) (n s : ℕ) → n ≤ s → 1 ≤ s → binders h n ≤ s
-few_binders HForall n s l k = k
-few_binders HExists n s l k = k
-few_binders HLet n s l k = k
-few_binders HArm n s l k = l
-few_binders _ n s l k = omega arith
-
 one_small : (h : Head) (n k s : ℕ) → n ≤ k + s → one_above h n ≤ one_loose h k + (s + 1)
 one_small (HBound i) n k s l = omega arith
 one_small _ n k s l = omega arith
