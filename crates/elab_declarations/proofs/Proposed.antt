@@ -9,7 +9,7 @@ use Rattle.tasks.specs.Rigid.{rigid_symbol}
 use Rattle.tasks.specs.Meaning.{symbol_at, symbols_at, declarations_at, DeclHeld}
 use Rattle.tasks.specs.declared.signature.Signature.{Signature}
 use Rattle.name_resolution.specs.scopes.declared.Table.TheVariants.{Propositions}
-use Rattle.name_resolution.specs.scopes.declared.TypeName.TheVariants as stands
+use Rattle.name_resolution.specs.scopes.declared.Referent.TheVariants as stands
 use Rattle.name_resolution.specs.scopes.Names.{ScopeNames, with_name}
 use Rattle.surface.specs.Lexeme.{Word}
 use Rattle.surface.specs.declared.declarations.PropKind.{PropKind}

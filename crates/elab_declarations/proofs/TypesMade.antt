@@ -16,7 +16,7 @@ use Rattle.tasks.specs.declared.declaration.Decl.{Decl}
 use Rattle.surface.specs.Lexeme.{Word}
 use Rattle.tasks.specs.declared.signature.Signature.{Signature}
 use Rattle.name_resolution.specs.scopes.declared.Table.TheVariants.{Types}
-use Rattle.name_resolution.specs.scopes.declared.TypeName.TheVariants as stands
+use Rattle.name_resolution.specs.scopes.declared.Referent.TheVariants as stands
 use Rattle.name_resolution.specs.scopes.Names.{ScopeNames, with_name}
 use Rattle.name_resolution.specs.Abstract.{TypeExpression}
 use Rattle.name_resolution.specs.Faults.{form_fault}

@@ -10,7 +10,7 @@ use Rattle.tasks.specs.Meaning.{symbols_at, declarations_at, DeclHeld}
 use Rattle.tasks.specs.declared.signature.Signature.{Signature}
 use Rattle.name_resolution.specs.scopes.Names.{ScopeNames, with_entry, with_name}
 use Rattle.name_resolution.specs.scopes.declared.Table.TheVariants.{Types, Propositions}
-use Rattle.name_resolution.specs.scopes.declared.TypeName.TheVariants as stands
+use Rattle.name_resolution.specs.scopes.declared.Referent.TheVariants as stands
 use Rattle.surface.specs.Lexeme.{Word}
 use Rattle.surface.specs.Declarations.{SyntaxDeclaration, use_decl, clone_decl, scope_decl}
 use Rattle.surface.specs.declared.declarations.PropKind.{PropKind}

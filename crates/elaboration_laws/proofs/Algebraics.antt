@@ -9,7 +9,7 @@ use Rattle.elab_groups.specs.tasks.Typing.{IsTypeSymbol}
 use Rattle.elab_groups.specs.tasks.Valid.{IsTypeIn, own_type, AreProjections, IsConstructorOf, IsAlgebraic}
 use Rattle.elab_groups.specs.scopes.Names.{ScopeNames, ScopeEntry}
 use Rattle.elab_groups.specs.scopes.declared.Table.TheVariants.{Types, Symbols}
-use Rattle.elab_groups.specs.scopes.declared.TypeName.TheVariants as stands
+use Rattle.elab_groups.specs.scopes.declared.Referent.TheVariants as stands
 use Rattle.elab_groups.specs.surface.Lexeme.{Word}
 use Rattle.elab_groups.specs.name_resolution.Abstract.{TypeExpressions, no_types, more_types, count_forms}
 use Rattle.elab_groups.specs.name_resolution.Where.{Where}

@@ -11,11 +11,10 @@ use Rattle.elab_groups.specs.tasks.declared.signature.SymbolKind.TheVariants.{Co
 use Rattle.elab_groups.specs.tasks.Vocabulary.{Vocabulary, is_constructor_kind}
 use Rattle.elab_groups.specs.tasks.Typing.{entry, LeafTyped, OneTyped, TwoTyped, ThreeTyped, TypedUnder, bound_types}
 use Rattle.elab_groups.specs.tasks.Valid.{IsTypeIn, HasTypes}
-use Rattle.elab_groups.specs.scopes.Names.{ScopeNames, number_of}
+use Rattle.elab_groups.specs.scopes.Names.{ScopeNames, number_of, TypeName}
 use Rattle.elab_groups.specs.scopes.declared.Table.{Table}
 use Rattle.elab_groups.specs.scopes.declared.Table.TheVariants.{Types, Symbols, Propositions, Scopes}
-use Rattle.elab_groups.specs.scopes.declared.TypeName.{TypeName}
-use Rattle.elab_groups.specs.scopes.declared.TypeName.TheVariants as stands
+use Rattle.elab_groups.specs.scopes.declared.Referent.TheVariants as stands
 use Rattle.elab_groups.specs.open_types.Scoped.{IsScopedEntry}
 use Rattle.elab_groups.specs.parts.Entries.{builtin, is_tuple}
 use Rattle.elaboration_laws.specs.Signature.{with_entries}

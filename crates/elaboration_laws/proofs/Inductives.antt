@@ -13,7 +13,7 @@ use Rattle.elab_groups.specs.tasks.Vocabulary.{Vocabulary, is_empty}
 use Rattle.elab_groups.specs.tasks.Valid.{IsTypeIn, IsFormulaOver, IsInductive, IsValidDecl}
 use Rattle.elab_groups.specs.scopes.Names.{ScopeNames, with_name}
 use Rattle.elab_groups.specs.scopes.declared.Table.TheVariants.{Symbols, Propositions}
-use Rattle.elab_groups.specs.scopes.declared.TypeName.TheVariants as stands
+use Rattle.elab_groups.specs.scopes.declared.Referent.TheVariants as stands
 use Rattle.elab_groups.specs.surface.Lexeme.{Word}
 use Rattle.elab_groups.specs.name_resolution.Naming.{type_named}
 use Rattle.elab_groups.specs.name_resolution.variables.Seen.{SeenTree, seen}

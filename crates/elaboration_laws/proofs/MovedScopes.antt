@@ -4,11 +4,10 @@ use Rattle.std.proofs.lemmas.List.Elements.{All-nil, All-cons, All-head, All-tai
 use Rattle.elab_groups.specs.trees.Tree.{Tree}
 use Rattle.elab_groups.specs.trees.Node.{Grows}
 use Rattle.elab_groups.specs.tasks.Vocabulary.{Vocabulary}
-use Rattle.elab_groups.specs.scopes.Names.{ScopeNames, ScopeEntry, with_name, with_entry, with_scope, closed}
+use Rattle.elab_groups.specs.scopes.Names.{ScopeNames, ScopeEntry, with_name, with_entry, with_scope, closed, TypeName}
 use Rattle.elab_groups.specs.scopes.declared.Table.{Table}
 use Rattle.elab_groups.specs.scopes.declared.Table.TheVariants.{Scopes}
-use Rattle.elab_groups.specs.scopes.declared.TypeName.{TypeName}
-use Rattle.elab_groups.specs.scopes.declared.TypeName.TheVariants as stands
+use Rattle.elab_groups.specs.scopes.declared.Referent.TheVariants as stands
 use Rattle.elab_groups.specs.surface.declared.declarations.Link.{Link}
 use Rattle.elab_groups.specs.surface.declared.declarations.Link.TheVariants.{Bare, Import, Export}
 use Rattle.theory_states.specs.declared.moves.Move.{Move}

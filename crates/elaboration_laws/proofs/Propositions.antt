@@ -15,7 +15,7 @@ use Rattle.elab_groups.specs.tasks.Typing.{entry, IsRigid}
 use Rattle.elab_groups.specs.tasks.Valid.{VariablesBelow, LeafBelow, ParametersOf, OneOf, IsTypeIn, HasTypes, IsFormulaOver, IsValidDecl}
 use Rattle.elab_groups.proofs.tasks.TypeInstances.{typed_types}
 use Rattle.elab_groups.specs.scopes.declared.Table.TheVariants.{Propositions}
-use Rattle.elab_groups.specs.scopes.declared.TypeName.TheVariants as stands
+use Rattle.elab_groups.specs.scopes.declared.Referent.TheVariants as stands
 use Rattle.elab_groups.specs.surface.Lexeme.{Word}
 use Rattle.elab_groups.specs.surface.declared.declarations.PropKind.{PropKind}
 use Rattle.elab_groups.specs.surface.declared.declarations.PropKind.TheVariants as kind

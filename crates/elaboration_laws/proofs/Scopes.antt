@@ -8,9 +8,8 @@ use Rattle.elab_groups.specs.tasks.Task.{SymbolTree, symbol_or, int_symbol}
 use Rattle.elab_groups.specs.tasks.Vocabulary.{Vocabulary}
 use Rattle.elab_groups.specs.scopes.declared.Table.{Table}
 use Rattle.elab_groups.specs.scopes.declared.Table.TheVariants.{Types, Symbols, Propositions, Scopes}
-use Rattle.elab_groups.specs.scopes.declared.TypeName.{TypeName}
-use Rattle.elab_groups.specs.scopes.declared.TypeName.TheVariants as stands
-use Rattle.elab_groups.specs.scopes.Names.{ScopeNames, ScopeEntry, number_of, same_table, is_named, latest, entries_of, or_else, first_found, table_before, find_within, find_name, innermost, with_name}
+use Rattle.elab_groups.specs.scopes.Names.{TypeName, ScopeNames, ScopeEntry, number_of, same_table, is_named, latest, entries_of, or_else, first_found, table_before, find_within, find_name, innermost, with_name}
+use Rattle.elab_groups.specs.scopes.declared.Referent.TheVariants as stands
 use Rattle.elab_groups.specs.surface.Lexeme.{Word}
 use Rattle.elab_groups.specs.name_resolution.Naming.{or_int, type_named, meaning_at}
 use Rattle.elab_groups.specs.parts.Outcomes.{over}

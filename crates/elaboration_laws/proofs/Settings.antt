@@ -7,11 +7,10 @@ use Rattle.elab_groups.proofs.trees.Nodes.{Grows_refl}
 use Rattle.elab_groups.specs.tasks.Task.{SymbolTree, int_symbol}
 use Rattle.elab_groups.specs.tasks.Vocabulary.{Vocabulary}
 use Rattle.elab_groups.specs.tasks.Valid.{VariablesBelow, LeafBelow, IsTypeIn}
-use Rattle.elab_groups.specs.scopes.Names.{ScopeNames}
+use Rattle.elab_groups.specs.scopes.Names.{ScopeNames, TypeName}
 use Rattle.elab_groups.specs.scopes.declared.Table.{Table}
 use Rattle.elab_groups.specs.scopes.declared.Table.TheVariants.{Types, Symbols, Propositions, Scopes}
-use Rattle.elab_groups.specs.scopes.declared.TypeName.{TypeName}
-use Rattle.elab_groups.specs.scopes.declared.TypeName.TheVariants as stands
+use Rattle.elab_groups.specs.scopes.declared.Referent.TheVariants as stands
 use Rattle.elab_groups.specs.surface.Lexeme.{Word}
 use Rattle.elab_groups.specs.name_resolution.Abstract.{TypeExpression}
 use Rattle.elab_groups.specs.name_resolution.Faults.{form_fault}

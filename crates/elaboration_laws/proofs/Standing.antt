@@ -9,10 +9,9 @@ use Rattle.elab_groups.specs.tasks.Task.{SymbolTree, int_symbol}
 use Rattle.elab_groups.specs.tasks.Vocabulary.{Vocabulary, is_empty}
 use Rattle.elab_groups.specs.tasks.Typing.{MakesTerms}
 use Rattle.elab_groups.specs.tasks.Valid.{IsSignatureOf}
-use Rattle.elab_groups.specs.scopes.Names.{ScopeNames, with_name}
+use Rattle.elab_groups.specs.scopes.Names.{ScopeNames, with_name, TypeName}
 use Rattle.elab_groups.specs.scopes.declared.Table.TheVariants.{Symbols}
-use Rattle.elab_groups.specs.scopes.declared.TypeName.{TypeName}
-use Rattle.elab_groups.specs.scopes.declared.TypeName.TheVariants as stands
+use Rattle.elab_groups.specs.scopes.declared.Referent.TheVariants as stands
 use Rattle.elab_groups.specs.surface.Lexeme.{Word}
 use Rattle.elab_groups.specs.name_resolution.Abstract.{TypeExpression}
 use Rattle.elab_groups.specs.name_resolution.Faults.{first_of, type_fault, binders_fault}

@@ -9,7 +9,7 @@ use Rattle.elab_groups.specs.tasks.Task.{SymbolTree, symbol_or}
 use Rattle.elab_groups.specs.tasks.Vocabulary.{Vocabulary}
 use Rattle.elab_groups.specs.tasks.Valid.{IsTypeIn, IsValidDecl}
 use Rattle.elab_groups.specs.scopes.declared.Table.TheVariants.{Types}
-use Rattle.elab_groups.specs.scopes.declared.TypeName.TheVariants as stands
+use Rattle.elab_groups.specs.scopes.declared.Referent.TheVariants as stands
 use Rattle.elab_groups.specs.name_resolution.Abstract.{TypeExpression}
 use Rattle.elab_groups.specs.name_resolution.Faults.{form_fault}
 use Rattle.elab_groups.specs.open_types.Pieces.{type_at}

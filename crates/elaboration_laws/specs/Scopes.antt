@@ -10,11 +10,10 @@ use Rattle.elab_groups.specs.tasks.Task.{SymbolTree, int_symbol, symbol_or}
 use Rattle.elab_groups.specs.tasks.Vocabulary.{Vocabulary, is_empty}
 use Rattle.elab_groups.specs.tasks.Typing.{entry, MakesTerms}
 use Rattle.elab_groups.specs.tasks.Valid.{IsTypeIn, HasTypes}
-use Rattle.elab_groups.specs.scopes.Names.{ScopeNames, ScopeEntry, number_of}
+use Rattle.elab_groups.specs.scopes.Names.{ScopeNames, ScopeEntry, number_of, TypeName}
 use Rattle.elab_groups.specs.scopes.declared.Table.{Table}
 use Rattle.elab_groups.specs.scopes.declared.Table.TheVariants.{Types, Symbols}
-use Rattle.elab_groups.specs.scopes.declared.TypeName.{TypeName}
-use Rattle.elab_groups.specs.scopes.declared.TypeName.TheVariants as stands
+use Rattle.elab_groups.specs.scopes.declared.Referent.TheVariants as stands
 use Rattle.elab_groups.specs.open_types.Scoped.{IsScopedEntry}
 use Rattle.elab_groups.specs.parts.Entries.{builtin, is_tuple}
 use Rattle.elaboration_laws.specs.Signature.{with_entries}

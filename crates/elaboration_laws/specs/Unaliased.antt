@@ -1,8 +1,8 @@
 -- Moves that bring no alias into the table of symbols.
 use Rattle.elab_groups.specs.scopes.declared.Table.{Table}
 use Rattle.elab_groups.specs.scopes.declared.Table.TheVariants.{Symbols}
-use Rattle.elab_groups.specs.scopes.declared.TypeName.{TypeName}
-use Rattle.elab_groups.specs.scopes.declared.TypeName.TheVariants as stands
+use Rattle.elab_groups.specs.scopes.Names.{TypeName}
+use Rattle.elab_groups.specs.scopes.declared.Referent.TheVariants as stands
 use Rattle.theory_states.specs.declared.moves.Move.{Move}
 use Rattle.theory_states.specs.declared.moves.Move.TheVariants.{Brings}
 

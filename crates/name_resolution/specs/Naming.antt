@@ -9,10 +9,9 @@ use Rattle.tasks.specs.Task.{SymbolTree}
 pub use Rattle.tasks.specs.Entries.{builtin, is_tuple, tuple_from, tuple_in}
 use Rattle.surface.specs.Lexeme.{Word}
 use Rattle.surface.specs.Surface.{own_of, op_of}
-use Rattle.scopes.specs.Names.{ScopeNames, find_number, find_name}
+use Rattle.scopes.specs.Names.{ScopeNames, find_number, find_name, TypeName}
 use Rattle.scopes.specs.declared.Table.TheVariants.{Types, Symbols}
-use Rattle.scopes.specs.declared.TypeName.{TypeName}
-use Rattle.scopes.specs.declared.TypeName.TheVariants as stands
+use Rattle.scopes.specs.declared.Referent.TheVariants as stands
 use Rattle.name_resolution.specs.Abstract.{binders_of, connective_operator, equality_operator, symbol_operator, text_of_own, prefix_name, spelled}
 use Rattle.name_resolution.specs.Abstract as abstract
 use Rattle.name_resolution.specs.Faults.{bound_names, TriggerHeadTree, trigger_named, trigger_equality, trigger_other}

@@ -6,8 +6,8 @@ use Rattle.trees.specs.declared.TermId.{TermId}
 use Rattle.trees.specs.Tree.{Tree}
 use Rattle.trees.specs.Node.{tree_at, Holds, Grows}
 use Rattle.trees.proofs.Nodes.{tree_at-grows}
-use Rattle.scopes.specs.declared.TypeName.{TypeName}
-use Rattle.scopes.specs.declared.TypeName.TheVariants as stands
+use Rattle.scopes.specs.Names.{TypeName}
+use Rattle.scopes.specs.declared.Referent.TheVariants as stands
 use Rattle.surface.specs.Lexeme.{Word}
 use Rattle.tasks.specs.declared.signature.SymbolInfo.{SymbolInfo}
 use Rattle.tasks.specs.Meaning.{symbol_at, symbols_at, trees_at}

@@ -14,8 +14,8 @@ use Rattle.tasks.specs.Equations.{cells, type_variables}
 use Rattle.tasks.specs.Task.{SymbolTree, int_symbol}
 use Rattle.tasks.specs.declared.signature.SymbolInfo.{SymbolInfo}
 use Rattle.open_types.specs.unify_types.Pairs.{HoldEquations, equations_at}
-use Rattle.scopes.specs.declared.TypeName.{TypeName}
-use Rattle.scopes.specs.declared.TypeName.TheVariants as stands
+use Rattle.scopes.specs.Names.{TypeName}
+use Rattle.scopes.specs.declared.Referent.TheVariants as stands
 use Rattle.surface.specs.Lexeme.{Word}
 use Rattle.name_resolution.specs.declared.world.World.{World}
 use Rattle.name_resolution.specs.Abstract.{Expression, Expressions, MatchBranches, no_expressions, more_expressions, expression_of, expressions_of}

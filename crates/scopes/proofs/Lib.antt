@@ -1,3 +1,4 @@
 pub use Rattle.outside.proofs as outside
 pub mod Listed
 pub mod Inside
+pub mod Mapped

@@ -8,12 +8,11 @@ use Rattle.std.specs.Str.{bytes_eq}
 use Rattle.std.proofs.lemmas.Slice.Eq.{bytes_eq-Decides}
 use Rattle.scopes.specs.declared.Table.{Table}
 use Rattle.scopes.specs.declared.Table.TheVariants.{Types, Symbols, Propositions, Scopes}
-use Rattle.scopes.specs.declared.TypeName.{TypeName}
 use Rattle.scopes.specs.declared.entries.Meaning.{Meaning}
 use Rattle.scopes.specs.declared.entries.Meanings.{Meanings}
 use Rattle.scopes.specs.declared.entries.Stored.{Stored}
 use Rattle.scopes.specs.declared.entries.Item.{Item}
-use Rattle.scopes.specs.Names.{ScopeEntry, is_named, same_table, latest, is_declared, imported}
+use Rattle.scopes.specs.Names.{TypeName, ScopeEntry, is_named, same_table, latest, is_declared, imported}
 use Rattle.scopes.specs.Kept.{stored_entry, entries_before, latest_first, brought_entry, brought_before, was_declared, meaning_thing, with_meaning, latest_meaning, meaning_in, stored_meaning, KeepBefore, meanings_of, IsKeptMap}
 use Rattle.plain_laws.proofs.Lists.{bytes_apart as apart, bytes_are as bytes_eq_is, bytes_same as bytes_eq_refl, other_entries}
 

@@ -4,12 +4,11 @@ use Rattle.std.specs.HashMap.{HashMap, get_by}
 use Rattle.std.specs.Str.{bytes_eq}
 use Rattle.scopes.specs.declared.Table.{Table}
 use Rattle.scopes.specs.declared.Table.TheVariants.{Types, Symbols, Propositions, Scopes}
-use Rattle.scopes.specs.declared.TypeName.{TypeName}
 use Rattle.scopes.specs.declared.entries.Meaning.{Meaning}
 use Rattle.scopes.specs.declared.entries.Meanings.{Meanings}
 use Rattle.scopes.specs.declared.entries.Stored.{Stored}
 use Rattle.scopes.specs.declared.entries.Item.{Item}
-use Rattle.scopes.specs.Names.{ScopeEntry, is_named}
+use Rattle.scopes.specs.Names.{TypeName, ScopeEntry, is_named}
 
 abbrev pub stored_entry : Stored → ScopeEntry
 stored_entry x =

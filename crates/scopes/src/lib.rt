@@ -23,23 +23,24 @@ pub enum Table {
     Scopes,
 }
 
-/// What a name of the table of types stands for: an entry, by its number, or a type, by its number in a store, with the
-/// number of its type variables. In any other table a name stands for an entry, and in that of scopes for a scope.
+/// What a name of the table of types stands for: an entry, by its number, or a type, with the number of its type variables.
+/// In any other table a name stands for an entry, and in that of scopes for a scope.
 #[derive(Clone, Copy, Debug, PartialEq, Eq)]
-pub enum TypeName {
+pub enum Referent<A> {
     Entry(usize),
-    Alias { vars: usize, ty: usize },
+    Alias { vars: usize, ty: A },
 }
 
-impl TypeName {
-    /// The number of the entry or of the type.
-    pub fn number(self) -> usize
-        ensures { result ≡ number_of self }
-    {
-        match self {
-            TypeName::Entry(number) => number,
-            TypeName::Alias { vars: _, ty } => ty,
-        }
+/// What a name stands for in code, where a type is its number in a store.
+pub type TypeName = Referent<usize>;
+
+// The number of the entry. A type is none, and counts as 0.
+fn number(of: TypeName) -> usize
+    ensures { result ≡ number_of of }
+{
+    match of {
+        Referent::Entry(number) => number,
+        Referent::Alias { vars: _, ty: _ } => 0,
     }
 }
 

@@ -5,7 +5,7 @@ ghost use Rattle.scopes.specs.Names.{empty_names, find_number, find_name, find_w
 ghost use Rattle.scopes.specs.Kept.{brought_before};
 
 use crate::entries::{Entries, Item};
-use crate::{NameFault, Table, TypeName};
+use crate::{NameFault, Table, TypeName, number};
 use outside::Text;
 use std::alloc::{AllocError, Global};
 use std::marker::Model;
@@ -101,10 +101,10 @@ fn find_within<W: Word>(
     ensures { result ≡ find_within scopes.now table found (map W.word names.now ++ last.now ∷ []) }
 {
     while let Some((name, rest)) = names.split_first() {
-        found = latest_at(scopes, found?.number(), Table::Scopes, name.word_bytes());
+        found = latest_at(scopes, number(found?), Table::Scopes, name.word_bytes());
         names = rest;
     }
-    latest_at(scopes, found?.number(), table, last)
+    latest_at(scopes, number(found?), table, last)
 }
 
 impl Scope {
@@ -159,7 +159,7 @@ impl Scope {
     pub fn look(&self, table: Table, path: &[String]) -> Option<usize>
         ensures { result ≡ find_number self.now table (map string_bytes path.now) }
     {
-        Some(self.find_path(table, path)?.number())
+        Some(number(self.find_path(table, path)?))
     }
 
     /// As `look` in the table of types, and whether it is an entry or an alias. No memory is taken.
@@ -173,7 +173,7 @@ impl Scope {
     pub fn look_at(&self, table: Table, scopes: &[Text], name: &[u8]) -> Option<usize>
         ensures { result ≡ find_number self.now table (scopes.now ++ name.now ∷ []) }
     {
-        Some(self.find(table, scopes, name)?.number())
+        Some(number(self.find(table, scopes, name)?))
     }
 
     /// As `look_type`, at the name with these bytes after these names of scopes. No memory is taken.

@@ -7,7 +7,7 @@ use Rattle.tasks.specs.trees.Node.{Holds}
 use Rattle.tasks.specs.Meaning.{SymbolHeld}
 use Rattle.tasks.specs.declared.signature.SymbolInfo.{SymbolInfo}
 use Rattle.elab_groups.specs.scopes.declared.Table.TheVariants.{Scopes}
-use Rattle.elab_groups.specs.scopes.declared.TypeName.TheVariants as stands
+use Rattle.elab_groups.specs.scopes.declared.Referent.TheVariants as stands
 use Rattle.elab_groups.specs.scopes.Names.{ScopeNames, ScopeEntry, with_entry, with_scope}
 use Rattle.surface.specs.Lexeme.{Word}
 use Rattle.elab_groups.specs.open_types.Drafts.{HoldsType, SymbolTyped}

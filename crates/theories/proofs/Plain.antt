@@ -3,11 +3,10 @@ use Rattle.std.proofs.Common.{◌≡◌, ℕ, ◌<◌, List, [], ◌∷◌, ◌+
 use Rattle.std.proofs.lemmas.List.Elements.{All-nil, All-cons, All-append, All-contains}
 use Rattle.tasks.specs.trees.Tree.{Tree}
 use Rattle.tasks.specs.Task.{SymbolTree, DeclarationTree}
-use Rattle.elaboration_laws.specs.scopes.Names.{ScopeNames, find_number, find_name}
+use Rattle.elaboration_laws.specs.scopes.Names.{ScopeNames, find_number, find_name, TypeName}
 use Rattle.elaboration_laws.specs.scopes.declared.Table.{Table}
 use Rattle.elaboration_laws.specs.scopes.declared.Table.TheVariants.{Types, Symbols, Propositions, Scopes}
-use Rattle.elaboration_laws.specs.scopes.declared.TypeName.{TypeName}
-use Rattle.elaboration_laws.specs.scopes.declared.TypeName.TheVariants as stands
+use Rattle.elaboration_laws.specs.scopes.declared.Referent.TheVariants as stands
 use Rattle.theory_states.specs.declared.moves.Move.{Move}
 use Rattle.theory_states.specs.declared.moves.Move.TheVariants.{Brings, Opens, Closes}
 use Rattle.theory_states.specs.Moves.{handed}

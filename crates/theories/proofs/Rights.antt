@@ -10,9 +10,8 @@ use Rattle.tasks.specs.Task.{SymbolTree, int_symbol, DeclarationTree}
 use Rattle.tasks.specs.Roles.{is_constructor, maker, role_by}
 use Rattle.tasks.specs.Vocabulary.{Vocabulary, passes, is_empty, is_constructor_kind}
 use Rattle.tasks.specs.Valid.{IsTypeIn}
-use Rattle.elaboration_laws.specs.scopes.Names.{ScopeNames, find_name, number_of}
+use Rattle.elaboration_laws.specs.scopes.Names.{ScopeNames, find_name, number_of, TypeName}
 use Rattle.elaboration_laws.specs.scopes.declared.Table.TheVariants.{Symbols}
-use Rattle.elaboration_laws.specs.scopes.declared.TypeName.{TypeName}
 use Rattle.surface.specs.Lexeme.{Word}
 use Rattle.surface.specs.Declarations.{Element, type_element, symbol_element, prop_element, all_axioms}
 use Rattle.elaboration_laws.specs.name_resolution.Abstract.{texts_of_names, type_expression, text_of_own}

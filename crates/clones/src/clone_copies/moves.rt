@@ -3,7 +3,7 @@
 ghost use Rattle.std.specs.Prelude.{◌≡◌, List, All, IfOk, OnOk};
 ghost use Rattle.tasks.specs.trees.Tree.{Tree};
 ghost use Rattle.tasks.specs.trees.Node.{tree_at, Grows};
-ghost use Rattle.elab_groups.specs.scopes.declared.TypeName.TheVariants.{Alias};
+ghost use Rattle.elab_groups.specs.scopes.declared.Referent.TheVariants.{Alias};
 ghost use Rattle.tasks.specs.Meaning.{symbols_at};
 ghost use Rattle.clones.specs.Mapped.{mapped};
 ghost use Rattle.clones.specs.Meaning.{map_at, MapHeld, AreKnown};

@@ -2,7 +2,7 @@
 use Rattle.std.proofs.Common.{◌≡◌, ℕ, ◌+◌, ◌≤◌, true, List, [], ◌∷◌, length, suc, refl, ◌∙◌, arith}
 use Rattle.tasks.specs.trees.Tree.{Tree}
 use Rattle.name_resolution.specs.scopes.declared.Table.TheVariants.{Symbols, Propositions}
-use Rattle.name_resolution.specs.scopes.declared.TypeName.TheVariants as stands
+use Rattle.name_resolution.specs.scopes.declared.Referent.TheVariants as stands
 use Rattle.name_resolution.specs.scopes.Names.{ScopeNames, with_name}
 use Rattle.surface.specs.Lexeme.{Word}
 use Rattle.name_resolution.specs.Naming.{type_named}

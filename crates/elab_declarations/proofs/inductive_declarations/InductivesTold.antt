@@ -5,9 +5,8 @@ use Rattle.std.specs.Option.{is_some}
 use Rattle.std.specs.Str.{bytes_eq}
 use Rattle.name_resolution.specs.scopes.declared.Table.{Table}
 use Rattle.name_resolution.specs.scopes.declared.Table.TheVariants.{Symbols, Propositions}
-use Rattle.name_resolution.specs.scopes.declared.TypeName.{TypeName}
-use Rattle.name_resolution.specs.scopes.declared.TypeName.TheVariants as stands
-use Rattle.name_resolution.specs.scopes.Names.{ScopeNames, ScopeEntry, is_named, is_declared, innermost, with_name}
+use Rattle.name_resolution.specs.scopes.Names.{TypeName, ScopeNames, ScopeEntry, is_named, is_declared, innermost, with_name}
+use Rattle.name_resolution.specs.scopes.declared.Referent.TheVariants as stands
 use Rattle.surface.specs.Lexeme.{Word}
 use Rattle.name_resolution.specs.declared.NamingFault.{NamingFault}
 use Rattle.name_resolution.specs.declared.NamingFault.TheVariants.{Duplicate}

@@ -6,11 +6,10 @@ use Rattle.std.proofs.Math.Path.{fun_ext}
 use Rattle.elab_groups.specs.tasks.trees.Tree.{Tree}
 use Rattle.elab_groups.specs.tasks.trees.Node.{tree_at}
 use Rattle.elab_groups.specs.tasks.Task.{SymbolTree}
-use Rattle.name_resolution.specs.scopes.Names.{ScopeNames, ScopeEntry, number_of, same_table, is_named, latest, is_declared, entries_of, innermost, first_or_zero, or_else, first_found, table_before, find_within, find_name}
+use Rattle.name_resolution.specs.scopes.Names.{ScopeNames, ScopeEntry, number_of, same_table, is_named, latest, is_declared, entries_of, innermost, first_or_zero, or_else, first_found, table_before, find_within, find_name, TypeName}
 use Rattle.name_resolution.specs.scopes.declared.Table.{Table}
 use Rattle.name_resolution.specs.scopes.declared.Table.TheVariants.{Types, Symbols}
-use Rattle.name_resolution.specs.scopes.declared.TypeName.{TypeName}
-use Rattle.name_resolution.specs.scopes.declared.TypeName.TheVariants as stands
+use Rattle.name_resolution.specs.scopes.declared.Referent.TheVariants as stands
 use Rattle.scopes.proofs.Listed.{same_table_is}
 use Rattle.elab_groups.specs.surface.Lexeme.{Word}
 use Rattle.name_resolution.specs.Naming.{meaning_at, or_int, type_named, symbol_named}

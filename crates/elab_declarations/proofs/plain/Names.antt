@@ -2,11 +2,10 @@
 use Rattle.std.proofs.Common.{◌≡◌, ℕ, ◌<◌, ◌≤◌, Bool, true, List, [], ◌∷◌, length, set, refl, ap, subst, ◌∙◌, arith}
 use Rattle.elab_groups.specs.tasks.trees.Tree.{Tree}
 use Rattle.elab_groups.specs.tasks.trees.Node.{Grows}
-use Rattle.name_resolution.specs.scopes.Names.{ScopeNames, ScopeEntry, entries_of, innermost, first_or_zero, rest_of_numbers, empty_names, with_name, with_entry, with_scope, closed}
+use Rattle.name_resolution.specs.scopes.Names.{ScopeNames, ScopeEntry, entries_of, innermost, first_or_zero, rest_of_numbers, empty_names, with_name, with_entry, with_scope, closed, TypeName}
 use Rattle.name_resolution.specs.scopes.declared.Table.{Table}
 use Rattle.name_resolution.specs.scopes.declared.Table.TheVariants.{Types, Symbols, Propositions, Scopes}
-use Rattle.name_resolution.specs.scopes.declared.TypeName.{TypeName}
-use Rattle.name_resolution.specs.scopes.declared.TypeName.TheVariants as stands
+use Rattle.name_resolution.specs.scopes.declared.Referent.TheVariants as stands
 use Rattle.name_resolution.specs.Where.{MeaningTree, Stands, Abbreviates}
 use Rattle.elab_declarations.specs.plain.Names.{PlainEntry, PlainNames, plain_entries, no_plain_names, with_plain_name, with_plain_entry, with_plain_scope, plain_closed}
 use Rattle.elab_declarations.specs.plain.Meant.{AreEachRelated, IsNumberOfTree, IsTypeMeant, IsThingMeant, IsEntryMeant, AreNamesMeant}

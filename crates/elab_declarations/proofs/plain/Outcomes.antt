@@ -5,7 +5,7 @@ use Rattle.elab_groups.specs.tasks.trees.Node.{Grows}
 use Rattle.elab_groups.specs.tasks.Task.{SymbolTree, DeclarationTree, AlgebraicTree, Constructs}
 use Rattle.name_resolution.specs.scopes.Names.{ScopeNames, with_name, with_entry}
 use Rattle.name_resolution.specs.scopes.declared.Table.TheVariants.{Types, Propositions}
-use Rattle.name_resolution.specs.scopes.declared.TypeName.TheVariants as stands
+use Rattle.name_resolution.specs.scopes.declared.Referent.TheVariants as stands
 use Rattle.elab_groups.specs.surface.Lexeme.{Word}
 use Rattle.elab_groups.specs.surface.declared.declarations.PropKind.{PropKind}
 use Rattle.name_resolution.specs.Abstract.{TypeExpression, Expression}

@@ -9,7 +9,7 @@ use Rattle.tasks.specs.Task.{SymbolTree}
 use Rattle.tasks.specs.Meaning.{symbols_at}
 use Rattle.scopes.specs.Names.{ScopeNames, with_entry}
 use Rattle.scopes.specs.declared.Table.TheVariants.{Types, Symbols}
-use Rattle.scopes.specs.declared.TypeName.TheVariants as stands
+use Rattle.scopes.specs.declared.Referent.TheVariants as stands
 use Rattle.surface.specs.Lexeme.{Word}
 use Rattle.name_resolution.specs.Naming.{type_named}
 use Rattle.name_resolution.specs.Abstract.{count_forms}

@@ -3,11 +3,10 @@
 use Rattle.std.specs.Prelude.{◌≡◌, ℕ, List, [], ◌∷◌, Option, Some, None}
 use Rattle.elab_groups.specs.tasks.trees.Tree.{Tree}
 use Rattle.elab_groups.specs.tasks.trees.Node.{tree_at, Holds}
-use Rattle.name_resolution.specs.scopes.Names.{ScopeNames, ScopeEntry}
+use Rattle.name_resolution.specs.scopes.Names.{ScopeNames, ScopeEntry, TypeName}
 use Rattle.name_resolution.specs.scopes.declared.Table.{Table}
 use Rattle.name_resolution.specs.scopes.declared.Table.TheVariants.{Types, Symbols, Propositions, Scopes}
-use Rattle.name_resolution.specs.scopes.declared.TypeName.{TypeName}
-use Rattle.name_resolution.specs.scopes.declared.TypeName.TheVariants as stands
+use Rattle.name_resolution.specs.scopes.declared.Referent.TheVariants as stands
 use Rattle.name_resolution.specs.Where.{MeaningTree, Stands, Abbreviates}
 use Rattle.elab_groups.specs.parts.Outcomes.{Setting, Outcome}
 use Rattle.elab_declarations.specs.plain.Names.{PlainEntry, PlainNames}

@@ -2,7 +2,7 @@
 use Rattle.std.proofs.Common.{◌≡◌, ℕ, ◌+◌, ◌≤◌, true, List, [], ◌∷◌, map, length, suc, refl, ap, ◌∙◌, arith}
 use Rattle.trees.specs.Tree.{Tree}
 use Rattle.scopes.specs.declared.Table.TheVariants.{Symbols}
-use Rattle.scopes.specs.declared.TypeName.TheVariants as stands
+use Rattle.scopes.specs.declared.Referent.TheVariants as stands
 use Rattle.scopes.specs.Names.{ScopeNames, with_name}
 use Rattle.surface.specs.Lexeme.{Word}
 use Rattle.name_resolution.specs.Naming.{type_named}

@@ -6,8 +6,7 @@ use Rattle.std.proofs.lemmas.List.Elements.{All-from_recursion}
 use Rattle.trees.specs.Tree.{Tree}
 use Rattle.trees.specs.Facts.{TyVarsBelow}
 use Rattle.tasks.specs.Task.{SymbolTree}
-use Rattle.scopes.specs.declared.TypeName.{TypeName}
-use Rattle.scopes.specs.Names.{ScopeNames}
+use Rattle.scopes.specs.Names.{TypeName, ScopeNames}
 use Rattle.surface.specs.Lexeme.{Word}
 use Rattle.name_resolution.specs.Abstract.{TypeExpression}
 use Rattle.name_resolution.specs.Faults.{first_of, type_fault, binders_fault}

@@ -5,8 +5,7 @@ use Rattle.std.specs.Option.{is_some}
 use Rattle.std.specs.Str.{bytes_eq}
 use Rattle.scopes.specs.declared.Table.{Table}
 use Rattle.scopes.specs.declared.Table.TheVariants.{Symbols}
-use Rattle.scopes.specs.declared.TypeName.{TypeName}
-use Rattle.scopes.specs.Names.{ScopeNames, ScopeEntry, is_declared, innermost, with_name}
+use Rattle.scopes.specs.Names.{TypeName, ScopeNames, ScopeEntry, is_declared, innermost, with_name}
 use Rattle.surface.specs.Lexeme.{Word}
 use Rattle.name_resolution.specs.declared.NamingFault.{NamingFault}
 use Rattle.name_resolution.specs.declared.NamingFault.TheVariants.{Duplicate}

@@ -6,8 +6,7 @@ use Rattle.tasks.specs.Task.{SymbolTree}
 use Rattle.tasks.specs.Meaning.{symbol_at, symbols_at}
 use Rattle.tasks.specs.declared.signature.Signature.{Signature}
 use Rattle.scopes.specs.declared.Table.TheVariants.{Propositions}
-use Rattle.scopes.specs.declared.TypeName.{TypeName}
-use Rattle.scopes.specs.Names.{ScopeNames, with_name}
+use Rattle.scopes.specs.Names.{TypeName, ScopeNames, with_name}
 use Rattle.surface.specs.Lexeme.{Word}
 use Rattle.name_resolution.specs.Naming.{meaning_at, type_named, symbol_named}
 use Rattle.name_resolution.specs.Where.{MeaningTree}

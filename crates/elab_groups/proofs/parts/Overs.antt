@@ -5,9 +5,8 @@ use Rattle.tasks.specs.trees.Node.{Grows}
 use Rattle.tasks.specs.Task.{SymbolTree}
 use Rattle.tasks.specs.Meaning.{symbols_at}
 use Rattle.tasks.specs.declared.signature.SymbolInfo.{SymbolInfo}
-use Rattle.scopes.specs.Names.{ScopeNames}
-use Rattle.scopes.specs.declared.TypeName.{TypeName}
-use Rattle.scopes.specs.declared.TypeName.TheVariants as stands
+use Rattle.scopes.specs.Names.{ScopeNames, TypeName}
+use Rattle.scopes.specs.declared.Referent.TheVariants as stands
 use Rattle.surface.specs.Lexeme.{Word}
 use Rattle.name_resolution.specs.Naming.{meaning_at, type_named, where_at, symbol_named}
 use Rattle.name_resolution.specs.Where.{Where, MeaningTree}

@@ -8,11 +8,10 @@ use Rattle.tasks.specs.declared.signature.SymbolInfo.{SymbolInfo}
 use Rattle.tasks.specs.declared.signature.Signature.{Signature}
 use Rattle.tasks.specs.Task.{SymbolTree, int_symbol}
 use Rattle.tasks.specs.Meaning.{symbols_at}
-use Rattle.scopes.specs.Names.{ScopeNames, ScopeEntry, number_of}
+use Rattle.scopes.specs.Names.{ScopeNames, ScopeEntry, number_of, TypeName}
 use Rattle.scopes.specs.declared.Table.{Table}
 use Rattle.scopes.specs.declared.Table.TheVariants.{Types, Symbols}
-use Rattle.scopes.specs.declared.TypeName.{TypeName}
-use Rattle.scopes.specs.declared.TypeName.TheVariants as stands
+use Rattle.scopes.specs.declared.Referent.TheVariants as stands
 pub use Rattle.tasks.specs.Entries.{type_entry, projection_name, projections, constructor_entries, builtin, is_tuple, tuple_from, tuple_in, tuple_entries, wanting_tuple, wanting_tuples}
 use Rattle.open_types.specs.Scoped.{IsScopedEntry}
 use Rattle.open_types.specs.Drafts.{HoldsType, SymbolTyped}

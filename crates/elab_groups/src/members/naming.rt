@@ -2,7 +2,7 @@
 ghost use Rattle.std.specs.Prelude.{◌≡◌, ◌++◌, ℕ, true, false, List, map, OnOk};
 ghost use Rattle.trees.specs.Tree.{Tree};
 ghost use Rattle.scopes.specs.Names.{with_name};
-ghost use Rattle.scopes.specs.declared.TypeName.TheVariants as stands;
+ghost use Rattle.scopes.specs.declared.Referent.TheVariants as stands;
 ghost use Rattle.name_resolution.specs.Naming.{where_at, Tells};
 ghost use Rattle.open_types.specs.Drafts.{WorldHeld};
 ghost use Rattle.elab_groups.specs.parts.Declarations.{token_name, word, words, own_variables, with_vars};
@@ -119,7 +119,7 @@ pub fn declare_member(
     m: &MemberSource<'_>,
     number: usize,
 ) -> Result<(), NamingFault>
-    ensures ok { OnOk result (scope.new ≡ with_name Table.Symbols own.now (TypeName.Entry number)
+    ensures ok { OnOk result (scope.new ≡ with_name Table.Symbols own.now (stands.Entry number)
         true scope.old) }
     ensures told { Tells result (member_made (declared_in scope.old Table.Symbols) before.now
         (token_name m.now.name.now.at own.now) (parameters_of m.now.params.now)) }

@@ -7,8 +7,8 @@ use Rattle.tasks.specs.Vocabulary.{Vocabulary}
 use Rattle.tasks.specs.Valid.{IsTypeIn}
 use Rattle.elab_groups.specs.scopes.declared.Table.{Table}
 use Rattle.elab_groups.specs.scopes.declared.Table.TheVariants.{Types, Symbols, Propositions, Scopes}
-use Rattle.elab_groups.specs.scopes.declared.TypeName.{TypeName}
-use Rattle.elab_groups.specs.scopes.declared.TypeName.TheVariants as stands
+use Rattle.elab_groups.specs.scopes.Names.{TypeName}
+use Rattle.elab_groups.specs.scopes.declared.Referent.TheVariants as stands
 use Rattle.theory_states.specs.declared.moves.Move.{Move}
 use Rattle.theory_states.specs.declared.moves.Move.TheVariants.{Brings, Opens, Closes}
 use Rattle.elaboration_laws.specs.Scopes.{IsTypedEntry, IsTypedThing}

@@ -8,11 +8,10 @@ use Rattle.tasks.proofs.trees.Nodes.{Grows_refl}
 use Rattle.tasks.specs.Task.{SymbolTree, symbol_or, DeclarationTree, BodyTree, MakesType, Makes, Defines, Induces, Constructs, Says}
 use Rattle.tasks.specs.Rigid.{rigid_symbol}
 use Rattle.tasks.specs.Vocabulary.{Vocabulary, of_signature, is_empty}
-use Rattle.elab_groups.specs.scopes.Names.{ScopeNames, find_name, number_of}
+use Rattle.elab_groups.specs.scopes.Names.{ScopeNames, find_name, number_of, TypeName}
 use Rattle.elab_groups.specs.scopes.declared.Table.{Table}
 use Rattle.elab_groups.specs.scopes.declared.Table.TheVariants.{Types, Symbols, Propositions, Scopes}
-use Rattle.elab_groups.specs.scopes.declared.TypeName.{TypeName}
-use Rattle.elab_groups.specs.scopes.declared.TypeName.TheVariants as stands
+use Rattle.elab_groups.specs.scopes.declared.Referent.TheVariants as stands
 use Rattle.theory_states.specs.declared.moves.Move.{Move}
 use Rattle.theory_states.specs.declared.moves.Move.TheVariants.{Brings, Opens, Closes}
 use Rattle.surface.specs.Lexeme.{Word}
@@ -139,7 +138,7 @@ module _ (v w : Vocabulary) (m : Map) (maps : MapsTypes v w m) (symbol_becomes :
   thing_typed Types (stands.Entry k) thing h z = type_thing k (m.types k) thing refl h z
   thing_typed Types (stands.Alias vars ty) thing h z = subst (IsTypeName w s) (sym z.is) (alias_mapped v w m s s vars ty z.type maps z.held.held z.tree h)
   thing_typed Symbols (stands.Entry k) thing h z = subst (IsTypedThing w s Symbols) (sym z) (symbol_becomes k h)
-  thing_typed Symbols (stands.Alias vars ty) thing h z = subst (IsTypedThing w s Symbols) (sym z) (stays ty h)
+  thing_typed Symbols (stands.Alias vars ty) thing h z = subst (IsTypedThing w s Symbols) (sym z) (stays 0 h)
   thing_typed Propositions t thing h z = tt
   thing_typed Scopes t thing h z = tt
 

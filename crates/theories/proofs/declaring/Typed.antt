@@ -4,11 +4,10 @@ use Rattle.std.proofs.lemmas.List.Elements.{All-nil, All-cons, All-append}
 use Rattle.tasks.specs.trees.Tree.{Tree}
 use Rattle.tasks.specs.Task.{DeclarationTree}
 use Rattle.tasks.specs.Vocabulary.{Vocabulary, of_signature}
-use Rattle.elab_groups.specs.scopes.Names.{ScopeNames, find_name, number_of}
+use Rattle.elab_groups.specs.scopes.Names.{ScopeNames, find_name, number_of, TypeName}
 use Rattle.elab_groups.specs.scopes.declared.Table.{Table}
 use Rattle.elab_groups.specs.scopes.declared.Table.TheVariants.{Types, Symbols, Propositions, Scopes}
-use Rattle.elab_groups.specs.scopes.declared.TypeName.{TypeName}
-use Rattle.elab_groups.specs.scopes.declared.TypeName.TheVariants as stands
+use Rattle.elab_groups.specs.scopes.declared.Referent.TheVariants as stands
 use Rattle.surface.specs.Lexeme.{Word}
 use Rattle.surface.specs.Declarations as source
 use Rattle.surface.specs.declared.declarations.PropKind.{PropKind}

@@ -3,11 +3,10 @@ use Rattle.std.proofs.Common.{◌≡◌, ℕ, suc, Bool, true, false, nat_lt, if
 use Rattle.tasks.specs.trees.Tree.{Tree}
 use Rattle.tasks.specs.trees.Node.{tree_at}
 use Rattle.tasks.specs.Task.{SymbolTree, symbol_or}
-use Rattle.elaboration_laws.specs.scopes.Names.{ScopeNames, number_of, find_name, with_name, with_scope, closed}
+use Rattle.elaboration_laws.specs.scopes.Names.{ScopeNames, number_of, find_name, with_name, with_scope, closed, TypeName}
 use Rattle.elaboration_laws.specs.scopes.declared.Table.{Table}
 use Rattle.elaboration_laws.specs.scopes.declared.Table.TheVariants.{Types, Symbols, Propositions, Scopes}
-use Rattle.elaboration_laws.specs.scopes.declared.TypeName.{TypeName}
-use Rattle.elaboration_laws.specs.scopes.declared.TypeName.TheVariants as stands
+use Rattle.elaboration_laws.specs.scopes.declared.Referent.TheVariants as stands
 use Rattle.elaboration_laws.specs.name_resolution.Where.{MeaningTree, Stands, Abbreviates}
 use Rattle.surface.specs.Lexeme.{Word}
 use Rattle.surface.specs.Declarations as source

@@ -1,11 +1,10 @@
 -- The names that a declaration made in a scope, as moves that bring them into others (Why3 manual,
 -- "use and clone").
 use Rattle.std.specs.Prelude.{List, [], ◌∷◌, ◌++◌, Option, Some, None, option_map}
-use Rattle.elab_groups.specs.scopes.Names.{ScopeNames, find_number, find_name}
+use Rattle.elab_groups.specs.scopes.Names.{ScopeNames, find_number, find_name, TypeName}
 use Rattle.elab_groups.specs.scopes.declared.Table.{Table}
 use Rattle.elab_groups.specs.scopes.declared.Table.TheVariants.{Types, Symbols, Propositions, Scopes}
-use Rattle.elab_groups.specs.scopes.declared.TypeName.{TypeName}
-use Rattle.elab_groups.specs.scopes.declared.TypeName.TheVariants as stands
+use Rattle.elab_groups.specs.scopes.declared.Referent.TheVariants as stands
 use Rattle.surface.specs.Lexeme.{Word}
 use Rattle.surface.specs.Declarations as source
 use Rattle.elab_groups.specs.parts.Declarations.{Declaration, Made, makes, binds_names, made_names, declaration}

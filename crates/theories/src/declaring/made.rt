@@ -1,7 +1,7 @@
 // The names that declarations made, as moves.
 // They depend on what scopes know; the typing of declarations depends on them.
 ghost use Rattle.std.specs.Prelude.{◌≡◌, ◌++◌, ◌∷◌, [], map, option_map, OnOk};
-ghost use Rattle.elab_groups.specs.scopes.declared.TypeName.TheVariants as stands;
+ghost use Rattle.elab_groups.specs.scopes.declared.Referent.TheVariants as stands;
 ghost use Rattle.elab_groups.specs.scopes.declared.Table.TheVariants.{Types, Symbols, Propositions};
 ghost use Rattle.surface.specs.SurfaceDeclarations.{decl_of, declared_name, plain_name, member_of, constructor_of, algebraic_of, clause_of, inductive_of};
 ghost use Rattle.elab_groups.specs.parts.Declarations.{makes, word, symbol, group_member, constructor, algebraic_type, clause, inductive_predicate, made_by_constructors, made_type_names, made_by_members, made_by_clauses, made_by_inductives};

@@ -4,7 +4,7 @@ use Rattle.tasks.specs.trees.Node.{tree_at}
 use Rattle.tasks.specs.trees.Facts.{TyVarsBelow}
 use Rattle.tasks.specs.Meaning.{symbols_at}
 use Rattle.name_resolution.specs.scopes.declared.Table.TheVariants.{Types}
-use Rattle.name_resolution.specs.scopes.declared.TypeName.TheVariants as stands
+use Rattle.name_resolution.specs.scopes.declared.Referent.TheVariants as stands
 use Rattle.name_resolution.specs.scopes.Names.{ScopeNames, with_name}
 use Rattle.surface.specs.Lexeme.{Word}
 use Rattle.name_resolution.specs.Abstract.{type_expression_of}

@@ -3,7 +3,7 @@ use Rattle.std.proofs.Math.ListN.{length-map}
 use Rattle.tasks.specs.Task.{MakesType}
 use Rattle.tasks.specs.Meaning.{declarations_at}
 use Rattle.name_resolution.specs.scopes.declared.Table.TheVariants.{Types}
-use Rattle.name_resolution.specs.scopes.declared.TypeName.TheVariants as stands
+use Rattle.name_resolution.specs.scopes.declared.Referent.TheVariants as stands
 use Rattle.name_resolution.specs.scopes.Names.{ScopeNames, with_name}
 use Rattle.elab_groups.specs.open_types.Patterns.{no_notes}
 use Rattle.elab_groups.specs.parts.Declarations.{word, abstract_type, made_names, made_fault}

@@ -1,7 +1,7 @@
 use Rattle.std.proofs.Common.{◌≡◌, true, List, None, ap, subst, ◌∙◌}
 use Rattle.name_resolution.specs.scopes.Names.{ScopeNames, with_name}
 use Rattle.name_resolution.specs.scopes.declared.Table.TheVariants.{Symbols, Propositions}
-use Rattle.name_resolution.specs.scopes.declared.TypeName.TheVariants as stands
+use Rattle.name_resolution.specs.scopes.declared.Referent.TheVariants as stands
 use Rattle.surface.specs.Lexeme.{Word}
 use Rattle.surface.specs.declared.declarations.ClauseTree.{ClauseTree}
 use Rattle.name_resolution.specs.Naming.{Tells}

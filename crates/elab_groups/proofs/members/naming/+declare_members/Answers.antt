@@ -1,6 +1,6 @@
 use Rattle.std.proofs.Common.{◌≡◌, ◌++◌, ◌∷◌, [], None}
 use Rattle.scopes.specs.declared.Table.TheVariants.{Symbols}
-use Rattle.scopes.specs.declared.TypeName.TheVariants as stands
+use Rattle.scopes.specs.declared.Referent.TheVariants as stands
 use Rattle.name_resolution.specs.Naming.{Tells}
 use Rattle.name_resolution.proofs.Told.{of_rest}
 use Rattle.elab_groups.specs.parts.Outcomes.{declared_in}

@@ -2,7 +2,7 @@ use Rattle.std.proofs.Common.{◌∷◌, [], ◌++◌, List, ap, ◌∙◌, leng
 use Rattle.scopes.specs.Names.{ScopeEntry}
 use Rattle.scopes.proofs.Inside.{scoped, read_at}
 use Rattle.scopes.specs.declared.Table.TheVariants.{Scopes}
-use Rattle.scopes.specs.declared.TypeName.TheVariants as stands
+use Rattle.scopes.specs.declared.Referent.TheVariants as stands
 use Rattle.scopes.proofs.nested.Scope.add_scope.Goals as goal
 
 pub returns-clause-ok : goal.returns-clause-ok
