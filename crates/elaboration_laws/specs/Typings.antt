@@ -240,7 +240,8 @@ case_tree s as' = Two HCase s (cells as')
 abbrev pub both_trees : Tree → Tree → Tree × Tree
 both_trees a b = (a, b)
 
--- ---- terms and formulas: under these variables, innermost first, a term of the type, or without one a formula
+-- ---- terms and formulas: under these variables, innermost first, a term of the type, or without
+-- one a formula
 abbrev mutual
   pub IsTyping : Where → List LocalTree → Option Tree → Expression → Tree → List Choice → Type 0
   IsTyping w ls t (applied_expression i qs x es) e cs =

@@ -72,7 +72,8 @@ only_parameters types (One h a) o =
 only_parameters types (Two h a b) o = (only_parameters types a o.1, only_parameters types b o.2)
 only_parameters types (Three h a b c) o = absurd o
 
--- ---- a term or formula of this sort under binders of these types, with no parameters and the type variables below this number
+-- ---- a term or formula of this sort under binders of these types, with no parameters and the type
+-- variables below this number
 pub record IsGoodUnder (v : Vocabulary) (vars : ℕ) (bs : List Tree) (s : Sort)
     (e : Tree) : Type 0 where
   pub sort : sort_of e ≡ s

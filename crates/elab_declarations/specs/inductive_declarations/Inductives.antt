@@ -31,7 +31,8 @@ abbrev pub inductives_seen : SeenTree → List InductivePredicate → SeenTree
 inductives_seen s [] = s
 inductives_seen s (d ∷ ds) = inductives_seen (clauses_seen (params_seen s d.params) d.clauses) ds
 
--- ---- predicates and clauses as members of a group: a predicate without a definition, and a formula without parameters
+-- ---- predicates and clauses as members of a group: a predicate without a definition, and a
+-- formula without parameters
 abbrev pub as_member : InductivePredicate → GroupMember
 as_member d = record { called = d.called; params = d.params; result = None; body = None }
 
@@ -56,7 +57,8 @@ abbrev pub clause_signatures : List InductivePredicate → List SignatureTree
 clause_signatures [] = []
 clause_signatures (d ∷ ds) = map (clause_signature d) d.clauses ++ clause_signatures ds
 
--- ---- names: each predicate's stands for its entry, those of its clauses for the declaration's number
+-- ---- names: each predicate's stands for its entry, those of its clauses for the declaration's
+-- number
 abbrev pub with_clauses : ℕ → List InductiveClause → ScopeNames → ScopeNames
 with_clauses n [] names = names
 with_clauses n (c ∷ cs) names =
@@ -134,7 +136,8 @@ abbrev pub IsInductiveRefusal : Setting → List InductivePredicate → ElabFaul
 IsInductiveRefusal c ds f = IsRefusalFor c.decl (inductive_group_fault c ds)
     (most_variables (clause_signatures ds)) (inductive_notes c ds) f
 
--- ---- names that are made, told predicate by predicate: what each table of the scope declared, and the names of both tables that
+-- ---- names that are made, told predicate by predicate: what each table of the scope declared, and
+-- the names of both tables that
 -- the group made before
 abbrev pub clauses_made : (Word → Bool) → List Word → List InductiveClause → Option NamingFault
 clauses_made declared before [] = None

@@ -56,7 +56,8 @@ plain_alias_outcome c x vs f = record {
   matches = [];
 }
 
--- ---- a group of algebraic types: after the tuples stand the types, and after these the constructors, each before its projections
+-- ---- a group of algebraic types: after the tuples stand the types, and after these the
+-- constructors, each before its projections
 abbrev pub plain_first_type : PlainSetting → List AlgebraicType → ℕ
 plain_first_type c ts = length (c.symbols ++ plain_tuples c (group_seen ts))
 
@@ -125,7 +126,8 @@ abbrev pub plain_inside_group : PlainSetting → List SymbolTree → List GroupM
 plain_inside_group c before ms names =
     plain_over (before ++ plain_member_entries c before ms) names []
 
--- ---- a group of functions, predicates and constants: the entries of its tuples, then those of its members
+-- ---- a group of functions, predicates and constants: the entries of its tuples, then those of its
+-- members
 abbrev pub plain_group_tuples : PlainSetting → List GroupMember → List SymbolTree
 plain_group_tuples c ms = plain_tuples c (members_seen unseen ms)
 
@@ -152,7 +154,8 @@ pub record IsPlainGroup (c : PlainSetting) (ms : List GroupMember) (o : PlainOut
       (plain_group_signatures c ms) bodies
   pub rigid : o.rigid ≡ []
 
--- ---- a group of inductive predicates: the entries of its tuples, then those of its predicates; the names of its clauses stand for the
+-- ---- a group of inductive predicates: the entries of its tuples, then those of its predicates;
+-- the names of its clauses stand for the
 -- declaration's number
 abbrev pub with_plain_clauses : ℕ → List InductiveClause → PlainNames → PlainNames
 with_plain_clauses n [] names = names

@@ -51,7 +51,8 @@ types_seen s (a ∷ ts) = types_seen (constructors_seen s a.constructors) ts
 abbrev pub group_seen : List AlgebraicType → SeenTree
 group_seen ts = types_seen unseen ts
 
--- ---- numbers: after the tuples stand the types, and after these the constructors, each before its projections
+-- ---- numbers: after the tuples stand the types, and after these the constructors, each before its
+-- projections
 abbrev pub entry_count : List AlgebraicConstructor → ℕ
 entry_count [] = 0
 entry_count (k ∷ ks) = (count_forms k.fields + 1) + entry_count ks

@@ -74,7 +74,8 @@ plain_moves_of names (Some d) = plain_moves_made names (made_names d)
 abbrev pub plain_moves_declared : PlainNames → source.SyntaxDeclaration → List PlainMove
 plain_moves_declared names d = plain_moves_of names (declaration d)
 
--- ---- the names that a clone passes on: what each stands for is mapped (Why3 manual, "theory cloning")
+-- ---- the names that a clone passes on: what each stands for is mapped (Why3 manual, "theory
+-- cloning")
 -- a type symbol becomes a type or another symbol
 abbrev pub type_symbol_mapped : ℕ → Option Tree → ℕ → MeaningTree
 type_symbol_mapped vars None j = Stands j
