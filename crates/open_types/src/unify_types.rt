@@ -14,7 +14,8 @@ use trees::TermId;
 use trees::store::Store;
 
 mod bindings;
-mod finding;
+mod decomposing;
+mod merging;
 mod resolving;
 mod solving;
 mod valuing;

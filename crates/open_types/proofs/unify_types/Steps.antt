@@ -10,11 +10,12 @@ use Rattle.open_types.specs.declared.unify_types.bindings.Bound.{Bound}
 use Rattle.open_types.specs.declared.unify_types.Equation.{Equation}
 use Rattle.open_types.specs.unify_types.Assigned.{assign, IsType, MeetsEquation, Solves}
 use Rattle.open_types.specs.unify_types.Bound.{Binding, resolve, IsTriangular, Agrees, bound_over}
-use Rattle.open_types.specs.unify_types.Differ.{Unifies, Fails}
+use Rattle.open_types.specs.unify_types.Further.{Unifies, Fails}
 use Rattle.open_types.specs.unify_types.Valued.{AreValues, IsTreated}
 use Rattle.open_types.specs.unify_types.Solution.{IsEquation, HasSolution, HasNoSolution, HasMostGeneral, IsValue, SolvesFirst}
 use Rattle.open_types.proofs.unify_types.Assigning.{assign-unknown, agrees-resolve, resolve-agrees, resolve-types}
 use Rattle.open_types.proofs.unify_types.Resolved.{tree_grown, held_grown, over_grown}
+use Rattle.open_types.proofs.unify_types.Unified.{meets_grown, meets_before}
 use Rattle.open_types.proofs.unify_types.Values.{assign-closed, Differ, open_differs}
 
 solves_parts : (r : ℕ) (f : ℕ → Tree) (s : List Tree) (es : List Equation) (e : Equation) → Solves r f s (es ++ e ∷ []) → Solves r f s es × MeetsEquation r f s e
@@ -24,13 +25,6 @@ solves_parts r f s (x ∷ xs) e h = let p : Solves r f s xs × MeetsEquation r f
 solves_both : (r : ℕ) (f : ℕ → Tree) (s : List Tree) (es : List Equation) (e : Equation) → Solves r f s es → MeetsEquation r f s e → Solves r f s (es ++ e ∷ [])
 solves_both r f s [] e h m = (m, tt)
 solves_both r f s (x ∷ xs) e h m = (h.0, solves_both r f s xs e h.1 m)
-
--- an equation means the same over the grown store
-meets_grown : (r : ℕ) (f : ℕ → Tree) (old s : List Tree) (e : Equation) → Grows old s → IsEquation old e → MeetsEquation r f old e → MeetsEquation r f s e
-meets_grown r f old s e g p m = ap (assign r f) (tree_grown old s e.left g p.left_held) ∙ m ∙ sym (ap (assign r f) (tree_grown old s e.right g p.right_held))
-
-meets_before : (r : ℕ) (f : ℕ → Tree) (old s : List Tree) (e : Equation) → Grows old s → IsEquation old e → MeetsEquation r f s e → MeetsEquation r f old e
-meets_before r f old s e g p m = sym (ap (assign r f) (tree_grown old s e.left g p.left_held)) ∙ m ∙ ap (assign r f) (tree_grown old s e.right g p.right_held)
 
 pub equation_grown : (old s : List Tree) (e : Equation) → Grows old s → IsEquation old e → IsEquation s e
 equation_grown old s e g p = record {
@@ -50,8 +44,8 @@ solves_next r old es k s s' bs bs' e p within at eq u =
       triangular = u.narrows.triangular;
       forth = λ f h.
           let q : Solves r f old (take k es) × MeetsEquation r f old e = solves_parts r f old (take k es) e (subst (λ (l : List Equation). Solves r f old l) more h) in
-          u.narrows.forth f (p.forth f q.0) (meets_grown r f old s e p.grows eq q.1);
-      back = λ f h. subst (λ (l : List Equation). Solves r f old l) (sym more) (solves_both r f old (take k es) e (p.back f (u.narrows.back f h)) (meets_before r f old s e p.grows eq (u.solved f h)));
+          u.narrows.forth f (p.forth f q.0) (meets_grown r f old s e p.grows eq.left_held eq.right_held q.1);
+      back = λ f h. subst (λ (l : List Equation). Solves r f old l) (sym more) (solves_both r f old (take k es) e (p.back f (u.narrows.back f h)) (meets_before r f old s e p.grows eq.left_held eq.right_held (u.solved f h)));
     }
 
 pub clash_fails : (r : ℕ) (old : List Tree) (es : List Equation) (k : ℕ) (s : List Tree) (bs : List Bound) (e : Equation)
@@ -59,7 +53,7 @@ pub clash_fails : (r : ℕ) (old : List Tree) (es : List Equation) (k : ℕ) (s 
 clash_fails r old es k s bs e p within at eq fails f h =
     let more : take (k + 1) es ≡ take k es ++ e ∷ [] = take_more es k e within ∙ ap (λ (x : Equation). take k es ++ x ∷ []) at in
     let q : Solves r f old (take k es) × MeetsEquation r f old e = solves_parts r f old (take k es) e (subst (λ (l : List Equation). Solves r f old l) more h) in
-    fails f (p.forth f q.0) (meets_grown r f old s e p.grows eq q.1)
+    fails f (p.forth f q.0) (meets_grown r f old s e p.grows eq.left_held eq.right_held q.1)
 
 pub clash_solved : (r : ℕ) (old : List Tree) (es : List Equation) (k : ℕ) (s : List Tree) (bs : List Bound) → SolvesFirst r old es k s bs → HasSolution r old (take k es)
 clash_solved r old es k s bs p = record {

@@ -1,111 +1,36 @@
-// Where two types differ, and how the bindings are made to solve a further equation.
-// It depends on bindings and resolved types; `solve` goes through the equations so.
-ghost use Rattle.std.specs.Prelude.{◌≡◌, ◌≢◌, ℕ, ◌<◌, true, false, IfOk};
-ghost use Rattle.trees.specs.Tree.{Tree};
-ghost use Rattle.trees.specs.Node.{tree_at, Holds, Grows};
-ghost use Rattle.open_types.specs.unify_types.Assigned.{assign, IsType};
-ghost use Rattle.open_types.specs.unify_types.Bound.{resolve, IsTriangular, bound_over, BindingsHeld};
-ghost use Rattle.open_types.specs.unify_types.Differ.{Binds, Unifies, Fails};
+// How the bindings are made to solve a further equation: it is taken apart down to unknowns, which are bound in turn.
+// It depends on bindings, merged types and resolved types; `solve` goes through the equations so.
+ghost use Rattle.std.specs.Prelude.{◌≡◌, ◌≢◌, ◌≤◌, true, false, None, IfOk};
+ghost use Rattle.trees.specs.Node.{tree_at, Grows};
+ghost use Rattle.open_types.specs.unify_types.Assigned.{Variable};
+ghost use Rattle.open_types.specs.unify_types.Bound.{IsTriangular, type_bound, bound_over, BindingsHeld};
+ghost use Rattle.open_types.specs.unify_types.Solution.{IsEquation};
+ghost use Rattle.open_types.specs.unify_types.Further.{IsListEquation, IsUnbound, AreMerged, Unifies, Fails};
 
 use crate::unify_types::Equation;
 use crate::unify_types::bindings::Bindings;
-use crate::unify_types::finding::difference;
+use crate::unify_types::decomposing::{arguments, members, unknown_of};
+use crate::unify_types::merging::root;
 use crate::unify_types::resolving::{build, has_sought};
 use std::alloc::{AllocError, Global};
 use std::collections::{HashMap, HashSet};
 use trees::TermId;
 use trees::store::Store;
 
-/// Where two types that aren't the same differ first: at two operators, or at an unknown and another type.
-#[derive(Clone, Copy)]
-pub enum Difference {
-    Operators,
-    Unknown(usize, TermId),
-}
-
-// The numbers of both sides under the bindings.
-fn build_both(
-    alloc: Global,
-    store: &mut Store,
-    rigid: usize,
-    bindings: &Bindings,
-    e: Equation,
-) -> Result<(TermId, TermId), AllocError>
-    requires left_held { Holds store.old e.left }
-    requires right_held { Holds store.old e.right }
-    requires left_type { IsType (tree_at store.old e.left) }
-    requires right_type { IsType (tree_at store.old e.right) }
-    requires bound { BindingsHeld store.old bindings.now }
-    requires triangular { IsTriangular rigid (bound_over store.old bindings.now) }
-    ensures left_held { IfOk result (λ ids. Holds store.new ids.0) }
-    ensures right_held { IfOk result (λ ids. Holds store.new ids.1) }
-    ensures left { IfOk result (λ ids. tree_at store.new ids.0
-        ≡ assign rigid (resolve rigid (bound_over store.old bindings.now))
-        (tree_at store.old e.left)) }
-    ensures right { IfOk result (λ ids. tree_at store.new ids.1
-        ≡ assign rigid (resolve rigid (bound_over store.old bindings.now))
-        (tree_at store.old e.right)) }
-    ensures grows { Grows store.old store.new }
-{
-    let mut known = HashMap::new(alloc);
-    let left = build(store, rigid, bindings, &mut known, usize::MAX, e.left)?;
-    let mut known = HashMap::new(alloc);
-    let right = build(store, rigid, bindings, &mut known, usize::MAX, e.right)?;
-    Ok((left, right))
-}
-
-// Binds the unknown at which two types under the bindings differ, if the types can be made the same there.
-fn bind_difference(
-    alloc: Global,
-    store: &Store,
-    rigid: usize,
-    bindings: &mut Bindings,
-    a: TermId,
-    b: TermId,
-) -> Result<bool, AllocError>
-    requires a_held { Holds store.now a }
-    requires b_held { Holds store.now b }
-    requires a_type { IsType (tree_at store.now a) }
-    requires b_type { IsType (tree_at store.now b) }
-    requires differ { tree_at store.now a ≢ tree_at store.now b }
-    requires bound { BindingsHeld store.now bindings.old }
-    requires triangular { IsTriangular rigid (bound_over store.now bindings.old) }
-    requires a_left { assign rigid (resolve rigid (bound_over store.now bindings.old))
-        (tree_at store.now a) ≡ tree_at store.now a }
-    requires b_left { assign rigid (resolve rigid (bound_over store.now bindings.old))
-        (tree_at store.now b) ≡ tree_at store.now b }
-    ensures bound { IfOk result (λ yes. yes ≡ true
-        → Binds rigid store.now bindings.old bindings.new (tree_at store.now a)
-        (tree_at store.now b)) }
-    ensures failed { IfOk result (λ yes. yes ≡ false → (f : ℕ → Tree)
-        → assign rigid f (tree_at store.now a) ≡ assign rigid f (tree_at store.now b) → ⊥) }
-{
-    match difference(store, rigid, a, b) {
-        Difference::Operators => Ok(false),
-        Difference::Unknown(unknown, ty) => {
-            let mut clear = HashSet::new(alloc);
-            if has_sought(store, &mut clear, rigid, Some(unknown), ty)? {
-                return Ok(false);
-            }
-            bindings.add_binding(unknown, ty)?;
-            Ok(true)
-        }
-    }
-}
-
-/// Makes the bindings solve a further equation, if they can. No run is as long as the loop allows, since each turn binds
-/// one of the unknowns that are in the equations.
-pub fn unify(
+// Binds an unknown, which is the left side of an equation, to the right side under the bindings; it doesn't if it occurs
+// there.
+fn eliminate(
     alloc: Global,
     store: &mut Store,
     rigid: usize,
     bindings: &mut Bindings,
+    unknown: usize,
     e: Equation,
 ) -> Result<bool, AllocError>
-    requires left_held { Holds store.old e.left }
-    requires right_held { Holds store.old e.right }
-    requires left_type { IsType (tree_at store.old e.left) }
-    requires right_type { IsType (tree_at store.old e.right) }
+    requires equation { IsEquation store.old e }
+    requires above { rigid ≤ unknown }
+    requires unknown { tree_at store.old e.left ≡ Variable unknown }
+    requires unbound { type_bound unknown bindings.old ≡ None }
     requires bound { BindingsHeld store.old bindings.old }
     requires triangular { IsTriangular rigid (bound_over store.old bindings.old) }
     ensures solved { IfOk result (λ yes. yes ≡ true
@@ -113,14 +38,154 @@ pub fn unify(
     ensures failed { IfOk result (λ yes. yes ≡ false → Fails rigid store.old bindings.old e) }
     ensures grows { Grows store.old store.new }
 {
-    for _ in 0..u64::MAX {
-        let (left, right) = build_both(alloc, store, rigid, bindings, e)?;
-        if store.same(left, right) {
-            return Ok(true);
-        }
-        if !bind_difference(alloc, store, rigid, bindings, left, right)? {
-            return Ok(false);
-        }
+    let mut known = HashMap::new(alloc);
+    let ty = build(store, rigid, bindings, &mut known, usize::MAX, e.right)?;
+    if store.same(e.left, ty) {
+        return Ok(true);
     }
-    Err(AllocError)
+    let mut clear = HashSet::new(alloc);
+    if has_sought(store, &mut clear, rigid, Some(unknown), ty)? {
+        return Ok(false);
+    }
+    bindings.add_binding(unknown, ty)?;
+    Ok(true)
+}
+
+// The same of any equation between types. What was made the same is remembered, so that shared types are taken apart once.
+#[cycle(unification)]
+fn unify_sides(
+    alloc: Global,
+    store: &mut Store,
+    rigid: usize,
+    bindings: &mut Bindings,
+    merged: &mut HashMap<usize, TermId>,
+    steps: usize,
+    e: Equation,
+) -> Result<bool, AllocError>
+    requires equation { IsEquation store.old e }
+    requires bound { BindingsHeld store.old bindings.old }
+    requires triangular { IsTriangular rigid (bound_over store.old bindings.old) }
+    requires merged { AreMerged rigid (bound_over store.old bindings.old) store.old merged.old }
+    ensures solved { IfOk result (λ yes. yes ≡ true
+        → Unifies rigid store.old bindings.old e store.new bindings.new) }
+    ensures failed { IfOk result (λ yes. yes ≡ false → Fails rigid store.old bindings.old e) }
+    ensures merged { IfOk result (λ yes. yes ≡ true
+        → AreMerged rigid (bound_over store.new bindings.new) store.new merged.new) }
+    ensures grows { Grows store.old store.new }
+{
+    let left = root(store, rigid, bindings, merged, usize::MAX, e.left)?;
+    let right = root(store, rigid, bindings, merged, usize::MAX, e.right)?;
+    if store.same(left, right) {
+        return Ok(true);
+    }
+    if steps == 0 {
+        return Err(AllocError);
+    }
+    let roots = Equation { left, right };
+    unify_roots(alloc, store, rigid, bindings, merged, steps - 1, roots)
+}
+
+#[cycle(unification)]
+fn unify_roots(
+    alloc: Global,
+    store: &mut Store,
+    rigid: usize,
+    bindings: &mut Bindings,
+    merged: &mut HashMap<usize, TermId>,
+    steps: usize,
+    e: Equation,
+) -> Result<bool, AllocError>
+    requires equation { IsEquation store.old e }
+    requires differ { tree_at store.old e.left ≢ tree_at store.old e.right }
+    requires left_unbound { IsUnbound bindings.old (tree_at store.old e.left) }
+    requires right_unbound { IsUnbound bindings.old (tree_at store.old e.right) }
+    requires bound { BindingsHeld store.old bindings.old }
+    requires triangular { IsTriangular rigid (bound_over store.old bindings.old) }
+    requires merged { AreMerged rigid (bound_over store.old bindings.old) store.old merged.old }
+    ensures solved { IfOk result (λ yes. yes ≡ true
+        → Unifies rigid store.old bindings.old e store.new bindings.new) }
+    ensures failed { IfOk result (λ yes. yes ≡ false → Fails rigid store.old bindings.old e) }
+    ensures merged { IfOk result (λ yes. yes ≡ true
+        → AreMerged rigid (bound_over store.new bindings.new) store.new merged.new) }
+    ensures grows { Grows store.old store.new }
+{
+    if let Some(unknown) = unknown_of(store, rigid, e.left) {
+        return eliminate(alloc, store, rigid, bindings, unknown, e);
+    }
+    if let Some(unknown) = unknown_of(store, rigid, e.right) {
+        let turned = Equation {
+            left: e.right,
+            right: e.left,
+        };
+        return eliminate(alloc, store, rigid, bindings, unknown, turned);
+    }
+    match arguments(store, rigid, e) {
+        Some(lists) => {
+            if !unify_lists(alloc, store, rigid, bindings, merged, steps, lists)? {
+                return Ok(false);
+            }
+            merged.insert(e.left.0, e.right)?;
+            Ok(true)
+        }
+        None => Ok(false),
+    }
+}
+
+#[cycle(unification)]
+fn unify_lists(
+    alloc: Global,
+    store: &mut Store,
+    rigid: usize,
+    bindings: &mut Bindings,
+    merged: &mut HashMap<usize, TermId>,
+    steps: usize,
+    e: Equation,
+) -> Result<bool, AllocError>
+    requires lists { IsListEquation store.old e }
+    requires bound { BindingsHeld store.old bindings.old }
+    requires triangular { IsTriangular rigid (bound_over store.old bindings.old) }
+    requires merged { AreMerged rigid (bound_over store.old bindings.old) store.old merged.old }
+    ensures solved { IfOk result (λ yes. yes ≡ true
+        → Unifies rigid store.old bindings.old e store.new bindings.new) }
+    ensures failed { IfOk result (λ yes. yes ≡ false → Fails rigid store.old bindings.old e) }
+    ensures merged { IfOk result (λ yes. yes ≡ true
+        → AreMerged rigid (bound_over store.new bindings.new) store.new merged.new) }
+    ensures grows { Grows store.old store.new }
+{
+    if store.same(e.left, e.right) {
+        return Ok(true);
+    }
+    if steps == 0 {
+        return Err(AllocError);
+    }
+    match members(store, rigid, e) {
+        Some((first, rest)) => {
+            if !unify_sides(alloc, store, rigid, bindings, merged, steps - 1, first)? {
+                return Ok(false);
+            }
+            unify_lists(alloc, store, rigid, bindings, merged, steps - 1, rest)
+        }
+        None => Ok(false),
+    }
+}
+
+/// Makes the bindings solve a further equation, if they can. Its parts are made the same in order, each under the bindings
+/// that those before it made.
+pub fn unify(
+    alloc: Global,
+    store: &mut Store,
+    rigid: usize,
+    bindings: &mut Bindings,
+    e: Equation,
+) -> Result<bool, AllocError>
+    requires equation { IsEquation store.old e }
+    requires bound { BindingsHeld store.old bindings.old }
+    requires triangular { IsTriangular rigid (bound_over store.old bindings.old) }
+    ensures solved { IfOk result (λ yes. yes ≡ true
+        → Unifies rigid store.old bindings.old e store.new bindings.new) }
+    ensures failed { IfOk result (λ yes. yes ≡ false → Fails rigid store.old bindings.old e) }
+    ensures grows { Grows store.old store.new }
+{
+    let mut merged = HashMap::new(alloc);
+    unify_sides(alloc, store, rigid, bindings, &mut merged, usize::MAX, e)
 }
