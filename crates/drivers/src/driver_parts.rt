@@ -2,11 +2,13 @@
 //
 // Contract: the parts that an item makes, or what is wrong with it.
 
+mod context;
 mod driver;
 mod fault;
 mod parts;
 mod steps;
 
+pub use context::{DriverContext, FileText};
 pub use driver::Driver;
 pub use fault::DriverFault;
 pub use parts::{DriverParts, driver_of, no_parts};

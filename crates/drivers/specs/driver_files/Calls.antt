@@ -16,8 +16,9 @@ use Rattle.drivers.specs.driver_tokens.File.{driver_lines, lines_in}
 use Rattle.drivers.specs.declared.driver_parts.driver.Driver.{Driver}
 use Rattle.drivers.specs.declared.driver_parts.fault.DriverFault.{DriverFault}
 use Rattle.drivers.specs.declared.driver_parts.fault.DriverFault.TheVariants as f
+use Rattle.drivers.specs.declared.driver_files.reading.OpenFile.{OpenFile}
 use Rattle.drivers.specs.declared.driver_files.reading.Progress.{Progress}
-use Rattle.drivers.specs.driver_files.Reading.{file_refused, ◌then◌, or_syntax, ReadingPlace, CallMeaning, import, take_item, take_lines, take_bytes, finished, driver_with_printer, read_from, importer}
+use Rattle.drivers.specs.driver_files.Reading.{file_refused, ◌then◌, or_syntax, ReadingPlace, CallMeaning, import, take_item, take_lines, take_bytes, finished, driver_with_printer, read_from, importer, reading_place}
 
 -- the bytes of a result
 abbrev pub bytes_of_result : {E : Type 0} → Result (Vec ℕ Global) E → Result (List ℕ) E
@@ -41,6 +42,14 @@ next_of progress = progress.next
 
 abbrev pub place : ℕ → List ℕ → List (List ℕ) → ℕ → ReadingPlace
 place file name opened room = record { file = file; name = name; opened = opened; room = room }
+
+-- where an open file is read, with the files that are being read: it is one of them, or comes to
+-- them
+abbrev pub place_with : OpenFile → List (List ℕ) → ReadingPlace
+place_with at opened = place at.file at.name.now opened at.room
+
+abbrev pub place_within : OpenFile → List (List ℕ) → ReadingPlace
+place_within at opened = reading_place at.room opened at.name.now at.file
 
 -- two parts, one after the other
 abbrev pub both_meanings : {A B : Type 0} → CallMeaning A → (A → CallMeaning B) → CallMeaning B

@@ -5,19 +5,21 @@ ghost use Rattle.drivers.specs.driver_tokens.File.{lines_in};
 ghost use Rattle.drivers.specs.driver_tokens.Tokens.{lexeme_in};
 ghost use Rattle.drivers.specs.driver_parts.Items.{item_of};
 ghost use Rattle.drivers.specs.driver_parts.Steps as steps;
-ghost use Rattle.drivers.specs.driver_files.Calls.{BytesMeaning, FileMeaning, ImportMeaning, IsImport, LinesMeaning, OneLineMeaning, WholeMeaning, next_of, place, with_progress};
+ghost use Rattle.drivers.specs.driver_files.Calls.{BytesMeaning, FileMeaning, ImportMeaning, IsImport, LinesMeaning, OneLineMeaning, WholeMeaning, next_of, place_within, place_with, with_progress};
 ghost use Rattle.drivers.specs.driver_files.Calls as calls;
-ghost use Rattle.drivers.specs.driver_files.Reading.{ReadsAs, driver_named, reading_place};
+ghost use Rattle.drivers.specs.driver_files.Reading.{ReadsAs, driver_named};
 ghost use Rattle.drivers.specs.driver_files.Reading as spec;
 
 use crate::driver_files::fetching::{fetch_file, lines_of};
 use crate::driver_files::names::{is_among, is_cycle, name_from};
 use crate::driver_items::{name_of, part, string_of};
-use crate::driver_parts::{Driver, DriverFault, DriverParts, driver_of, no_parts, take_line};
+use crate::driver_parts::{
+    Driver, DriverContext, DriverFault, DriverParts, FileText, driver_of, no_parts, take_line,
+};
 use crate::driver_tokens::{DriverTerminal, DriverText, DriverToken, DriverWord, Heading};
 use outside::{Library, Seq, Text};
 use std::alloc::{AllocError, Global};
-use tasks::{Signature, SymbolInfo};
+use tasks::Signature;
 
 // How many files may be read at once besides the driver's own.
 const ROOM: usize = 31;
@@ -32,6 +34,15 @@ pub struct Progress {
     pub next: usize,
     /// The length of the file that was read whole last.
     pub length: usize,
+}
+
+/// A file that is being read: its number, its text, its name, and how many more may be.
+#[derive(Clone, Copy)]
+pub struct OpenFile<'a> {
+    pub file: usize,
+    pub text: &'a [u8],
+    pub name: &'a str,
+    pub room: usize,
 }
 
 /// The string of an import.
@@ -111,114 +122,94 @@ fn close_file(
 /// An imported file, unless it was read whole before.
 #[cycle(files)]
 fn read_import<L: Library>(
-    alloc: Global,
     lib: &mut L,
-    symbols: &[SymbolInfo],
-    theories: &[(String, Vec<String>)],
-    file: usize,
+    context: DriverContext<'_>,
+    at: OpenFile<'_>,
     byte: usize,
-    importer: &str,
     name: &str,
-    room: usize,
     opened: &mut Seq<Text>,
     progress: &mut Progress,
 ) -> Result<(), DriverFault>
-    ensures answers { ReadsAs (ImportMeaning symbols.now theories.now
-        (place file importer.now opened.old room) byte name.now progress.old) progress.old.next
+    ensures answers { ReadsAs (ImportMeaning context.entry.symbols.now context.entry.theories.now
+        (place_with at.entry opened.old) byte name.now progress.old) progress.old.next
         next_of (L.state lib.old) (L.state lib.new) (with_progress result progress.new) }
     ensures opened { OnOk result (opened.new ≡ opened.old) }
 {
-    if is_cycle(room, opened.as_slice(), name.as_bytes()) {
-        return Err(DriverFault::ImportCycle { file, byte });
+    if is_cycle(at.room, opened.as_slice(), name.as_bytes()) {
+        return Err(DriverFault::ImportCycle {
+            file: at.file,
+            byte,
+        });
     }
     if is_among(progress.whole.as_slice(), name.as_bytes()) {
         return Ok(());
     }
-    let room = room.saturating_sub(1);
-    read_file(alloc, lib, symbols, theories, name, room, opened, progress)
+    let room = at.room.saturating_sub(1);
+    read_file(lib, context, name, room, opened, progress)
 }
 
 /// A line of a file.
 #[cycle(files)]
 fn read_line<L: Library>(
-    alloc: Global,
     lib: &mut L,
-    symbols: &[SymbolInfo],
-    theories: &[(String, Vec<String>)],
-    file: usize,
-    text: &[u8],
-    name: &str,
-    room: usize,
+    context: DriverContext<'_>,
+    at: OpenFile<'_>,
     block: &Option<Text>,
-    line: &[DriverToken],
+    tokens: &[DriverToken],
     opened: &mut Seq<Text>,
     progress: &mut Progress,
 ) -> Result<(), DriverFault>
-    ensures answers { ReadsAs (OneLineMeaning symbols.now theories.now
-        (place file name.now opened.old room) block.now (map (lexeme_in text.now) line.now)
+    ensures answers { ReadsAs (OneLineMeaning context.entry.symbols.now context.entry.theories.now
+        (place_with at.entry opened.old) block.now (map (lexeme_in at.entry.text.now) tokens.now)
         progress.old) progress.old.next next_of (L.state lib.old) (L.state lib.new)
         (with_progress result progress.new) }
     ensures opened { OnOk result (opened.new ≡ opened.old) }
 {
-    match import_of(line) {
+    match import_of(tokens) {
         Some(string) => {
-            let value = string_of(alloc, text, string)?;
-            let its = name_from(alloc, name.as_bytes(), value.as_slice())?;
+            let value = string_of(context.alloc, at.text, string)?;
+            let its = name_from(context.alloc, at.name.as_bytes(), value.as_slice())?;
             read_import(
-                alloc,
                 lib,
-                symbols,
-                theories,
-                file,
+                context,
+                at,
                 string.start,
-                name,
                 its.as_str(),
-                room,
                 opened,
                 progress,
             )
         }
-        None => take_line(
-            alloc,
-            symbols,
-            theories,
-            file,
-            text,
-            block,
-            &mut progress.parts,
-            line,
-        ),
+        None => {
+            let text = FileText {
+                file: at.file,
+                text: at.text,
+            };
+            take_line(context, text, block, &mut progress.parts, tokens)
+        }
     }
 }
 
 /// The lines of a file, in order.
 #[cycle(files)]
 fn read_lines<L: Library>(
-    alloc: Global,
     lib: &mut L,
-    symbols: &[SymbolInfo],
-    theories: &[(String, Vec<String>)],
-    file: usize,
-    text: &[u8],
-    name: &str,
-    room: usize,
+    context: DriverContext<'_>,
+    at: OpenFile<'_>,
     its: &DriverText,
     opened: &mut Seq<Text>,
     progress: &mut Progress,
 ) -> Result<(), DriverFault>
-    ensures answers { ReadsAs (LinesMeaning symbols.now theories.now
-        (place file name.now opened.old room)
-        None (lines_in text.now its.now) progress.old) progress.old.next next_of (L.state lib.old)
-        (L.state lib.new) (with_progress result progress.new) }
+    ensures answers { ReadsAs (LinesMeaning context.entry.symbols.now context.entry.theories.now
+        (place_with at.entry opened.old) None (lines_in at.entry.text.now its.now) progress.old)
+        progress.old.next next_of (L.state lib.old) (L.state lib.new)
+        (with_progress result progress.new) }
     ensures opened { OnOk result (opened.new ≡ opened.old) }
 {
     let mut block = None;
     for line in &its.lines {
-        let line = part(&its.tokens, line.first, line.end);
-        read_line(
-            alloc, lib, symbols, theories, file, text, name, room, &block, line, opened, progress,
-        )?;
-        block = block_behind(alloc, text, block, line)?;
+        let tokens = part(&its.tokens, line.first, line.end);
+        read_line(lib, context, at, &block, tokens, opened, progress)?;
+        block = block_behind(context.alloc, at.text, block, tokens)?;
     }
     Ok(())
 }
@@ -226,75 +217,56 @@ fn read_lines<L: Library>(
 /// The lines of a file, which then was read whole.
 #[cycle(files)]
 fn read_whole<L: Library>(
-    alloc: Global,
     lib: &mut L,
-    symbols: &[SymbolInfo],
-    theories: &[(String, Vec<String>)],
-    file: usize,
-    text: &[u8],
-    name: &str,
-    room: usize,
+    context: DriverContext<'_>,
+    at: OpenFile<'_>,
     its: &DriverText,
     opened: &mut Seq<Text>,
     progress: &mut Progress,
 ) -> Result<(), DriverFault>
-    ensures answers { ReadsAs (WholeMeaning symbols.now theories.now
-        (reading_place room opened.old name.now file) text.now (lines_in text.now its.now)
-        progress.old)
-        progress.old.next next_of (L.state lib.old) (L.state lib.new)
-        (with_progress result progress.new) }
+    ensures answers { ReadsAs (WholeMeaning context.entry.symbols.now context.entry.theories.now
+        (place_within at.entry opened.old) at.entry.text.now
+        (lines_in at.entry.text.now its.now) progress.old) progress.old.next next_of
+        (L.state lib.old) (L.state lib.new) (with_progress result progress.new) }
     ensures opened { OnOk result (opened.new ≡ opened.old) }
 {
-    opened.push(Text::from_slice(alloc, name.as_bytes())?)?;
-    read_lines(
-        alloc, lib, symbols, theories, file, text, name, room, its, opened, progress,
-    )?;
-    close_file(opened, text, progress)?;
+    opened.push(Text::from_slice(context.alloc, at.name.as_bytes())?)?;
+    read_lines(lib, context, at, its, opened, progress)?;
+    close_file(opened, at.text, progress)?;
     Ok(())
 }
 
 /// The bytes of a file: its whole syntax before its lines.
 #[cycle(files)]
 fn read_bytes<L: Library>(
-    alloc: Global,
     lib: &mut L,
-    symbols: &[SymbolInfo],
-    theories: &[(String, Vec<String>)],
-    file: usize,
-    text: &[u8],
-    name: &str,
-    room: usize,
+    context: DriverContext<'_>,
+    at: OpenFile<'_>,
     opened: &mut Seq<Text>,
     progress: &mut Progress,
 ) -> Result<(), DriverFault>
-    ensures answers { ReadsAs (BytesMeaning symbols.now theories.now
-        (reading_place room opened.old name.now file) text.now progress.old) progress.old.next
-        next_of
-        (L.state lib.old) (L.state lib.new) (with_progress result progress.new) }
+    ensures answers { ReadsAs (BytesMeaning context.entry.symbols.now context.entry.theories.now
+        (place_within at.entry opened.old) at.entry.text.now progress.old) progress.old.next
+        next_of (L.state lib.old) (L.state lib.new) (with_progress result progress.new) }
     ensures opened { OnOk result (opened.new ≡ opened.old) }
 {
-    let its = lines_of(alloc, file, text)?;
-    read_whole(
-        alloc, lib, symbols, theories, file, text, name, room, &its, opened, progress,
-    )
+    let its = lines_of(context.alloc, at.file, at.text)?;
+    read_whole(lib, context, at, &its, opened, progress)
 }
 
 /// A file, which is fetched with the next number.
 #[cycle(files)]
 fn read_file<L: Library>(
-    alloc: Global,
     lib: &mut L,
-    symbols: &[SymbolInfo],
-    theories: &[(String, Vec<String>)],
+    context: DriverContext<'_>,
     name: &str,
     room: usize,
     opened: &mut Seq<Text>,
     progress: &mut Progress,
 ) -> Result<(), DriverFault>
-    ensures answers { ReadsAs (FileMeaning symbols.now theories.now room opened.old name.now
-        progress.old)
-        progress.old.next next_of (L.state lib.old) (L.state lib.new)
-        (with_progress result progress.new) }
+    ensures answers { ReadsAs (FileMeaning context.entry.symbols.now context.entry.theories.now room
+        opened.old name.now progress.old) progress.old.next next_of (L.state lib.old)
+        (L.state lib.new) (with_progress result progress.new) }
     ensures opened { OnOk result (opened.new ≡ opened.old) }
 {
     let file = progress.next;
@@ -304,9 +276,13 @@ fn read_file<L: Library>(
     }
     let bytes = fetch_file(lib, file, name)?;
     progress.next = file + 1;
-    read_bytes(
-        alloc, lib, symbols, theories, file, &bytes, name, room, opened, progress,
-    )
+    let at = OpenFile {
+        file,
+        text: &bytes,
+        name,
+        room,
+    };
+    read_bytes(lib, context, at, opened, progress)
 }
 
 /// The driver of how far it is read, if a printer was named.
@@ -355,7 +331,11 @@ pub fn read_driver<L: Library>(
     ensures { ReadsAs (driver_named sig.now.symbols theories.now name.now) 1 (λ d. d.next_file)
         (L.state lib.old) (L.state lib.new) result }
 {
-    let symbols = sig.symbols.as_slice();
+    let context = DriverContext {
+        alloc,
+        symbols: sig.symbols.as_slice(),
+        theories,
+    };
     let mut progress = Progress {
         parts: no_parts(alloc),
         whole: Seq::new(alloc),
@@ -363,15 +343,6 @@ pub fn read_driver<L: Library>(
         length: 0,
     };
     let mut opened = Seq::new(alloc);
-    read_file(
-        alloc,
-        lib,
-        symbols,
-        theories,
-        name,
-        ROOM,
-        &mut opened,
-        &mut progress,
-    )?;
+    read_file(lib, context, name, ROOM, &mut opened, &mut progress)?;
     finish(progress)
 }

@@ -1,5 +1,5 @@
 // The items of a driver, one after another, but for imports.
-// They depend on what the lines say and on the parts; the reader of files depends on them.
+// They depend on what the lines say, on the parts and on the context; the reader of files depends on them.
 ghost use Rattle.std.specs.Prelude.{◌≡◌, None, Ok, Some, map, option_map};
 ghost use Rattle.drivers.specs.driver_tokens.Tokens.{lexeme_in};
 ghost use Rattle.drivers.specs.driver_items.Items.{string_value_of};
@@ -15,32 +15,31 @@ use crate::driver_items::{
     Target, has_proposition, is_known, name_of, part, printer_of, string_of, target_of,
     template_of, trans_of,
 };
+use crate::driver_parts::context::{DriverContext, FileText};
 use crate::driver_parts::fault::DriverFault;
 use crate::driver_parts::parts::{DriverParts, set_template};
 use crate::driver_tokens::{DriverTerminal, DriverToken, DriverWord, Heading, NameKind};
 use outside::Text;
 use std::alloc::Global;
-use tasks::SymbolInfo;
 
 fn set_printer(
     alloc: Global,
-    file: usize,
-    text: &[u8],
+    at: FileText<'_>,
     parts: &mut DriverParts,
     string: DriverToken,
 ) -> Result<(), DriverFault>
     ensures { MeetsResult result parts.new
-        (spec.printer_read file string.start parts.old (names.printer_of
-        (string_value_of (lexeme_in text.now string)))) }
+        (spec.printer_read at.entry.file string.start parts.old (names.printer_of
+        (string_value_of (lexeme_in at.entry.text.now string)))) }
 {
-    let word = string_of(alloc, text, string)?;
+    let word = string_of(alloc, at.text, string)?;
     match printer_of(word.as_slice()) {
         Some(printer) => {
             parts.printer = Some(printer);
             Ok(())
         }
         None => Err(DriverFault::UnknownPrinter {
-            file,
+            file: at.file,
             byte: string.start,
         }),
     }
@@ -48,22 +47,22 @@ fn set_printer(
 
 fn push_stage(
     alloc: Global,
-    file: usize,
-    text: &[u8],
+    at: FileText<'_>,
     parts: &mut DriverParts,
     string: DriverToken,
 ) -> Result<(), DriverFault>
-    ensures { MeetsResult result parts.new (spec.staged file string.start parts.old (names.trans_of
-        (string_value_of (lexeme_in text.now string)))) }
+    ensures { MeetsResult result parts.new
+        (spec.staged at.entry.file string.start parts.old (names.trans_of
+        (string_value_of (lexeme_in at.entry.text.now string)))) }
 {
-    let word = string_of(alloc, text, string)?;
+    let word = string_of(alloc, at.text, string)?;
     match trans_of(word.as_slice()) {
         Some(stage) => {
             parts.stages.push(stage)?;
             Ok(())
         }
         None => Err(DriverFault::UnknownTransformation {
-            file,
+            file: at.file,
             byte: string.start,
         }),
     }
@@ -115,28 +114,26 @@ fn put_named(
 
 /// A line `syntax KIND NAME STRING` in the block of a known theory.
 fn take_template(
-    alloc: Global,
-    symbols: &[SymbolInfo],
-    theories: &[(String, Vec<String>)],
-    file: usize,
-    text: &[u8],
+    context: DriverContext<'_>,
+    at: FileText<'_>,
     path: &[u8],
     parts: &mut DriverParts,
     kind: NameKind,
-    line: &[DriverToken],
+    tokens: &[DriverToken],
 ) -> Result<(), DriverFault>
-    ensures { MeetsResult result parts.new (spec.block_step symbols.now theories.now file path.now
-        (template_item text.now kind line.now) parts.old) }
+    ensures { MeetsResult result parts.new (spec.block_step context.entry.symbols.now
+        context.entry.theories.now at.entry.file path.now
+        (template_item at.entry.text.now kind tokens.now) parts.old) }
 {
-    let last = line.len().saturating_sub(1);
-    match (line.get(2), line.get(last)) {
+    let last = tokens.len().saturating_sub(1);
+    match (tokens.get(2), tokens.get(last)) {
         (Some(first), Some(string)) => {
-            let name = name_of(alloc, text, part(line, 2, last))?;
-            let value = string_of(alloc, text, *string)?;
-            let target = target_of(symbols, path, kind, name.as_slice());
+            let name = name_of(context.alloc, at.text, part(tokens, 2, last))?;
+            let value = string_of(context.alloc, at.text, *string)?;
+            let target = target_of(context.symbols, path, kind, name.as_slice());
             put_named(
-                alloc,
-                file,
+                context.alloc,
+                at.file,
                 first.start,
                 string.start,
                 parts,
@@ -150,28 +147,26 @@ fn take_template(
 
 /// A line `remove prop NAME` in the block of a known theory.
 fn take_removal(
-    alloc: Global,
-    symbols: &[SymbolInfo],
-    theories: &[(String, Vec<String>)],
-    file: usize,
-    text: &[u8],
+    context: DriverContext<'_>,
+    at: FileText<'_>,
     path: &[u8],
     parts: &mut DriverParts,
-    line: &[DriverToken],
+    tokens: &[DriverToken],
 ) -> Result<(), DriverFault>
-    ensures { MeetsResult result parts.new (spec.block_step symbols.now theories.now file path.now
-        (removal_in text.now line.now) parts.old) }
+    ensures { MeetsResult result parts.new (spec.block_step context.entry.symbols.now
+        context.entry.theories.now at.entry.file path.now
+        (removal_in at.entry.text.now tokens.now) parts.old) }
 {
-    match line.get(2) {
+    match tokens.get(2) {
         Some(first) => {
-            let name = name_of(alloc, text, part(line, 2, line.len()))?;
-            if !has_proposition(theories, path, name.as_slice()) {
+            let name = name_of(context.alloc, at.text, part(tokens, 2, tokens.len()))?;
+            if !has_proposition(context.theories, path, name.as_slice()) {
                 return Err(DriverFault::UnknownSymbol {
-                    file,
+                    file: at.file,
                     byte: first.start,
                 });
             }
-            let path = Text::from_slice(alloc, path)?;
+            let path = Text::from_slice(context.alloc, path)?;
             parts.removed.push((path, name))?;
             Ok(())
         }
@@ -208,33 +203,29 @@ fn push_prelude(
 
 /// A line in the block of a known theory, by its first two tokens.
 fn block_line(
-    alloc: Global,
-    symbols: &[SymbolInfo],
-    theories: &[(String, Vec<String>)],
-    file: usize,
-    text: &[u8],
+    context: DriverContext<'_>,
+    at: FileText<'_>,
     path: &[u8],
     parts: &mut DriverParts,
     first: DriverTerminal,
     second: DriverToken,
-    line: &[DriverToken],
+    tokens: &[DriverToken],
 ) -> Result<(), DriverFault>
-    ensures { MeetsResult result parts.new (spec.block_step symbols.now theories.now file path.now
-        (item_in text.now first second line.now) parts.old) }
+    ensures { MeetsResult result parts.new (spec.block_step context.entry.symbols.now
+        context.entry.theories.now at.entry.file path.now
+        (item_in at.entry.text.now first second tokens.now) parts.old) }
 {
     match (first, second.terminal) {
         (DriverTerminal::Word(DriverWord::Syntax), DriverTerminal::Word(DriverWord::Kind(kind))) =>
-            take_template(
-                alloc, symbols, theories, file, text, path, parts, kind, line,
-            ),
+            take_template(context, at, path, parts, kind, tokens),
         (DriverTerminal::Word(DriverWord::Remove), DriverTerminal::Word(DriverWord::Prop)) => {
-            take_removal(alloc, symbols, theories, file, text, path, parts, line)
+            take_removal(context, at, path, parts, tokens)
         }
         (DriverTerminal::Word(DriverWord::Remove), DriverTerminal::Word(DriverWord::Allprops)) => {
-            push_all_removed(alloc, path, parts)
+            push_all_removed(context.alloc, path, parts)
         }
         (DriverTerminal::Word(DriverWord::Prelude), _) => {
-            push_prelude(alloc, text, Some(path), parts, second)
+            push_prelude(context.alloc, at.text, Some(path), parts, second)
         }
         _ => Ok(()),
     }
@@ -242,23 +233,20 @@ fn block_line(
 
 /// A line outside of blocks, by its first two tokens, but for printers and transformations.
 fn top_line(
-    alloc: Global,
-    symbols: &[SymbolInfo],
-    theories: &[(String, Vec<String>)],
-    file: usize,
-    text: &[u8],
+    context: DriverContext<'_>,
+    at: FileText<'_>,
     parts: &mut DriverParts,
     first: DriverTerminal,
     second: DriverToken,
-    line: &[DriverToken],
+    tokens: &[DriverToken],
 ) -> Result<(), DriverFault>
     ensures { MeetsResult result parts.new
-        (spec.item_in_block symbols.now theories.now file None (item_in
-        text.now first second line.now) parts.old) }
+        (spec.item_in_block context.entry.symbols.now context.entry.theories.now at.entry.file
+        None (item_in at.entry.text.now first second tokens.now) parts.old) }
 {
     match first {
         DriverTerminal::Word(DriverWord::Prelude) => {
-            push_prelude(alloc, text, None, parts, second)
+            push_prelude(context.alloc, at.text, None, parts, second)
         }
         _ => Ok(()),
     }
@@ -266,38 +254,31 @@ fn top_line(
 
 /// A line, by its first two tokens.
 fn take_two(
-    alloc: Global,
-    symbols: &[SymbolInfo],
-    theories: &[(String, Vec<String>)],
-    file: usize,
-    text: &[u8],
+    context: DriverContext<'_>,
+    at: FileText<'_>,
     block: &Option<Text>,
     parts: &mut DriverParts,
     first: DriverTerminal,
     second: DriverToken,
-    line: &[DriverToken],
+    tokens: &[DriverToken],
 ) -> Result<(), DriverFault>
     ensures { MeetsResult result parts.new
-        (spec.item_step symbols.now theories.now file block.now (item_in
-        text.now first second line.now) parts.old) }
+        (spec.item_step context.entry.symbols.now context.entry.theories.now at.entry.file
+        block.now (item_in at.entry.text.now first second tokens.now) parts.old) }
 {
     match first {
         DriverTerminal::Word(DriverWord::Heading(Heading::Printer)) => {
-            set_printer(alloc, file, text, parts, second)
+            set_printer(context.alloc, at, parts, second)
         }
         DriverTerminal::Word(DriverWord::Heading(Heading::Transformation)) => {
-            push_stage(alloc, file, text, parts, second)
+            push_stage(context.alloc, at, parts, second)
         }
         _ => match block {
-            None => top_line(
-                alloc, symbols, theories, file, text, parts, first, second, line,
-            ),
+            None => top_line(context, at, parts, first, second, tokens),
             Some(path) => {
                 let path = path.as_slice();
-                if is_known(theories, path) {
-                    block_line(
-                        alloc, symbols, theories, file, text, path, parts, first, second, line,
-                    )
+                if is_known(context.theories, path) {
+                    block_line(context, at, path, parts, first, second, tokens)
                 } else {
                     Ok(())
                 }
@@ -308,32 +289,26 @@ fn take_two(
 
 /// A line of a file, in the block of a theory or outside of blocks. An import changes nothing here.
 pub fn take_line(
-    alloc: Global,
-    symbols: &[SymbolInfo],
-    theories: &[(String, Vec<String>)],
-    file: usize,
-    text: &[u8],
+    context: DriverContext<'_>,
+    at: FileText<'_>,
     block: &Option<Text>,
     parts: &mut DriverParts,
-    line: &[DriverToken],
+    tokens: &[DriverToken],
 ) -> Result<(), DriverFault>
     ensures { MeetsResult result parts.new
-        (spec.item_step symbols.now theories.now file block.now (item_of
-        (map (lexeme_in text.now) line.now)) parts.old) }
+        (spec.item_step context.entry.symbols.now context.entry.theories.now at.entry.file
+        block.now (item_of (map (lexeme_in at.entry.text.now) tokens.now)) parts.old) }
 {
-    if line.len() < 2 {
+    if tokens.len() < 2 {
         return Ok(());
     }
     take_two(
-        alloc,
-        symbols,
-        theories,
-        file,
-        text,
+        context,
+        at,
         block,
         parts,
-        line[0].terminal,
-        line[1],
-        line,
+        tokens[0].terminal,
+        tokens[1],
+        tokens,
     )
 }
