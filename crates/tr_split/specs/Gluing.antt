@@ -11,6 +11,11 @@ use Rattle.tr_split.specs.parts.Split.{split}
 use Rattle.tr_split.specs.parts.Glue.{EndsOfParts}
 use Rattle.tr_split.specs.Goals.{AreParamsBelow}
 
+-- the two formulas from which an `if` takes one
+pub record IsFormulaPair (d : DraftTree) (a b : TermId) : Type 0 where
+  pub left : IsFormulaAt d a
+  pub right : IsFormulaAt d b
+
 -- a goal over these formulas, with no parameter of this number or a greater one, and steps that
 -- refute its parts
 pub record CanGlue (d : DraftTree) (es : List TermId) (id : TermId) (number : ℕ)

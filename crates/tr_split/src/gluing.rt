@@ -8,7 +8,7 @@ ghost use Rattle.tr_split.specs.parts.Split.{split};
 ghost use Rattle.tr_split.specs.parts.Glue.{EndsOfParts};
 ghost use Rattle.tr_split.specs.parts.Parts.{Joins};
 ghost use Rattle.tr_split.specs.Goals.{AreParamsBelow};
-ghost use Rattle.tr_split.specs.Gluing.{CanGlue, RefutesGoal, IsGlued};
+ghost use Rattle.tr_split.specs.Gluing.{IsFormulaPair, CanGlue, RefutesGoal, IsGlued};
 
 use crate::opening::{open_universal, open_valued};
 use crate::over::{Over, ends_over};
@@ -17,6 +17,13 @@ use evidence::proof_scripts::{Line, Word};
 use evidence::{Draft, join_lists, negation};
 use std::alloc::AllocError;
 use tasks::{Grow, Node, Op, Store, TermId};
+
+/// The two formulas that are joined, or from which an `if` takes one.
+#[derive(Clone, Copy)]
+struct FormulaPair {
+    left: TermId,
+    right: TermId,
+}
 
 // Two formulas joined.
 fn connect(draft: &mut Draft, op: Op, a: TermId, b: TermId) -> Result<TermId, AllocError>
@@ -74,10 +81,16 @@ pub(crate) fn glue_goal(
 {
     match draft.store().node(goal) {
         Node::True => refute_goal(draft, front, goal, &[Line::Rule(Word::NotTrue(0))]),
-        Node::Join(op, a, b) => glue_joined(draft, front, goal, op, a, b, params, ends),
+        Node::Join(op, left, right) => {
+            let pair = FormulaPair { left, right };
+            glue_joined(draft, front, goal, op, pair, params, ends)
+        }
         Node::Forall(ty, body) => glue_forall(draft, front, goal, ty, body, params, ends),
         Node::Let(value, body) => glue_let(draft, front, goal, value, body, params, ends),
-        Node::If(cond, a, b) => glue_if(draft, front, goal, cond, a, b, params, ends),
+        Node::If(cond, left, right) => {
+            let pair = FormulaPair { left, right };
+            glue_if(draft, front, goal, cond, pair, params, ends)
+        }
         _ => Ok(ends[0]),
     }
 }
@@ -89,21 +102,20 @@ fn glue_joined(
     front: &[TermId],
     goal: TermId,
     op: Op,
-    a: TermId,
-    b: TermId,
+    pair: FormulaPair,
     params: &[TermId],
     ends: &[usize],
 ) -> Result<usize, AllocError>
     requires can { CanGlue draft.old front.now goal (length params.now) ends.now }
-    requires joins { Joins draft.old.trees goal op a b }
+    requires joins { Joins draft.old.trees goal op pair.left pair.right }
     ensures refutes { IfOk result (RefutesGoal draft.old draft.new front.now goal) }
     ensures grows { Extends draft.old draft.new }
 {
     match op {
-        Op::And => glue_and(draft, front, goal, a, b, params, ends),
-        Op::AndThen => glue_and_then(draft, front, goal, a, b, params, ends),
-        Op::Imp => glue_imp(draft, front, goal, a, b, params, ends),
-        Op::Iff => glue_iff(draft, front, goal, a, b, ends),
+        Op::And => glue_and(draft, front, goal, pair, params, ends),
+        Op::AndThen => glue_and_then(draft, front, goal, pair, params, ends),
+        Op::Imp => glue_imp(draft, front, goal, pair, params, ends),
+        Op::Iff => glue_iff(draft, front, goal, pair, ends),
         Op::Or | Op::OrElse => Ok(ends[0]),
     }
 }
@@ -144,16 +156,15 @@ fn glue_and(
     draft: &mut Draft,
     front: &[TermId],
     goal: TermId,
-    a: TermId,
-    b: TermId,
+    pair: FormulaPair,
     params: &[TermId],
     ends: &[usize],
 ) -> Result<usize, AllocError>
     requires can { CanGlue draft.old front.now goal (length params.now) ends.now }
-    requires joins { Joins draft.old.trees goal Op.And a b }
+    requires joins { Joins draft.old.trees goal Op.And pair.left pair.right }
     ensures { IsGlued draft.old draft.new front.now goal result }
 {
-    let (left, right) = glue_two(draft, front, a, b, params, ends)?;
+    let (left, right) = glue_two(draft, front, pair.left, pair.right, params, ends)?;
     let lines = [
         Line::Failing(Op::And, 0),
         Line::Given(left, 1),
@@ -168,17 +179,16 @@ fn glue_and_then(
     draft: &mut Draft,
     front: &[TermId],
     goal: TermId,
-    a: TermId,
-    b: TermId,
+    pair: FormulaPair,
     params: &[TermId],
     ends: &[usize],
 ) -> Result<usize, AllocError>
     requires can { CanGlue draft.old front.now goal (length params.now) ends.now }
-    requires joins { Joins draft.old.trees goal Op.AndThen a b }
+    requires joins { Joins draft.old.trees goal Op.AndThen pair.left pair.right }
     ensures { IsGlued draft.old draft.new front.now goal result }
 {
-    let implied = connect(draft, Op::Imp, a, b)?;
-    let (left, right) = glue_two(draft, front, a, implied, params, ends)?;
+    let implied = connect(draft, Op::Imp, pair.left, pair.right)?;
+    let (left, right) = glue_two(draft, front, pair.left, implied, params, ends)?;
     let lines = [
         Line::Cut(implied),
         Line::Failing(Op::AndThen, 0),
@@ -197,18 +207,17 @@ fn glue_imp(
     draft: &mut Draft,
     front: &[TermId],
     goal: TermId,
-    a: TermId,
-    b: TermId,
+    pair: FormulaPair,
     params: &[TermId],
     ends: &[usize],
 ) -> Result<usize, AllocError>
     requires can { CanGlue draft.old front.now goal (length params.now) ends.now }
-    requires joins { Joins draft.old.trees goal Op.Imp a b }
+    requires joins { Joins draft.old.trees goal Op.Imp pair.left pair.right }
     ensures { IsGlued draft.old draft.new front.now goal result }
 {
-    let made = ends_over(draft, front, Over::Hypothesis(a), b, ends)?;
-    let wider = join_lists(draft.allocator(), front, &[a])?;
-    let step = glue_goal(draft, &wider, b, params, &made)?;
+    let made = ends_over(draft, front, Over::Hypothesis(pair.left), pair.right, ends)?;
+    let wider = join_lists(draft.allocator(), front, &[pair.left])?;
+    let step = glue_goal(draft, &wider, pair.right, params, &made)?;
     let lines = [Line::Failing(Op::Imp, 0), Line::Given(step, 2)];
     refute_goal(draft, front, goal, &lines)
 }
@@ -218,19 +227,18 @@ fn glue_iff(
     draft: &mut Draft,
     front: &[TermId],
     goal: TermId,
-    a: TermId,
-    b: TermId,
+    pair: FormulaPair,
     ends: &[usize],
 ) -> Result<usize, AllocError>
     requires front { AreFormulas draft.old front.now }
     requires goal { IsFormulaAt draft.old goal }
     requires ends { EndsOfParts draft.old ends.now (trees_at draft.old.trees front.now)
         (split (tree_at draft.old.trees goal)) }
-    requires joins { Joins draft.old.trees goal Op.Iff a b }
+    requires joins { Joins draft.old.trees goal Op.Iff pair.left pair.right }
     ensures { IsGlued draft.old draft.new front.now goal result }
 {
-    let there = connect(draft, Op::Imp, a, b)?;
-    let back = connect(draft, Op::Imp, b, a)?;
+    let there = connect(draft, Op::Imp, pair.left, pair.right)?;
+    let back = connect(draft, Op::Imp, pair.right, pair.left)?;
     let lines = [
         Line::Cut(there),
         Line::Cut(back),
@@ -309,23 +317,20 @@ fn glue_if(
     front: &[TermId],
     goal: TermId,
     cond: TermId,
-    a: TermId,
-    b: TermId,
+    pair: FormulaPair,
     params: &[TermId],
     ends: &[usize],
 ) -> Result<usize, AllocError>
     requires can { CanGlue draft.old front.now goal (length params.now) ends.now }
-    requires tree { tree_at draft.old.trees goal
-        ≡ Three HIf (tree_at draft.old.trees cond) (tree_at draft.old.trees a)
-        (tree_at draft.old.trees b) }
+    requires tree { tree_at draft.old.trees goal ≡ Three HIf (tree_at draft.old.trees cond)
+        (tree_at draft.old.trees pair.left) (tree_at draft.old.trees pair.right) }
     requires cond { IsFormulaAt draft.old cond }
-    requires a { IsFormulaAt draft.old a }
-    requires b { IsFormulaAt draft.old b }
+    requires pair { IsFormulaPair draft.old pair.left pair.right }
     ensures { IsGlued draft.old draft.new front.now goal result }
 {
     let no_cond = negation(draft, cond)?;
-    let there = connect(draft, Op::Imp, cond, a)?;
-    let away = connect(draft, Op::Imp, no_cond, b)?;
+    let there = connect(draft, Op::Imp, cond, pair.left)?;
+    let away = connect(draft, Op::Imp, no_cond, pair.right)?;
     let (left, right) = glue_two(draft, front, there, away, params, ends)?;
     let lines = [
         Line::Cut(there),

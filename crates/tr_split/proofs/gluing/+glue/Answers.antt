@@ -142,11 +142,11 @@ glue_and-refute_goal-requires-clause-follow t c =
     let d1 = c.glue_two.new.draft in
     let x = c.in_ok-left.ensures.grows in
     let j = c.requires.joins in
-    let e : tree_at d1.trees c.args.goal ≡ join And (tree_at d.trees c.args.a) (tree_at d.trees c.args.b) = x.trees.same c.args.goal.0 c.requires.can.goal.held ∙ j.tree in
+    let e : tree_at d1.trees c.args.goal ≡ join And (tree_at d.trees c.args.pair.left) (tree_at d.trees c.args.pair.right) = x.trees.same c.args.goal.0 c.requires.can.goal.held ∙ j.tree in
     let f = sym (same d d1 x c.args.front.now c.requires.can.front) in
     let l = end_trees d1 c.in_ok-left.left f refl c.in_ok-left.ensures.left in
     let r = end_trees d1 c.in_ok-left.right f refl c.in_ok-left.ensures.right in
-    rw e (and_follows d1 (trees_at d1.trees c.args.front.now) (tree_at d.trees c.args.a) (tree_at d.trees c.args.b) c.in_ok-left.left c.in_ok-left.right l r)
+    rw e (and_follows d1 (trees_at d1.trees c.args.front.now) (tree_at d.trees c.args.pair.left) (tree_at d.trees c.args.pair.right) c.in_ok-left.left c.in_ok-left.right l r)
 
 pub glue_and-returns : goal.glue_and-returns
 glue_and-returns t c =
@@ -243,14 +243,14 @@ glue_and_then-refute_goal-requires-clause-follow t c =
     let x = Extends_trans d d1 d2 (AddsTrees_extends d d1 c.in_ok-implied.ensures.grows) c.in_ok-left.ensures.grows in
     let F = c.args.front.now in
     let j = c.requires.joins in
-    let s = sides_of d c.args.goal AndThen c.args.a c.args.b j c.requires.can.goal in
-    let A = tree_at d.trees c.args.a in
-    let B = tree_at d.trees c.args.b in
+    let s = sides_of d c.args.goal AndThen c.args.pair.left c.args.pair.right j c.requires.can.goal in
+    let A = tree_at d.trees c.args.pair.left in
+    let B = tree_at d.trees c.args.pair.right in
     let y = AddsTrees_extends d d1 c.in_ok-implied.ensures.grows in
     let f = same d d1 y F c.requires.can.front ∙ sym (same d d2 x F c.requires.can.front) in
     let e : tree_at d2.trees c.args.goal ≡ join AndThen A B = x.trees.same c.args.goal.0 c.requires.can.goal.held ∙ j.tree in
     let i : tree_at d2.trees c.in_ok-implied.implied ≡ join Imp A B = c.in_ok-left.ensures.grows.trees.same c.in_ok-implied.implied.0 c.in_ok-implied.ensures.formula.held ∙ c.in_ok-implied.ensures.tree in
-    let l = end_trees d2 c.in_ok-left.left f (y.trees.same c.args.a.0 s.left.held) c.in_ok-left.ensures.left in
+    let l = end_trees d2 c.in_ok-left.left f (y.trees.same c.args.pair.left.0 s.left.held) c.in_ok-left.ensures.left in
     let r = end_trees d2 c.in_ok-left.right f c.in_ok-implied.ensures.tree c.in_ok-left.ensures.right in
     rw (e, i) (and_then_follows d2 (trees_at d2.trees F) A B c.in_ok-left.left c.in_ok-left.right l r)
 
@@ -275,28 +275,28 @@ glue_and_then-glue_two-requires t c =
     let d1 = c.connect.new.draft in
     let x = AddsTrees_extends d d1 c.in_ok-implied.ensures.grows in
     let j = c.requires.joins in
-    let s = sides_of d c.args.goal AndThen c.args.a c.args.b j c.requires.can.goal in
-    let A = tree_at d.trees c.args.a in
-    let B = tree_at d.trees c.args.b in
-    let ea : tree_at d1.trees c.args.a ≡ A = x.trees.same c.args.a.0 s.left.held in
+    let s = sides_of d c.args.goal AndThen c.args.pair.left c.args.pair.right j c.requires.can.goal in
+    let A = tree_at d.trees c.args.pair.left in
+    let B = tree_at d.trees c.args.pair.right in
+    let ea : tree_at d1.trees c.args.pair.left ≡ A = x.trees.same c.args.pair.left.0 s.left.held in
     let ei : tree_at d1.trees c.in_ok-implied.implied ≡ Two (HJoin Imp) A B = c.in_ok-implied.ensures.tree in
-    let ma : splits (tree_at d1.trees c.args.a) ≡ splits A = ap splits ea in
+    let ma : splits (tree_at d1.trees c.args.pair.left) ≡ splits A = ap splits ea in
     let mi : splits (tree_at d1.trees c.in_ok-implied.implied) ≡ suc (splits B) = ap splits ei in
     let mg : splits (tree_at d.trees c.args.goal) ≡ suc (suc (splits A + splits B)) = ap splits j.tree in
     let l : AreParamsBelow (length c.args.params.now) (trees_at d.trees F) (Two (HJoin AndThen) A B) = subst (AreParamsBelow (length c.args.params.now) (trees_at d.trees F)) j.tree c.requires.can.below in
     let e : EndsOfParts d c.args.ends.now (trees_at d.trees F) (split A ++ map (imp A) (split B)) = subst (EndsOfParts d c.args.ends.now (trees_at d.trees F)) (ap split j.tree) c.requires.can.ends in
-    let sa : split (tree_at d1.trees c.args.a) ≡ split A = ap split ea in
+    let sa : split (tree_at d1.trees c.args.pair.left) ≡ split A = ap split ea in
     let si : split (tree_at d1.trees c.in_ok-implied.implied) ≡ map (imp A) (split B) = ap split ei in
-    let q : split A ++ map (imp A) (split B) ≡ split (tree_at d1.trees c.args.a) ++ split (tree_at d1.trees c.in_ok-implied.implied) = cc (sa, si) in (
+    let q : split A ++ map (imp A) (split B) ≡ split (tree_at d1.trees c.args.pair.left) ++ split (tree_at d1.trees c.in_ok-implied.implied) = cc (sa, si) in (
       omega (arith, ma, mi, mg),
       (
         formulas_later d d1 x F c.requires.can.front,
         (
-          formula_later d d1 x c.args.a s.left,
+          formula_later d d1 x c.args.pair.left s.left,
           (
             c.in_ok-implied.ensures.formula,
             (
-              below_later d d1 x F c.requires.can.front (length c.args.params.now) A (tree_at d1.trees c.args.a) ea (left_below (length c.args.params.now) (trees_at d.trees F) AndThen A B l),
+              below_later d d1 x F c.requires.can.front (length c.args.params.now) A (tree_at d1.trees c.args.pair.left) ea (left_below (length c.args.params.now) (trees_at d.trees F) AndThen A B l),
               (
                 below_later d d1 x F c.requires.can.front (length c.args.params.now) (Two (HJoin Imp) A B) (tree_at d1.trees c.in_ok-implied.implied) ei (joined_below (length c.args.params.now) (trees_at d.trees F) AndThen Imp A B l),
                 subst (EndsOfParts d1 c.args.ends.now (trees_at d1.trees F)) q (ends_later d d1 x F c.requires.can.front c.args.ends.now (split A ++ map (imp A) (split B)) e),
@@ -338,13 +338,13 @@ glue_imp-refute_goal-requires-clause-follow t c =
     let F = c.args.front.now in
     let y = c.in_ok-made.ensures.grows in
     let j = c.requires.joins in
-    let A = tree_at d.trees c.args.a in
-    let B = tree_at d.trees c.args.b in
-    let s = sides_of d c.args.goal Imp c.args.a c.args.b j c.requires.can.goal in
+    let A = tree_at d.trees c.args.pair.left in
+    let B = tree_at d.trees c.args.pair.right in
+    let s = sides_of d c.args.goal Imp c.args.pair.left c.args.pair.right j c.requires.can.goal in
     let e : tree_at d2.trees c.args.goal ≡ join Imp A B = x.trees.same c.args.goal.0 c.requires.can.goal.held ∙ j.tree in
-    let w = wider_is d d1 y F c.deref.result.now c.args.a (c.deref.ensures.value ∙ c.in_ok-wider.ensures) c.requires.can.front s.left in
+    let w = wider_is d d1 y F c.deref.result.now c.args.pair.left (c.deref.ensures.value ∙ c.in_ok-wider.ensures) c.requires.can.front s.left in
     let f = sym (same d d2 x F c.requires.can.front) in
-    let r = regroup_back d2 c.in_ok-step.step (trees_at d2.trees F) A B (end_trees d2 c.in_ok-step.step (w ∙ ap (λ (z : List Tree). z ++ A ∷ []) f) (y.trees.same c.args.b.0 s.right.held) c.in_ok-step.ensures.refutes) in
+    let r = regroup_back d2 c.in_ok-step.step (trees_at d2.trees F) A B (end_trees d2 c.in_ok-step.step (w ∙ ap (λ (z : List Tree). z ++ A ∷ []) f) (y.trees.same c.args.pair.right.0 s.right.held) c.in_ok-step.ensures.refutes) in
     rw e (imp_follows d2 (trees_at d2.trees F) A B c.in_ok-step.step r)
 
 pub glue_imp-returns : goal.glue_imp-returns
@@ -371,8 +371,8 @@ glue_imp-glue_goal-requires t c =
     let d1 = c.ends_over.new.draft in
     let x = c.in_ok-made.ensures.grows in
     let j = c.requires.joins in
-    let a = c.args.a in
-    let b = c.args.b in
+    let a = c.args.pair.left in
+    let b = c.args.pair.right in
     let A = tree_at d.trees a in
     let B = tree_at d.trees b in
     let s = sides_of d c.args.goal Imp a b j c.requires.can.goal in
@@ -613,14 +613,14 @@ glue_if-refute_goal-requires-clause-follow t c =
     let there = c.in_ok-there.there in
     let away = c.in_ok-away.away in
     let C = tree_at d.trees c.args.cond in
-    let A = tree_at d.trees c.args.a in
-    let B = tree_at d.trees c.args.b in
+    let A = tree_at d.trees c.args.pair.left in
+    let B = tree_at d.trees c.args.pair.right in
     let c1 : tree_at n1.trees c.args.cond ≡ C = x1.trees.same c.args.cond.0 c.requires.cond.held in
-    let a1 : tree_at n1.trees c.args.a ≡ A = x1.trees.same c.args.a.0 c.requires.a.held in
-    let b2 : tree_at n2.trees c.args.b ≡ B = y12.trees.same c.args.b.0 c.requires.b.held in
+    let a1 : tree_at n1.trees c.args.pair.left ≡ A = x1.trees.same c.args.pair.left.0 c.requires.pair.left.held in
+    let b2 : tree_at n2.trees c.args.pair.right ≡ B = y12.trees.same c.args.pair.right.0 c.requires.pair.right.held in
     let k2 : tree_at n2.trees c.in_ok-no_cond.no_cond ≡ neg C = x2.trees.same c.in_ok-no_cond.no_cond.0 c.in_ok-no_cond.ensures.formula.held ∙ c.in_ok-no_cond.ensures.tree in
-    let jt : Two (HJoin Imp) (tree_at n1.trees c.args.cond) (tree_at n1.trees c.args.a) ≡ Two (HJoin Imp) C A = cc (c1, a1) in
-    let jw : Two (HJoin Imp) (tree_at n2.trees c.in_ok-no_cond.no_cond) (tree_at n2.trees c.args.b) ≡ Two (HJoin Imp) (neg C) B = cc (k2, b2) in
+    let jt : Two (HJoin Imp) (tree_at n1.trees c.args.cond) (tree_at n1.trees c.args.pair.left) ≡ Two (HJoin Imp) C A = cc (c1, a1) in
+    let jw : Two (HJoin Imp) (tree_at n2.trees c.in_ok-no_cond.no_cond) (tree_at n2.trees c.args.pair.right) ≡ Two (HJoin Imp) (neg C) B = cc (k2, b2) in
     let et : tree_at n3.trees there ≡ Two (HJoin Imp) C A = x3.trees.same there.0 c.in_ok-there.ensures.formula.held ∙ c.in_ok-there.ensures.tree ∙ jt in
     let ew : tree_at n3.trees away ≡ Two (HJoin Imp) (neg C) B = c.in_ok-away.ensures.tree ∙ jw in
     let F = c.args.front.now in
@@ -677,14 +677,14 @@ glue_if-glue_two-requires t c =
     let there = c.in_ok-there.there in
     let away = c.in_ok-away.away in
     let C = tree_at d.trees c.args.cond in
-    let A = tree_at d.trees c.args.a in
-    let B = tree_at d.trees c.args.b in
+    let A = tree_at d.trees c.args.pair.left in
+    let B = tree_at d.trees c.args.pair.right in
     let c1 : tree_at n1.trees c.args.cond ≡ C = x1.trees.same c.args.cond.0 c.requires.cond.held in
-    let a1 : tree_at n1.trees c.args.a ≡ A = x1.trees.same c.args.a.0 c.requires.a.held in
-    let b2 : tree_at n2.trees c.args.b ≡ B = y12.trees.same c.args.b.0 c.requires.b.held in
+    let a1 : tree_at n1.trees c.args.pair.left ≡ A = x1.trees.same c.args.pair.left.0 c.requires.pair.left.held in
+    let b2 : tree_at n2.trees c.args.pair.right ≡ B = y12.trees.same c.args.pair.right.0 c.requires.pair.right.held in
     let k2 : tree_at n2.trees c.in_ok-no_cond.no_cond ≡ neg C = x2.trees.same c.in_ok-no_cond.no_cond.0 c.in_ok-no_cond.ensures.formula.held ∙ c.in_ok-no_cond.ensures.tree in
-    let jt : Two (HJoin Imp) (tree_at n1.trees c.args.cond) (tree_at n1.trees c.args.a) ≡ Two (HJoin Imp) C A = cc (c1, a1) in
-    let jw : Two (HJoin Imp) (tree_at n2.trees c.in_ok-no_cond.no_cond) (tree_at n2.trees c.args.b) ≡ Two (HJoin Imp) (neg C) B = cc (k2, b2) in
+    let jt : Two (HJoin Imp) (tree_at n1.trees c.args.cond) (tree_at n1.trees c.args.pair.left) ≡ Two (HJoin Imp) C A = cc (c1, a1) in
+    let jw : Two (HJoin Imp) (tree_at n2.trees c.in_ok-no_cond.no_cond) (tree_at n2.trees c.args.pair.right) ≡ Two (HJoin Imp) (neg C) B = cc (k2, b2) in
     let et : tree_at n3.trees there ≡ Two (HJoin Imp) C A = x3.trees.same there.0 c.in_ok-there.ensures.formula.held ∙ c.in_ok-there.ensures.tree ∙ jt in
     let ew : tree_at n3.trees away ≡ Two (HJoin Imp) (neg C) B = c.in_ok-away.ensures.tree ∙ jw in
     let mt : splits (tree_at n3.trees there) ≡ suc (splits A) = ap splits et in

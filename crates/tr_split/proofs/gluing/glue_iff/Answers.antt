@@ -53,12 +53,12 @@ refute_goal-requires-clause-follow c =
     let x : Extends d d2 = Extends_trans d d1 d2 x1 x2 in
     let F = c.args.front.now in
     let j = c.requires.joins in
-    let A = tree_at d.trees c.args.a in
-    let B = tree_at d.trees c.args.b in
-    let s = sides_of d c.args.goal Iff c.args.a c.args.b j c.requires.goal in
+    let A = tree_at d.trees c.args.pair.left in
+    let B = tree_at d.trees c.args.pair.right in
+    let s = sides_of d c.args.goal Iff c.args.pair.left c.args.pair.right j c.requires.goal in
     let u : EndsOfParts d c.args.ends.now (trees_at d.trees F) (imp A B ∷ imp B A ∷ []) = subst (EndsOfParts d c.args.ends.now (trees_at d.trees F)) (ap split j.tree) c.requires.ends in
-    let a1 : tree_at d1.trees c.args.a ≡ A = x1.trees.same c.args.a.0 s.left.held in
-    let b1 : tree_at d1.trees c.args.b ≡ B = x1.trees.same c.args.b.0 s.right.held in
+    let a1 : tree_at d1.trees c.args.pair.left ≡ A = x1.trees.same c.args.pair.left.0 s.left.held in
+    let b1 : tree_at d1.trees c.args.pair.right ≡ B = x1.trees.same c.args.pair.right.0 s.right.held in
     let e : tree_at d2.trees c.args.goal ≡ join Iff A B = x.trees.same c.args.goal.0 c.requires.goal.held ∙ j.tree in
     let p : tree_at d2.trees c.in_ok-there.there ≡ join Imp A B = x2.trees.same c.in_ok-there.there.0 c.in_ok-there.ensures.formula.held ∙ c.in_ok-there.ensures.tree in
     let q : tree_at d2.trees c.in_ok-back.back ≡ join Imp B A = c.in_ok-back.ensures.tree ∙ cc (a1, b1) in
@@ -86,13 +86,13 @@ returns-in_err-back c = glued_none _ _ _ _ c.from_residual-in_err-back.result _ 
 pub connect-requires-clause-a : goal.connect-requires-clause-a
 connect-requires-clause-a c =
     let d = c.args.draft.now in
-    let s = sides_of d c.args.goal Iff c.args.a c.args.b c.requires.joins c.requires.goal in
+    let s = sides_of d c.args.goal Iff c.args.pair.left c.args.pair.right c.requires.joins c.requires.goal in
     s.left
 
 pub connect-requires-clause-b : goal.connect-requires-clause-b
 connect-requires-clause-b c =
     let d = c.args.draft.now in
-    let s = sides_of d c.args.goal Iff c.args.a c.args.b c.requires.joins c.requires.goal in
+    let s = sides_of d c.args.goal Iff c.args.pair.left c.args.pair.right c.requires.joins c.requires.goal in
     s.right
 
 pub connect-requires-2-clause-a : goal.connect-requires-2-clause-a
@@ -100,23 +100,23 @@ connect-requires-2-clause-a c =
     let d = c.args.draft.now in
     let d1 = c.connect.new.draft in
     let x1 = AddsTrees_extends d d1 c.in_ok-there.ensures.grows in
-    let s = sides_of d c.args.goal Iff c.args.a c.args.b c.requires.joins c.requires.goal in
-    formula_later d d1 x1 c.args.b s.right
+    let s = sides_of d c.args.goal Iff c.args.pair.left c.args.pair.right c.requires.joins c.requires.goal in
+    formula_later d d1 x1 c.args.pair.right s.right
 
 pub connect-requires-2-clause-b : goal.connect-requires-2-clause-b
 connect-requires-2-clause-b c =
     let d = c.args.draft.now in
     let d1 = c.connect.new.draft in
     let x1 = AddsTrees_extends d d1 c.in_ok-there.ensures.grows in
-    let s = sides_of d c.args.goal Iff c.args.a c.args.b c.requires.joins c.requires.goal in
-    formula_later d d1 x1 c.args.a s.left
+    let s = sides_of d c.args.goal Iff c.args.pair.left c.args.pair.right c.requires.joins c.requires.goal in
+    formula_later d d1 x1 c.args.pair.left s.left
 
 pub bounds-ends-0 : goal.bounds-ends-0
 bounds-ends-0 c =
     let d = c.args.draft.now in
     let j = c.requires.joins in
-    let A = tree_at d.trees c.args.a in
-    let B = tree_at d.trees c.args.b in
+    let A = tree_at d.trees c.args.pair.left in
+    let B = tree_at d.trees c.args.pair.right in
     let e : EndsOfParts d c.args.ends.now (trees_at d.trees c.args.front.now) (imp A B ∷ imp B A ∷ []) = subst (EndsOfParts d c.args.ends.now (trees_at d.trees c.args.front.now)) (ap split j.tree) c.requires.ends in
     omega (arith, e.as_many)
 
@@ -124,7 +124,7 @@ pub bounds-ends-1 : goal.bounds-ends-1
 bounds-ends-1 c =
     let d = c.args.draft.now in
     let j = c.requires.joins in
-    let A = tree_at d.trees c.args.a in
-    let B = tree_at d.trees c.args.b in
+    let A = tree_at d.trees c.args.pair.left in
+    let B = tree_at d.trees c.args.pair.right in
     let e : EndsOfParts d c.args.ends.now (trees_at d.trees c.args.front.now) (imp A B ∷ imp B A ∷ []) = subst (EndsOfParts d c.args.ends.now (trees_at d.trees c.args.front.now)) (ap split j.tree) c.requires.ends in
     omega (arith, e.as_many)
