@@ -17,13 +17,15 @@ use Rattle.rules.specs.Forms.{equal}
 use Rattle.evidence.specs.Drafts.{DraftTree, Extends, Refutes}
 use Rattle.evidence.specs.Laws.{Extends_trans}
 use Rattle.evidence.proofs.Rules.{refutes_later}
-use Rattle.congruence.proofs.Later.{held_later, tree_later}
+use Rattle.congruence.proofs.Later.{held_later, tree_later, pair_later}
 use Rattle.images.proofs.Images.{expression_type}
 use Rattle.images.proofs.Changes.{open_inst_type}
 use Rattle.images.proofs.Holes.{hole_here, hole_beside}
 use Rattle.images.specs.Templates.{IsClosedType}
 use Rattle.images.proofs.Templates.{type_is_kind, hole_typed}
+use Rattle.congruence.specs.declared.replacing.EqualTerms.{EqualTerms}
 use Rattle.congruence.specs.Alike.{IsClosedAt, ArePair, HoleAt, TemplateFor}
+use Rattle.congruence.specs.EqualTerms.{AreEqual}
 
 -- `int` is a type of a valid task
 pub int_kind : (t : TaskTree) → IsValid t → IsClosedType (of_task t) int_type
@@ -125,6 +127,13 @@ module _ (d d1 : DraftTree) (x : Extends d d1) where
 
   pub lemma_later : (k : ℕ) (l r : TermId) → Holds d.trees l → Holds d.trees r → Refutes d k (neg (equal (tree_at d.trees l) (tree_at d.trees r)) ∷ []) → Refutes d1 k (neg (equal (tree_at d1.trees l) (tree_at d1.trees r)) ∷ [])
   lemma_later k l r hl hr h = subst (λ (z : Tree). Refutes d1 k (z ∷ [])) (sym (equal_later l r hl hr)) (refutes_later d d1 x k _ h)
+
+  pub equal_terms_later : (e : EqualTerms) → AreEqual d e → AreEqual d1 e
+  equal_terms_later e h = record {
+    pair = pair_later d d1 x e.a e.b h.pair;
+    term = ap sort_of (tree_later d d1 x e.a h.pair.left.held) ∙ h.term;
+    step = lemma_later e.step e.a e.b h.pair.left.held h.pair.right.held h.step;
+  }
 
   pub template_later : (a e : TermId) → Holds d.trees a → Holds d.trees e → TemplateFor d.task (tree_at d.trees a) (tree_at d.trees e) → TemplateFor d1.task (tree_at d1.trees a) (tree_at d1.trees e)
   template_later a e ha he h =

@@ -3,6 +3,7 @@ pub mod Later
 pub mod Scripts
 pub mod PlainScripts
 pub mod NewParameters
+pub mod FormulasLater
 pub mod HoleTemplates
 pub mod EquationHoles
 pub mod ValueHoles

@@ -415,26 +415,21 @@ fn by_conditions(
 fn under_conditions(
     draft: &mut Draft,
     left: Conditional,
-    left_value: usize,
+    left_values: CaseValues,
     right: Conditional,
-    right_value: usize,
+    right_values: CaseValues,
     goal: TermId,
-    parts: AlikeBy,
+    links: CaseLinks,
 ) -> Result<usize, AllocError>
     requires left { IsConditional draft.old left }
     requires right { IsConditional draft.old right }
     requires sides { ArePair draft.old left.whole right.whole }
-    requires left_value { Refutes draft.old left_value (tree_at draft.old.trees left.condition
-        ∷ neg (alike (tree_at draft.old.trees left.whole)
-        (tree_at draft.old.trees left.then_part)) ∷ []) }
-    requires right_value { Refutes draft.old right_value (tree_at draft.old.trees right.condition
-        ∷ neg (alike (tree_at draft.old.trees right.whole)
-        (tree_at draft.old.trees right.then_part)) ∷ []) }
+    requires left_values { HasValues draft.old left left_values }
+    requires right_values { HasValues draft.old right right_values }
     requires goal { IsFormulaAt draft.old goal }
     requires goal_is { tree_at draft.old.trees goal ≡ neg (alike
         (tree_at draft.old.trees left.whole) (tree_at draft.old.trees right.whole)) }
-    requires parts { Shows draft.old parts (tree_at draft.old.trees left.then_part)
-        (tree_at draft.old.trees right.then_part) }
+    requires links { AreLinked draft.old left right links }
     ensures refutes { IfOk result (λ k. Refutes draft.new k (tree_at draft.old.trees goal
         ∷ tree_at draft.old.trees left.condition ∷ tree_at draft.old.trees right.condition ∷ [])) }
     ensures grows { Extends draft.old draft.new }
@@ -443,42 +438,36 @@ fn under_conditions(
         whole: left.whole,
         hypothesis: left.condition,
         part: left.then_part,
-        value: left_value,
+        value: left_values.then_value,
     };
     let other = Case {
         whole: right.whole,
         hypothesis: right.condition,
         part: right.then_part,
-        value: right_value,
+        value: right_values.then_value,
     };
-    under(draft, one, other, goal, parts)
+    under(draft, one, other, goal, links.then_part)
 }
 
 // [not (L ~ R); not c; not c'].
 fn under_negations(
     draft: &mut Draft,
     left: Conditional,
-    left_value: usize,
+    left_values: CaseValues,
     right: Conditional,
-    right_value: usize,
+    right_values: CaseValues,
     goal: TermId,
-    parts: AlikeBy,
+    links: CaseLinks,
 ) -> Result<usize, AllocError>
     requires left { IsConditional draft.old left }
     requires right { IsConditional draft.old right }
     requires sides { ArePair draft.old left.whole right.whole }
-    requires left_value { Refutes draft.old left_value (neg (tree_at draft.old.trees left.condition)
-        ∷ neg (alike (tree_at draft.old.trees left.whole)
-        (tree_at draft.old.trees left.else_part)) ∷ []) }
-    requires right_value { Refutes draft.old right_value
-        (neg (tree_at draft.old.trees right.condition)
-        ∷ neg (alike (tree_at draft.old.trees right.whole)
-        (tree_at draft.old.trees right.else_part)) ∷ []) }
+    requires left_values { HasValues draft.old left left_values }
+    requires right_values { HasValues draft.old right right_values }
     requires goal { IsFormulaAt draft.old goal }
     requires goal_is { tree_at draft.old.trees goal ≡ neg (alike
         (tree_at draft.old.trees left.whole) (tree_at draft.old.trees right.whole)) }
-    requires parts { Shows draft.old parts (tree_at draft.old.trees left.else_part)
-        (tree_at draft.old.trees right.else_part) }
+    requires links { AreLinked draft.old left right links }
     ensures refutes { IfOk result (λ k. Refutes draft.new k (tree_at draft.old.trees goal
         ∷ neg (tree_at draft.old.trees left.condition)
         ∷ neg (tree_at draft.old.trees right.condition) ∷ [])) }
@@ -490,15 +479,15 @@ fn under_negations(
         whole: left.whole,
         hypothesis: no_left,
         part: left.else_part,
-        value: left_value,
+        value: left_values.else_value,
     };
     let other = Case {
         whole: right.whole,
         hypothesis: no_right,
         part: right.else_part,
-        value: right_value,
+        value: right_values.else_value,
     };
-    under(draft, one, other, goal, parts)
+    under(draft, one, other, goal, links.else_part)
 }
 
 // [not (L ~ R)].
@@ -523,24 +512,8 @@ fn decided(
     ensures refutes { IfOk result (λ k. Refutes draft.new k (tree_at draft.old.trees goal ∷ [])) }
     ensures grows { Extends draft.old draft.new }
 {
-    let yes = under_conditions(
-        draft,
-        left,
-        left_values.then_value,
-        right,
-        right_values.then_value,
-        goal,
-        links.then_part,
-    )?;
-    let no = under_negations(
-        draft,
-        left,
-        left_values.else_value,
-        right,
-        right_values.else_value,
-        goal,
-        links.else_part,
-    )?;
+    let yes = under_conditions(draft, left, left_values, right, right_values, goal, links)?;
+    let no = under_negations(draft, left, left_values, right, right_values, goal, links)?;
     let halves = make_halves(draft, left.condition, right.condition, links.condition)?;
     by_conditions(
         draft,

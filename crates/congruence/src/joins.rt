@@ -1,14 +1,13 @@
 // One level of congruence, in halves: from what shows the parts alike, a step that refutes the one expression and the negation of
 // the other.
 ghost use Rattle.std.specs.Prelude.{◌≡◌, [], ◌∷◌, List, IfOk};
-ghost use Rattle.trees.specs.Tree.{Tree, Two, HForall, HExists, HJoin};
-ghost use Rattle.trees.specs.Node.{tree_at, Holds};
+ghost use Rattle.trees.specs.Tree.{Two, HJoin};
+ghost use Rattle.trees.specs.Node.{tree_at};
 ghost use Rattle.trees.specs.Sorts.{sort_of};
-ghost use Rattle.trees.specs.Binding.{inst, Param};
 ghost use Rattle.tasks.specs.Task.{neg};
-ghost use Rattle.rules.specs.Rows.{IsNew};
 ghost use Rattle.evidence.specs.Drafts.{Extends, Refutes, IsFormulaAt};
-ghost use Rattle.congruence.specs.Alike.{HasHalves, Shows, ArePair, IsClosedAt};
+ghost use Rattle.congruence.specs.Alike.{HasHalves, Shows, ArePair};
+ghost use Rattle.congruence.specs.Connectives.{IsJoined};
 ghost use Rattle.congruence.specs.Lines.{kept_pair, join_lines};
 
 use crate::alike::{AlikeBy, Halves, make_halves};
@@ -98,40 +97,48 @@ fn lines_for(alloc: Global, op: Op, first: Halves, second: Halves) -> Result<Vec
     }
 }
 
+/// A formula of a connective, and its two sides.
+#[derive(Clone, Copy)]
+pub(crate) struct Joined {
+    whole: TermId,
+    first: TermId,
+    second: TermId,
+}
+
+impl Joined {
+    fn new(whole: TermId, first: TermId, second: TermId) -> Joined
+        ensures { result ≡ record { whole = whole; first = first; second = second } }
+    {
+        Joined {
+            whole,
+            first,
+            second,
+        }
+    }
+}
+
 // [a op c; not (b op e)], from the halves of `a`, `b` and of `c`, `e`.
-pub(crate) fn half_join(
+fn half_join(
     draft: &mut Draft,
     op: Op,
-    a: TermId,
-    c: TermId,
-    b: TermId,
-    e: TermId,
-    left: TermId,
-    right: TermId,
+    left: Joined,
+    right: Joined,
     first: Halves,
     second: Halves,
 ) -> Result<usize, AllocError>
-    requires left { IsFormulaAt draft.old left }
-    requires right { IsFormulaAt draft.old right }
-    requires left_is { tree_at draft.old.trees left
-        ≡ Two (HJoin op) (tree_at draft.old.trees a) (tree_at draft.old.trees c) }
-    requires right_is { tree_at draft.old.trees right
-        ≡ Two (HJoin op) (tree_at draft.old.trees b) (tree_at draft.old.trees e) }
-    requires first { HasHalves draft.old (tree_at draft.old.trees a) (tree_at draft.old.trees b)
-        first.there first.back }
-    requires second { HasHalves draft.old (tree_at draft.old.trees c) (tree_at draft.old.trees e)
-        second.there second.back }
+    requires left { IsJoined draft.old op left }
+    requires right { IsJoined draft.old op right }
+    requires first { HasHalves draft.old (tree_at draft.old.trees left.first)
+        (tree_at draft.old.trees right.first) first.there first.back }
+    requires second { HasHalves draft.old (tree_at draft.old.trees left.second)
+        (tree_at draft.old.trees right.second) second.there second.back }
     ensures refutes { IfOk result (λ k. Refutes draft.new k
-        (tree_at draft.old.trees left ∷ neg (tree_at draft.old.trees right) ∷ [])) }
+        (tree_at draft.old.trees left.whole ∷ neg (tree_at draft.old.trees right.whole) ∷ [])) }
     ensures grows { Extends draft.old draft.new }
 {
-    let _ = a;
-    let _ = b;
-    let _ = c;
-    let _ = e;
-    let negated = negation(draft, right)?;
+    let negated = negation(draft, right.whole)?;
     let lines = lines_for(draft.allocator(), op, first, second)?;
-    derive(draft, &[], &[left, negated], &lines)
+    derive(draft, &[], &[left.whole, negated], &lines)
 }
 
 // The halves of negations, from those of the formulas.
@@ -192,37 +199,25 @@ pub fn alike_not(
 fn join_halves(
     draft: &mut Draft,
     op: Op,
-    left: TermId,
-    right: TermId,
-    a: TermId,
-    c: TermId,
-    b: TermId,
-    e: TermId,
+    left: Joined,
+    right: Joined,
     first: Halves,
     second: Halves,
 ) -> Result<Halves, AllocError>
-    requires left { IsFormulaAt draft.old left }
-    requires right { IsFormulaAt draft.old right }
-    requires left_is { tree_at draft.old.trees left
-        ≡ Two (HJoin op) (tree_at draft.old.trees a) (tree_at draft.old.trees c) }
-    requires right_is { tree_at draft.old.trees right
-        ≡ Two (HJoin op) (tree_at draft.old.trees b) (tree_at draft.old.trees e) }
-    requires a_held { Holds draft.old.trees a }
-    requires c_held { Holds draft.old.trees c }
-    requires b_held { Holds draft.old.trees b }
-    requires e_held { Holds draft.old.trees e }
-    requires first { HasHalves draft.old (tree_at draft.old.trees a) (tree_at draft.old.trees b)
-        first.there first.back }
-    requires second { HasHalves draft.old (tree_at draft.old.trees c) (tree_at draft.old.trees e)
-        second.there second.back }
-    ensures halves { IfOk result (λ h. HasHalves draft.new (tree_at draft.old.trees left)
-        (tree_at draft.old.trees right) h.there h.back) }
+    requires left { IsJoined draft.old op left }
+    requires right { IsJoined draft.old op right }
+    requires first { HasHalves draft.old (tree_at draft.old.trees left.first)
+        (tree_at draft.old.trees right.first) first.there first.back }
+    requires second { HasHalves draft.old (tree_at draft.old.trees left.second)
+        (tree_at draft.old.trees right.second) second.there second.back }
+    ensures halves { IfOk result (λ h. HasHalves draft.new (tree_at draft.old.trees left.whole)
+        (tree_at draft.old.trees right.whole) h.there h.back) }
     ensures grows { Extends draft.old draft.new }
 {
-    let there = half_join(draft, op, a, c, b, e, left, right, first, second)?;
+    let there = half_join(draft, op, left, right, first, second)?;
     let one = first.turned();
     let two = second.turned();
-    let back = half_join(draft, op, b, e, a, c, right, left, one, two)?;
+    let back = half_join(draft, op, right, left, one, two)?;
     Ok(Halves { there, back })
 }
 
@@ -259,98 +254,8 @@ pub fn alike_join(
 {
     let one = make_halves(draft, a, b, first)?;
     let two = make_halves(draft, c, e, second)?;
-    let made = join_halves(draft, op, left, right, a, c, b, e, one, two)?;
+    let l = Joined::new(left, a, c);
+    let r = Joined::new(right, b, e);
+    let made = join_halves(draft, op, l, r, one, two)?;
     Ok(AlikeBy::Formulas(made.there, made.back))
-}
-
-/// [forall x. a; not forall x. b], from [a[c]; not b[c]] at a new parameter.
-pub(crate) fn half_forall(
-    draft: &mut Draft,
-    left: TermId,
-    right: TermId,
-    ty: TermId,
-    a: TermId,
-    b: TermId,
-    number: usize,
-    term: TermId,
-    step: usize,
-) -> Result<usize, AllocError>
-    requires left { IsFormulaAt draft.old left }
-    requires right { IsFormulaAt draft.old right }
-    requires term { IsClosedAt draft.old term }
-    requires term_is { tree_at draft.old.trees term ≡ Param number (tree_at draft.old.trees ty) }
-    requires left_is { tree_at draft.old.trees left
-        ≡ Two HForall (tree_at draft.old.trees ty) (tree_at draft.old.trees a) }
-    requires right_is { tree_at draft.old.trees right
-        ≡ Two HForall (tree_at draft.old.trees ty) (tree_at draft.old.trees b) }
-    requires new { IsNew number (tree_at draft.old.trees left
-        ∷ neg (tree_at draft.old.trees right) ∷ []) }
-    requires step { Refutes draft.old step
-        (inst (tree_at draft.old.trees a) (Param number (tree_at draft.old.trees ty))
-        ∷ neg (inst (tree_at draft.old.trees b) (Param number (tree_at draft.old.trees ty)))
-        ∷ []) }
-    ensures refutes { IfOk result (λ k. Refutes draft.new k
-        (tree_at draft.old.trees left ∷ neg (tree_at draft.old.trees right) ∷ [])) }
-    ensures grows { Extends draft.old draft.new }
-{
-    let _ = ty;
-    let _ = a;
-    let _ = b;
-    let negated = negation(draft, right)?;
-    derive(
-        draft,
-        &[],
-        &[left, negated],
-        &[
-            Line::Rule(Word::NotForall(1, number)),
-            Line::Rule(Word::Forall(0, term)),
-            Line::Kept(step, Places::Two(3, 2)),
-        ],
-    )
-}
-
-/// [exists x. a; not exists x. b], from [a[c]; not b[c]] at a new parameter.
-pub(crate) fn half_exists(
-    draft: &mut Draft,
-    left: TermId,
-    right: TermId,
-    ty: TermId,
-    a: TermId,
-    b: TermId,
-    number: usize,
-    term: TermId,
-    step: usize,
-) -> Result<usize, AllocError>
-    requires left { IsFormulaAt draft.old left }
-    requires right { IsFormulaAt draft.old right }
-    requires term { IsClosedAt draft.old term }
-    requires term_is { tree_at draft.old.trees term ≡ Param number (tree_at draft.old.trees ty) }
-    requires left_is { tree_at draft.old.trees left
-        ≡ Two HExists (tree_at draft.old.trees ty) (tree_at draft.old.trees a) }
-    requires right_is { tree_at draft.old.trees right
-        ≡ Two HExists (tree_at draft.old.trees ty) (tree_at draft.old.trees b) }
-    requires new { IsNew number (tree_at draft.old.trees left
-        ∷ neg (tree_at draft.old.trees right) ∷ []) }
-    requires step { Refutes draft.old step
-        (inst (tree_at draft.old.trees a) (Param number (tree_at draft.old.trees ty))
-        ∷ neg (inst (tree_at draft.old.trees b) (Param number (tree_at draft.old.trees ty)))
-        ∷ []) }
-    ensures refutes { IfOk result (λ k. Refutes draft.new k
-        (tree_at draft.old.trees left ∷ neg (tree_at draft.old.trees right) ∷ [])) }
-    ensures grows { Extends draft.old draft.new }
-{
-    let _ = ty;
-    let _ = a;
-    let _ = b;
-    let negated = negation(draft, right)?;
-    derive(
-        draft,
-        &[],
-        &[left, negated],
-        &[
-            Line::Rule(Word::Exists(0, number)),
-            Line::Rule(Word::NotExists(1, term)),
-            Line::Kept(step, Places::Two(2, 3)),
-        ],
-    )
 }

@@ -8,6 +8,7 @@ ghost use Rattle.tasks.specs.Task.{neg};
 ghost use Rattle.rules.specs.Forms.{equal};
 ghost use Rattle.evidence.specs.Drafts.{Extends, AddsTrees, Refutes, IsFormulaAt};
 ghost use Rattle.congruence.specs.Alike.{HasHalves, Shows, ArePair, IsClosedAt, HoleAt, TemplateFor};
+ghost use Rattle.congruence.specs.EqualTerms.{AreEqual};
 
 use crate::alike::{
     AlikeBy, Halves, by_replacing, chain_formulas, equation, irreflexive, type_of_term,
@@ -17,6 +18,14 @@ use evidence::{Draft, negation};
 use std::alloc::AllocError;
 use tasks::Grow;
 use trees::{Node, Sort, TermId};
+
+/// Two terms, and a step that shows them equal.
+#[derive(Clone, Copy)]
+pub(crate) struct EqualTerms {
+    a: TermId,
+    b: TermId,
+    step: usize,
+}
 
 // The negated equation of a tree with a hole and a closed term.
 pub(crate) fn template_left(
@@ -74,20 +83,15 @@ fn by_hole(
     left: TermId,
     middle: TermId,
     right: TermId,
-    a: TermId,
-    b: TermId,
-    lemma: usize,
+    terms: EqualTerms,
     step: usize,
 ) -> Result<usize, AllocError>
-    requires pair { ArePair draft.old a b }
-    requires term { sort_of (tree_at draft.old.trees a) ≡ Sort.Term }
-    requires hole { HoleAt draft.old hole left middle a b }
+    requires terms { AreEqual draft.old terms }
+    requires hole { HoleAt draft.old hole left middle terms.a terms.b }
     requires sides { ArePair draft.old left right }
     requires after { ArePair draft.old middle right }
     requires left_term { sort_of (tree_at draft.old.trees left) ≡ Sort.Term }
     requires middle_term { sort_of (tree_at draft.old.trees middle) ≡ Sort.Term }
-    requires lemma { Refutes draft.old lemma
-        (neg (equal (tree_at draft.old.trees a) (tree_at draft.old.trees b)) ∷ []) }
     requires step { Refutes draft.old step
         (neg (equal (tree_at draft.old.trees middle) (tree_at draft.old.trees right)) ∷ []) }
     ensures refutes { IfOk result (λ k. Refutes draft.new k
@@ -95,8 +99,8 @@ fn by_hole(
     ensures grows { Extends draft.old draft.new }
 {
     let goal = apart(draft, left, right)?;
-    let template = template_left(draft, hole, left, middle, right, a, b)?;
-    by_replacing(draft, goal, template, a, b, lemma, step)
+    let template = template_left(draft, hole, left, middle, right, terms.a, terms.b)?;
+    by_replacing(draft, goal, template, terms.a, terms.b, terms.step, step)
 }
 
 /// [not (l = r)], from `l = m` and `m = r`.
@@ -120,7 +124,12 @@ pub(crate) fn chain_terms(
     ensures grows { Extends draft.old draft.new }
 {
     let hole = open_hole(draft, l, m)?;
-    by_hole(draft, hole, l, m, r, l, m, first, second)
+    let terms = EqualTerms {
+        a: l,
+        b: m,
+        step: first,
+    };
+    by_hole(draft, hole, l, m, r, terms, second)
 }
 
 /// The variable 0 at the type of two terms.
@@ -145,24 +154,19 @@ fn replaced_terms(
     hole: TermId,
     left: TermId,
     right: TermId,
-    a: TermId,
-    b: TermId,
-    lemma: usize,
+    terms: EqualTerms,
 ) -> Result<usize, AllocError>
-    requires pair { ArePair draft.old a b }
-    requires term { sort_of (tree_at draft.old.trees a) ≡ Sort.Term }
-    requires hole { HoleAt draft.old hole left right a b }
+    requires terms { AreEqual draft.old terms }
+    requires hole { HoleAt draft.old hole left right terms.a terms.b }
     requires sides { ArePair draft.old left right }
     requires left_term { sort_of (tree_at draft.old.trees left) ≡ Sort.Term }
-    requires lemma { Refutes draft.old lemma
-        (neg (equal (tree_at draft.old.trees a) (tree_at draft.old.trees b)) ∷ []) }
     ensures refutes { IfOk result (λ k. Refutes draft.new k
         (neg (equal (tree_at draft.old.trees left) (tree_at draft.old.trees right)) ∷ [])) }
     ensures grows { Extends draft.old draft.new }
 {
     let same = apart(draft, right, right)?;
     let step = irreflexive(draft, same)?;
-    by_hole(draft, hole, left, right, right, a, b, lemma, step)
+    by_hole(draft, hole, left, right, right, terms, step)
 }
 
 // [left; not right], where the two are instances of one formula at terms that are equal.
@@ -171,25 +175,20 @@ fn replaced_there(
     hole: TermId,
     left: TermId,
     right: TermId,
-    a: TermId,
-    b: TermId,
-    lemma: usize,
+    terms: EqualTerms,
 ) -> Result<usize, AllocError>
-    requires pair { ArePair draft.old a b }
-    requires term { sort_of (tree_at draft.old.trees a) ≡ Sort.Term }
-    requires hole { HoleAt draft.old hole left right a b }
-    requires template { TemplateFor draft.old.task (tree_at draft.old.trees a)
+    requires terms { AreEqual draft.old terms }
+    requires hole { HoleAt draft.old hole left right terms.a terms.b }
+    requires template { TemplateFor draft.old.task (tree_at draft.old.trees terms.a)
         (tree_at draft.old.trees hole) }
     requires left { IsFormulaAt draft.old left }
     requires right { IsFormulaAt draft.old right }
-    requires lemma { Refutes draft.old lemma
-        (neg (equal (tree_at draft.old.trees a) (tree_at draft.old.trees b)) ∷ []) }
     ensures refutes { IfOk result (λ k. Refutes draft.new k
         (tree_at draft.old.trees left ∷ neg (tree_at draft.old.trees right) ∷ [])) }
     ensures grows { Extends draft.old draft.new }
 {
     let negated = negation(draft, right)?;
-    let link = equation(draft, a, b)?;
+    let link = equation(draft, terms.a, terms.b)?;
     derive(
         draft,
         &[],
@@ -198,7 +197,7 @@ fn replaced_there(
             Line::Cut(link),
             Line::Rule(Word::Replace(2, 0, hole)),
             Line::Rule(Word::Clash(3, 1)),
-            Line::Kept(lemma, Places::One(2)),
+            Line::Kept(terms.step, Places::One(2)),
         ],
     )
 }
@@ -211,30 +210,25 @@ fn replaced_back(
     left: TermId,
     right: TermId,
     no_left: TermId,
-    a: TermId,
-    b: TermId,
-    lemma: usize,
+    terms: EqualTerms,
 ) -> Result<usize, AllocError>
-    requires pair { ArePair draft.old a b }
-    requires term { sort_of (tree_at draft.old.trees a) ≡ Sort.Term }
-    requires hole { HoleAt draft.old hole left right a b }
+    requires terms { AreEqual draft.old terms }
+    requires hole { HoleAt draft.old hole left right terms.a terms.b }
     requires template_held { Holds draft.old.trees template }
-    requires template { TemplateFor draft.old.task (tree_at draft.old.trees a)
+    requires template { TemplateFor draft.old.task (tree_at draft.old.trees terms.a)
         (tree_at draft.old.trees template) }
     requires template_is { tree_at draft.old.trees template ≡ neg (tree_at draft.old.trees hole) }
     requires left { IsFormulaAt draft.old left }
     requires right { IsFormulaAt draft.old right }
     requires no_left { IsFormulaAt draft.old no_left }
     requires no_left_is { tree_at draft.old.trees no_left ≡ neg (tree_at draft.old.trees left) }
-    requires lemma { Refutes draft.old lemma
-        (neg (equal (tree_at draft.old.trees a) (tree_at draft.old.trees b)) ∷ []) }
     ensures refutes { IfOk result (λ k. Refutes draft.new k
         (tree_at draft.old.trees right ∷ tree_at draft.old.trees no_left ∷ [])) }
     ensures grows { Extends draft.old draft.new }
 {
     let _ = hole;
     let _ = left;
-    let link = equation(draft, a, b)?;
+    let link = equation(draft, terms.a, terms.b)?;
     derive(
         draft,
         &[],
@@ -243,7 +237,7 @@ fn replaced_back(
             Line::Cut(link),
             Line::Rule(Word::Replace(2, 1, template)),
             Line::Rule(Word::Clash(0, 3)),
-            Line::Kept(lemma, Places::One(2)),
+            Line::Kept(terms.step, Places::One(2)),
         ],
     )
 }
@@ -254,24 +248,19 @@ fn replaced_home(
     hole: TermId,
     left: TermId,
     right: TermId,
-    a: TermId,
-    b: TermId,
-    lemma: usize,
+    terms: EqualTerms,
 ) -> Result<usize, AllocError>
-    requires pair { ArePair draft.old a b }
-    requires term { sort_of (tree_at draft.old.trees a) ≡ Sort.Term }
-    requires hole { HoleAt draft.old hole left right a b }
+    requires terms { AreEqual draft.old terms }
+    requires hole { HoleAt draft.old hole left right terms.a terms.b }
     requires left { IsFormulaAt draft.old left }
     requires right { IsFormulaAt draft.old right }
-    requires lemma { Refutes draft.old lemma
-        (neg (equal (tree_at draft.old.trees a) (tree_at draft.old.trees b)) ∷ []) }
     ensures refutes { IfOk result (λ k. Refutes draft.new k
         (tree_at draft.old.trees right ∷ neg (tree_at draft.old.trees left) ∷ [])) }
     ensures grows { Extends draft.old draft.new }
 {
     let no_left = negation(draft, left)?;
-    let template = not_hole(draft, hole, left, right, a, b)?;
-    replaced_back(draft, hole, template, left, right, no_left, a, b, lemma)
+    let template = not_hole(draft, hole, left, right, terms.a, terms.b)?;
+    replaced_back(draft, hole, template, left, right, no_left, terms)
 }
 
 // The negation of a formula with a hole.
@@ -307,23 +296,18 @@ fn replaced_halves(
     hole: TermId,
     left: TermId,
     right: TermId,
-    a: TermId,
-    b: TermId,
-    lemma: usize,
+    terms: EqualTerms,
 ) -> Result<Halves, AllocError>
-    requires pair { ArePair draft.old a b }
-    requires term { sort_of (tree_at draft.old.trees a) ≡ Sort.Term }
-    requires hole { HoleAt draft.old hole left right a b }
+    requires terms { AreEqual draft.old terms }
+    requires hole { HoleAt draft.old hole left right terms.a terms.b }
     requires left { IsFormulaAt draft.old left }
     requires right { IsFormulaAt draft.old right }
-    requires lemma { Refutes draft.old lemma
-        (neg (equal (tree_at draft.old.trees a) (tree_at draft.old.trees b)) ∷ []) }
     ensures halves { IfOk result (λ h. HasHalves draft.new (tree_at draft.old.trees left)
         (tree_at draft.old.trees right) h.there h.back) }
     ensures grows { Extends draft.old draft.new }
 {
-    let there = replaced_there(draft, hole, left, right, a, b, lemma)?;
-    let back = replaced_home(draft, hole, left, right, a, b, lemma)?;
+    let there = replaced_there(draft, hole, left, right, terms)?;
+    let back = replaced_home(draft, hole, left, right, terms)?;
     Ok(Halves { there, back })
 }
 
@@ -349,16 +333,37 @@ pub fn alike_replaced(
     match alike {
         AlikeBy::Same => Ok(AlikeBy::Same),
         AlikeBy::Formulas(_, _) => unreachable!(),
-        AlikeBy::Terms(lemma) => match draft.store().sort(left) {
-            Sort::Term => {
-                let step = replaced_terms(draft, hole, left, right, a, b, lemma)?;
-                Ok(AlikeBy::Terms(step))
-            }
-            _ => {
-                let made = replaced_halves(draft, hole, left, right, a, b, lemma)?;
-                Ok(AlikeBy::Formulas(made.there, made.back))
-            }
-        },
+        AlikeBy::Terms(step) => {
+            let terms = EqualTerms { a, b, step };
+            alike_at_hole(draft, hole, left, right, terms)
+        }
+    }
+}
+
+// The same, by a step that shows the terms equal.
+fn alike_at_hole(
+    draft: &mut Draft,
+    hole: TermId,
+    left: TermId,
+    right: TermId,
+    terms: EqualTerms,
+) -> Result<AlikeBy, AllocError>
+    requires terms { AreEqual draft.old terms }
+    requires hole { HoleAt draft.old hole left right terms.a terms.b }
+    requires sides { ArePair draft.old left right }
+    ensures shows { IfOk result (λ w. Shows draft.new w (tree_at draft.old.trees left)
+        (tree_at draft.old.trees right)) }
+    ensures grows { Extends draft.old draft.new }
+{
+    match draft.store().sort(left) {
+        Sort::Term => {
+            let step = replaced_terms(draft, hole, left, right, terms)?;
+            Ok(AlikeBy::Terms(step))
+        }
+        _ => {
+            let made = replaced_halves(draft, hole, left, right, terms)?;
+            Ok(AlikeBy::Formulas(made.there, made.back))
+        }
     }
 }
 

@@ -4,14 +4,14 @@ use Rattle.evidence.specs.Laws.{Extends_trans}
 use Rattle.evidence.proofs.Formulas.{formula_later}
 use Rattle.evidence.proofs.Rules.{refutes_later}
 use Rattle.congruence.proofs.Later.{held_later, tree_later, pair_later, shows_at}
-use Rattle.congruence.proofs.CaseParts.{formula_pair, halves_here, parts_later, goal_after, refuted_after, values_later, denied}
+use Rattle.congruence.proofs.CaseParts.{formula_pair, halves_here, parts_later, goal_after, refuted_after, values_later, linked_later, denied}
 use Rattle.congruence.proofs.PlainScripts.{one_same}
 use Rattle.congruence.proofs.cases.decided.Goals as goal
 
 pub under_conditions-requires : goal.under_conditions-requires
 under_conditions-requires c =
     let r = c.requires in
-    record { left = r.left; right = r.right; sides = r.sides; left_value = r.left_values.then_value; right_value = r.right_values.then_value; goal = r.goal; goal_is = r.goal_is; parts = r.links.then_part }
+    record { left = r.left; right = r.right; sides = r.sides; left_values = r.left_values; right_values = r.right_values; goal = r.goal; goal_is = r.goal_is; links = r.links }
 
 pub under_negations-requires : goal.under_negations-requires
 under_negations-requires c =
@@ -25,11 +25,11 @@ under_negations-requires c =
       left = parts_later d d1 x a r.left;
       right = parts_later d d1 x b r.right;
       sides = pair_later d d1 x a.whole b.whole r.sides;
-      left_value = (values_later d d1 x a c.args.left_values r.left r.left_values).else_value;
-      right_value = (values_later d d1 x b c.args.right_values r.right r.right_values).else_value;
+      left_values = values_later d d1 x a c.args.left_values r.left r.left_values;
+      right_values = values_later d d1 x b c.args.right_values r.right r.right_values;
       goal = formula_later d d1 x c.args.goal r.goal;
       goal_is = denied d d1 x c.args.goal a.whole b.whole r.sides.left.held r.sides.right.held (tree_later d d1 x c.args.goal r.goal.held ∙ r.goal_is);
-      parts = shows_at d d1 x c.args.links.else_part a.else_part b.else_part r.left.else_part.right.held r.right.else_part.right.held r.links.else_part;
+      links = linked_later d d1 x a b c.args.links r.left r.right r.links;
     }
 
 pub make_halves-requires : goal.make_halves-requires

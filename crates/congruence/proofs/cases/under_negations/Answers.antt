@@ -32,17 +32,17 @@ under-requires c =
       left = record {
         pair = pair_later d d2 x a.whole a.else_part r.left.else_part;
         hypothesis = formula_later d1 d2 y n.no_left n.ensures.formula;
-        value = two_same d2 c.args.left_value _ _ _ _ (sym (tree_later d1 d2 y n.no_left n.ensures.formula.held ∙ n.ensures.tree)) (ap neg (same_alike d d2 x a.whole a.else_part r.left.whole.held r.left.else_part.right.held)) (refutes_later d d2 x c.args.left_value _ r.left_value);
+        value = two_same d2 c.args.left_values.else_value _ _ _ _ (sym (tree_later d1 d2 y n.no_left n.ensures.formula.held ∙ n.ensures.tree)) (ap neg (same_alike d d2 x a.whole a.else_part r.left.whole.held r.left.else_part.right.held)) (refutes_later d d2 x c.args.left_values.else_value _ r.left_values.else_value);
       };
       right = record {
         pair = pair_later d d2 x b.whole b.else_part r.right.else_part;
         hypothesis = m.ensures.formula;
-        value = two_same d2 c.args.right_value _ _ _ _ (sym (m.ensures.tree ∙ ap neg (tree_later d d1 x1 b.condition r.right.condition.held))) (ap neg (same_alike d d2 x b.whole b.else_part r.right.whole.held r.right.else_part.right.held)) (refutes_later d d2 x c.args.right_value _ r.right_value);
+        value = two_same d2 c.args.right_values.else_value _ _ _ _ (sym (m.ensures.tree ∙ ap neg (tree_later d d1 x1 b.condition r.right.condition.held))) (ap neg (same_alike d d2 x b.whole b.else_part r.right.whole.held r.right.else_part.right.held)) (refutes_later d d2 x c.args.right_values.else_value _ r.right_values.else_value);
       };
       sides = pair_later d d2 x a.whole b.whole r.sides;
       goal = formula_later d d2 x c.args.goal r.goal;
       goal_is = denied d d2 x c.args.goal a.whole b.whole r.sides.left.held r.sides.right.held (tree_later d d2 x c.args.goal r.goal.held ∙ r.goal_is);
-      parts = shows_at d d2 x c.args.parts a.else_part b.else_part r.left.else_part.right.held r.right.else_part.right.held r.parts;
+      parts = shows_at d d2 x c.args.links.else_part a.else_part b.else_part r.left.else_part.right.held r.right.else_part.right.held r.links.else_part;
     }
 
 pub returns-in_err-no_right-clause-grows : goal.returns-in_err-no_right-clause-grows

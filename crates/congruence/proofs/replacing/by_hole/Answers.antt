@@ -6,7 +6,7 @@ use Rattle.evidence.specs.Drafts.{Refutes}
 use Rattle.evidence.specs.Laws.{Extends_trans, AddsTrees_extends}
 use Rattle.evidence.proofs.Formulas.{formula_later}
 use Rattle.congruence.proofs.Later.{held_later, tree_later, pair_later}
-use Rattle.congruence.proofs.HoleTemplates.{hole_later, equal_later, lemma_later}
+use Rattle.congruence.proofs.HoleTemplates.{hole_later, equal_later, lemma_later, equal_terms_later}
 use Rattle.congruence.proofs.PlainScripts.{one_same}
 use Rattle.congruence.proofs.replacing.by_hole.Goals as goal
 
@@ -20,10 +20,11 @@ template_left-requires c =
     let x = AddsTrees_extends d d1 c.in_ok-goal.ensures.grows in
     let r = c.requires in
     let k = c.args in
+    let e = equal_terms_later d d1 x k.terms r.terms in
     record {
-      pair = pair_later d d1 x k.a k.b r.pair;
-      term = ap sort_of (tree_later d d1 x k.a r.pair.left.held) ∙ r.term;
-      hole = hole_later d d1 x k.hole k.left k.middle k.a k.b r.sides.left.held r.after.left.held r.pair.left.held r.pair.right.held r.hole;
+      pair = e.pair;
+      term = e.term;
+      hole = hole_later d d1 x k.hole k.left k.middle k.terms.a k.terms.b r.sides.left.held r.after.left.held r.terms.pair.left.held r.terms.pair.right.held r.hole;
       sides = pair_later d d1 x k.left k.right r.sides;
       middle_held = held_later d d1 x k.middle r.after.left.held;
       left_term = ap sort_of (tree_later d d1 x k.left r.sides.left.held) ∙ r.left_term;
@@ -41,14 +42,15 @@ by_replacing-requires c =
     let x = Extends_trans d d1 d2 x1 y in
     let r = c.requires in
     let k = c.args in
+    let e = equal_terms_later d d2 x k.terms r.terms in
     record {
-      pair = pair_later d d2 x k.a k.b r.pair;
-      term = ap sort_of (tree_later d d2 x k.a r.pair.left.held) ∙ r.term;
+      pair = e.pair;
+      term = e.term;
       goal = formula_later d1 d2 y n.goal n.ensures.formula;
       template_held = m.ensures.held;
       template = m.ensures.template;
       before = tree_later d1 d2 y n.goal n.ensures.formula.held ∙ n.ensures.tree ∙ sym (equal_later d1 d2 y k.left k.right (held_later d d1 x1 k.left r.sides.left.held) (held_later d d1 x1 k.right r.sides.right.held)) ∙ m.ensures.before;
-      lemma = lemma_later d d2 x k.lemma k.a k.b r.pair.left.held r.pair.right.held r.lemma;
+      lemma = e.step;
       step = subst (λ (z : Tree). Refutes d2 k.step (z ∷ [])) m.ensures.after (lemma_later d d2 x k.step k.middle k.right r.after.left.held r.after.right.held r.step);
     }
 

@@ -23,14 +23,12 @@ by_hole-requires c =
     let q = pair_later d d1 x k.m k.r r.right in
     let s = ap sort_of (tree_later d d1 x k.l r.left.left.held) ∙ r.term in
     record {
-      pair = p;
-      term = s;
+      terms = record { pair = p; term = s; step = lemma_later d d1 x k.first k.l k.m r.left.left.held r.left.right.held r.first };
       hole = n.ensures.hole;
       sides = pair_through d1 k.l k.m k.r p q;
       after = q;
       left_term = s;
       middle_term = p.sort ∙ s;
-      lemma = lemma_later d d1 x k.first k.l k.m r.left.left.held r.left.right.held r.first;
       step = lemma_later d d1 x k.second k.m k.r r.right.left.held r.right.right.held r.second;
     }
 

@@ -1,11 +1,10 @@
 use Rattle.std.proofs.Common.{sym, ap, ◌∙◌}
 use Rattle.std.proofs.lemmas.Result.{IfOk-weaker}
-use Rattle.trees.specs.Sorts.{sort_of}
 use Rattle.tasks.specs.Task.{neg}
 use Rattle.evidence.specs.Laws.{Extends_trans, AddsTrees_extends}
 use Rattle.evidence.proofs.Formulas.{formula_later}
-use Rattle.congruence.proofs.Later.{held_later, tree_later, pair_later}
-use Rattle.congruence.proofs.HoleTemplates.{hole_later, lemma_later}
+use Rattle.congruence.proofs.Later.{held_later, tree_later}
+use Rattle.congruence.proofs.HoleTemplates.{hole_later, equal_terms_later}
 use Rattle.congruence.proofs.PlainScripts.{two_same}
 use Rattle.congruence.proofs.replacing.replaced_home.Goals as goal
 
@@ -20,8 +19,8 @@ not_hole-requires c =
     let r = c.requires in
     let k = c.args in
     record {
-      a_held = held_later d d1 x k.a r.pair.left.held;
-      hole = hole_later d d1 x k.hole k.left k.right k.a k.b r.left.held r.right.held r.pair.left.held r.pair.right.held r.hole;
+      a_held = held_later d d1 x k.terms.a r.terms.pair.left.held;
+      hole = hole_later d d1 x k.hole k.left k.right k.terms.a k.terms.b r.left.held r.right.held r.terms.pair.left.held r.terms.pair.right.held r.hole;
       left = formula_later d d1 x k.left r.left;
     }
 
@@ -38,9 +37,8 @@ replaced_back-requires c =
     let r = c.requires in
     let k = c.args in
     record {
-      pair = pair_later d d2 x k.a k.b r.pair;
-      term = ap sort_of (tree_later d d2 x k.a r.pair.left.held) ∙ r.term;
-      hole = hole_later d d2 x k.hole k.left k.right k.a k.b r.left.held r.right.held r.pair.left.held r.pair.right.held r.hole;
+      terms = equal_terms_later d d2 x k.terms r.terms;
+      hole = hole_later d d2 x k.hole k.left k.right k.terms.a k.terms.b r.left.held r.right.held r.terms.pair.left.held r.terms.pair.right.held r.hole;
       template_held = m.ensures.held;
       template = m.ensures.template;
       template_is = m.ensures.is;
@@ -48,7 +46,6 @@ replaced_back-requires c =
       right = formula_later d d2 x k.right r.right;
       no_left = formula_later d1 d2 y n.no_left n.ensures.formula;
       no_left_is = tree_later d1 d2 y n.no_left n.ensures.formula.held ∙ n.ensures.tree ∙ ap neg (sym (tree_later d d2 x k.left r.left.held));
-      lemma = lemma_later d d2 x k.lemma k.a k.b r.pair.left.held r.pair.right.held r.lemma;
     }
 
 pub returns-in_err-template-clause-grows : goal.returns-in_err-template-clause-grows
