@@ -232,7 +232,8 @@ impl<'a> Shared<'a> {
 }
 
 /// The problem of a task under a driver, or its first fault, as `problem`: what was looked at in other tasks isn't looked at
-/// again.
+/// again. Parts of one goal mostly differ in their locals and goals alone: the declarations of the second part have the numbers of
+/// those of the first one, and what they name, and that it can be printed, is known by these numbers.
 pub fn problem_after<'a>(
     alloc: Global,
     store: &Store,

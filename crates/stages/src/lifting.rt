@@ -107,7 +107,9 @@ fn next_group(left: &mut Vec<Task>, count: usize) -> Result<Vec<Task>, AllocErro
     Ok(group)
 }
 
-// The derivations of tasks, from refutations of the tasks that they become by a stage, so many each.
+// The derivations of tasks, from refutations of the tasks that they become by a stage, so many each. Where a stage makes two tasks
+// of the first task and one of the second, the counts are 2 and 1: the first derivation is made of the first two of the three
+// refutations, and the second of the last.
 fn lift_level(
     alloc: Global,
     store: Store,

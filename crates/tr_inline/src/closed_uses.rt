@@ -21,7 +21,8 @@ pub struct UnfoldedUse {
     pub alike: AlikeBy,
 }
 
-/// The body of a definition at a closed use, which it is alike. Only want of memory refuses.
+/// The body of a definition at a closed use, which it is alike. Only want of memory refuses. With `function f (x: int) : int = x + 1`
+/// the use `f 3` is alike `3 + 1`: the definition's equation, of which `x` is put in first, shows each half.
 pub fn unfold_closed(draft: &mut Draft, def: Def, left: TermId) -> Result<UnfoldedUse, AllocError>
     requires defined { IsDefinedIn draft.old def }
     requires left { IsClosedAt draft.old left }

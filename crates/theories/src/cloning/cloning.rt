@@ -21,7 +21,9 @@ use surface::{ElemTree, Link, Name, Path};
 use tasks::Store;
 use theory_states::{Opened, SourceFault, Typed, alias_text, find_theory, last_part};
 
-// The theory at a place is cloned, or the first fault of the clone but for type variables that occur twice.
+// The theory at a place is cloned, or the first fault of the clone but for type variables that occur twice. What the elements
+// replace is planned first, element by element, since an element may name what an earlier one replaced: in `with type t = int,
+// function f = abs` the types of `f` and of `abs` are compared where `t` is `int` already.
 fn clone_known(
     alloc: Global,
     store: &mut Store,

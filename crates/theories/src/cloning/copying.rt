@@ -101,6 +101,8 @@ fn copy_symbols(
 }
 
 // The copies of a theory's symbols and declarations under a map, and the names that they pass on. Only want of memory refuses.
+// Of `type t  constant c: t  axiom a: c = c`, cloned `with type t = int`, the map takes `t` to `int` and `c` to a new entry of
+// type `int`; the copies are the declaration of that entry and the axiom about it, and no type is declared.
 fn copy_renamed(
     alloc: Global,
     store: &mut Store,

@@ -104,7 +104,8 @@ fn is_asked(store: &Store, asking: &Asking, known: &[TermId], number: usize) -> 
     false
 }
 
-// Whether for each type variable some instance that asks, and may be one of the set, mentions it.
+// Whether for each type variable some instance that asks, and may be one of the set, mentions it. Where a formula asks by `p 'a 'b`
+// and the set has `p int bool` alone, a search that has put `bool` in for `'a` ends here, before it tries any type for `'b`.
 fn may_go_on(
     store: &Store,
     set: &[InstanceKey],

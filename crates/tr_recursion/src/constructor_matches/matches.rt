@@ -254,7 +254,9 @@ fn is_on(draft: &Draft, scrutinee: TermId, first: FirstBranch) -> bool
     }
 }
 
-// The same, branch after branch.
+// A closed `match` of a constructor's application is alike the chosen branch's body, branch after branch. For `match S x with Z -> a
+// | S y -> b end` and the body `b` at `x`: the whole is alike `if is_Z (S x) then a else match S x with S y -> b end`, whose test is
+// refuted, as the constructors differ; the `match` with the other branches, which are fewer, is alike the body.
 fn alike_branches(
     draft: &mut Draft,
     whole: TermId,
