@@ -53,6 +53,13 @@ pub(crate) fn all_types(
     Ok(Some(types))
 }
 
+// A symbol's number with its entry.
+#[derive(Clone, Copy)]
+struct NumberedSymbol<'a> {
+    number: usize,
+    info: &'a SymbolInfo,
+}
+
 // The use of a symbol, by the words after its name.
 fn use_of_symbol<'a>(
     alloc: Global,
@@ -61,27 +68,30 @@ fn use_of_symbol<'a>(
     parts: &[TermId],
     named: Named,
     words: &[&[u8]],
-    symbol: usize,
-    info: &'a SymbolInfo,
+    symbol: NumberedSymbol<'a>,
 ) -> Result<Option<Applied<'a>>, AllocError>
     requires known { KnownHeld store.now x.now }
     requires parts { All (Holds store.now) parts.now }
     requires named { HoldTypes store.now named.types.items }
-    requires info { SymbolHeld store.now info.now }
+    requires info { SymbolHeld store.now symbol.info.now }
     ensures uses { IfOk result (λ o. option_map (use_at store.now) o
         ≡ use_of (task_at store.now x.now.task.now) x.now.table.now (earlier_at store.now x.now)
         (at_number (trees_at store.now parts.now)) (named_meaning store.now named) (texts words.now)
-        symbol (symbol_at store.now info.now)) }
+        symbol.entry.number (symbol_at store.now symbol.entry.info.now)) }
     ensures held { IfOk result (λ o. IfSome o (UseHeld store.now)) }
 {
-    let count = info.vars.saturating_sub(named.types.len()).min(words.len());
+    let count = symbol
+        .info
+        .vars
+        .saturating_sub(named.types.len())
+        .min(words.len());
     let Some(types) = all_types(alloc, store, x, named, &words[..count])? else {
         return Ok(None);
     };
     match things_at(alloc, store, parts, &words[count..])? {
         Some(parts) => Ok(Some(Applied {
-            symbol,
-            info,
+            symbol: symbol.number,
+            info: symbol.info,
             types,
             parts,
         })),
@@ -118,11 +128,14 @@ fn use_of_meaning<'a>(
         (named_meaning store.now named)) }
     ensures held { IfOk result (λ o. IfSome o (UseHeld store.now)) }
 {
-    let NameOf::Symbol(symbol) = named.symbol else {
+    let NameOf::Symbol(number) = named.symbol else {
         return Ok(None);
     };
-    match symbol_entry(store, x, symbol) {
-        Some(info) => use_of_symbol(alloc, store, x, parts, named, words, symbol, info),
+    match symbol_entry(store, x, number) {
+        Some(info) => {
+            let symbol = NumberedSymbol { number, info };
+            use_of_symbol(alloc, store, x, parts, named, words, symbol)
+        }
         None => Ok(None),
     }
 }
