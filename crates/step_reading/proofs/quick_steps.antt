@@ -1,3 +1,4 @@
+pub mod NodeForms
 pub mod Places
 pub mod Seen
 pub mod Told

@@ -3,6 +3,8 @@
 //
 // Contract: exactly the right steps.
 
+mod asking;
+mod matches;
 mod parameters;
 mod place;
 mod ready;

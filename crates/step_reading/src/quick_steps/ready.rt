@@ -88,7 +88,7 @@ pub(crate) fn is_quick(store: &Store, task: &Task, rule: &Rule) -> bool
         Rule::Forall(_, e) | Rule::NotExists(_, e) => is_expression(store, task, *e),
         Rule::NotForall(_, _) | Rule::Exists(_, _) => true,
         Rule::Replace(_, _, _) | Rule::Linear(_) => true,
-        Rule::LetDef(e) => is_expression(store, task, *e),
+        Rule::LetDef(e) | Rule::MatchDef(e) => is_expression(store, task, *e),
         _ => false,
     }
 }

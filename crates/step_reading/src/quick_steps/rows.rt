@@ -17,6 +17,7 @@ ghost use Rattle.rules.specs.Rows.{AtTerm, AtNew, IsRuleRow};
 ghost use Rattle.rules.specs.Meaning.{pair_at, PairHeld, rule_at, RuleHeld};
 ghost use Rattle.step_reading.specs.quick_steps.Places.{task_here, sequent_here, premises_here, PlaceHeld};
 
+use crate::quick_steps::matches::match_unfolded;
 use crate::quick_steps::parameters::is_new;
 use crate::quick_steps::place::{Place, adds_alike, adds_signed};
 use crate::quick_steps::sums::linear;
@@ -255,6 +256,7 @@ pub(crate) fn told_row(
             at_term(alloc, store, place, parts, *t, false)
         }
         Rule::LetDef(e) => let_def(alloc, store, place, *e),
+        Rule::MatchDef(e) => match_unfolded(alloc, store, place, *e),
         Rule::Replace(i, j, e) => {
             let sides = equation_sides(store, formula_at(store, place, *i));
             replace(alloc, store, place, sides, formula_at(store, place, *j), *e)
