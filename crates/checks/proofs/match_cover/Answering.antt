@@ -1,13 +1,14 @@
 -- What a table misses, by what its parts miss.
-use Rattle.std.proofs.Common.{◌≡◌, ◌≢◌, ◌↔◌, inl, inr, ℕ, suc, ◌+◌, ◌-◌, ◌<◌, ◌≤◌, List, [], ◌∷◌, ◌++◌, length, map, All, Any, Contains, Option, Some, None, MatchOption, option_map, refl, sym, ap, ◌∙◌, subst, arith}
+use Rattle.std.proofs.Common.{◌≡◌, ◌≢◌, ◌↔◌, inl, inr, ℕ, suc, ◌+◌, ◌-◌, ◌<◌, ◌≤◌, Bool, true, false, ◌||◌, List, [], ◌∷◌, ◌++◌, length, map, All, Any, Contains, Option, Some, None, MatchOption, option_map, refl, sym, ap, ◌∙◌, subst, arith}
+use Rattle.std.proofs.lemmas.Bool.{and_parts}
 use Rattle.std.proofs.lemmas.List.{length-map, length-append}
 use Rattle.std.proofs.lemmas.List.Elements.{All-contains, All-head, All-tail, All-nil, All-cons}
-use Rattle.trees.specs.Tree.{Tree}
+use Rattle.trees.specs.Tree.{Tree, Leaf, One, Two, Three, HPatAny, HPatVar}
 use Rattle.trees.specs.Binding.{inst_types}
 use Rattle.trees.specs.Sorts.{type_of}
 use Rattle.tasks.specs.Task.{SymbolTree, symbol_or}
-use Rattle.checks.specs.match_cover.Shapes.{ShapeTree, unspecified, built, Shapes, no_shapes, more_shapes, IsConstructorEntryOf, Builds, type_arguments, field_types, AreShapes, Meets, IsPattern, HaveType, HaveOneType, AreExhaustive, Escapes}
-use Rattle.checks.specs.match_cover.Tables.{TableFits, IsTable, AnyMet, NoneMet, Covers, Misses, Answered, unknowns, number_of_shapes, append_shapes, specialized, tails, column_told, Splits, effort}
+use Rattle.checks.specs.match_cover.Shapes.{ShapeTree, unspecified, built, Shapes, no_shapes, more_shapes, IsConstructorEntryOf, Builds, type_arguments, field_types, AreShapes, without_aliases, MeetsBuilt, Meets, AreMet, IsPattern, HaveType, HaveOneType, AreExhaustive, Escapes}
+use Rattle.checks.specs.match_cover.Tables.{RowFits, is_irrefutable, are_irrefutable, some_irrefutable, TableFits, IsTable, AnyMet, NoneMet, Covers, Misses, Answered, unknowns, number_of_shapes, append_shapes, specialized, tails, column_told, Splits, effort}
 use Rattle.checks.specs.match_cover.Meaning.{first_shapes, shapes_after}
 use Rattle.checks.proofs.match_cover.Fields.{pattern_fits}
 use Rattle.checks.proofs.match_cover.Splitting.{counted, are_unknown, specialized_fits, covers_split, misses_split, PlainColumn, covers_plain, misses_plain, tails_fit, plain_unbuilt}
@@ -31,6 +32,39 @@ pub answered_narrow : (symbols : List SymbolTree) (rows : List (List Tree)) → 
 answered_narrow symbols rows n [] long fits no_shapes are = first_met symbols rows n fits
 answered_narrow symbols rows n [] long fits (more_shapes s ss) are = absurd are
 answered_narrow symbols rows n (t ∷ ts) long fits ss are = absurd (omega (arith, long))
+
+-- some row meets all
+met_by : (k : ℕ) (ss : Shapes) (p : Tree) → is_irrefutable p ≡ true → MeetsBuilt k (AreMet ss) p
+met_by k ss (One HPatAny a) e = tt
+met_by k ss (One HPatVar a) e = tt
+met_by k ss (Leaf h) e = absurd (cc (e))
+met_by k ss (One _ a) e = absurd (cc (e))
+met_by k ss (Two h a b) e = absurd (cc (e))
+met_by k ss (Three h a b c) e = absurd (cc (e))
+
+met : (s : ShapeTree) (p : Tree) → is_irrefutable (without_aliases p) ≡ true → Meets s p
+met unspecified p e = tt
+met (built k ss) p e = met_by k ss (without_aliases p) e
+
+all_met : (symbols : List SymbolTree) (ss : Shapes) (types row : List Tree) → AreShapes symbols ss types → RowFits symbols types row → are_irrefutable row ≡ true → AreMet ss row
+all_met symbols no_shapes [] [] are fits e = tt
+all_met symbols (more_shapes s ss) (t ∷ ts) (p ∷ ps) are fits e =
+    let q = and_parts (is_irrefutable (without_aliases p)) (are_irrefutable ps) e in
+    (met s p q.0, all_met symbols ss ts ps are.1 fits.1 q.1)
+all_met symbols no_shapes (t ∷ ts) row are fits e = absurd are
+all_met symbols (more_shapes s ss) [] row are fits e = absurd are
+all_met symbols no_shapes [] (p ∷ ps) are fits e = absurd fits
+all_met symbols (more_shapes s ss) (t ∷ ts) [] are fits e = absurd fits
+
+any_met : (symbols : List SymbolTree) (ss : Shapes) (types : List Tree) (rows : List (List Tree)) → AreShapes symbols ss types → TableFits symbols types rows → some_irrefutable rows ≡ true → AnyMet ss rows
+any_met symbols ss types [] are fits e = absurd (cc (e))
+any_met symbols ss types (r ∷ rs) are fits e = by (are_irrefutable r) refl e (λ so. any_met symbols ss types rs are fits.1 so) where
+  by : (b : Bool) → are_irrefutable r ≡ b → (b || some_irrefutable rs) ≡ true → (some_irrefutable rs ≡ true → AnyMet ss rs) → AnyMet ss (r ∷ rs)
+  by true is so rest = inl (all_met symbols ss types r are fits.0 is)
+  by false is so rest = inr (rest so)
+
+pub answered_irrefutable : (symbols : List SymbolTree) (w : ℕ) (rows : List (List Tree)) → some_irrefutable rows ≡ true → Answered symbols w rows None
+answered_irrefutable symbols w rows e types long fits ss are = any_met symbols ss types rows are fits e
 
 -- ---- the constructors by which a table is split
 splits_none : (symbols : List SymbolTree) (t : Tree) (ts : List Tree) (rows : List (List Tree)) (o : Option ℕ) → column_told rows ≡ o → TableFits symbols (t ∷ ts) rows

@@ -1,7 +1,7 @@
 -- Tables of patterns: a row of patterns takes as many values at once, and a table is split by the
 -- constructors of its first column (Maranget, "Warnings for pattern matching", specialized
 -- matrices).
-use Rattle.std.specs.Prelude.{◌≡◌, ℕ, ◌+◌, ◌*◌, zero, suc, ◌==◌, Bool, true, false, List, [], ◌∷◌, ◌++◌, length, map, replicate, ◌⊎◌, Option, Some, None, MatchOption, Contains, ◌↔◌}
+use Rattle.std.specs.Prelude.{◌≡◌, ℕ, ◌+◌, ◌*◌, zero, suc, ◌==◌, Bool, true, false, ◌&&◌, ◌||◌, List, [], ◌∷◌, ◌++◌, length, map, replicate, ◌⊎◌, Option, Some, None, MatchOption, Contains, ◌↔◌}
 use Rattle.trees.specs.Tree.{Tree, Leaf, One, Two, Three, Head, HTyApp, HCell, HPatAny, HPatVar, HPatCon, HPatAlias}
 use Rattle.tasks.specs.Task.{SymbolTree}
 use Rattle.tasks.specs.Vocabulary.{of_signature}
@@ -104,6 +104,22 @@ opened_row k n (p ∷ row) = opened k n (without_aliases p) row
 abbrev pub specialized : ℕ → ℕ → List (List Tree) → List (List Tree)
 specialized k n [] = []
 specialized k n (r ∷ rs) = opened_row k n r ++ specialized k n rs
+
+-- a bare pattern that every value meets: a wildcard or a variable
+abbrev pub is_irrefutable : Tree → Bool
+is_irrefutable (One HPatAny a) = true
+is_irrefutable (One HPatVar a) = true
+is_irrefutable _ = false
+
+-- each pattern of a row is such, under the names that it gives
+abbrev pub are_irrefutable : List Tree → Bool
+are_irrefutable [] = true
+are_irrefutable (p ∷ ps) = is_irrefutable (without_aliases p) && are_irrefutable ps
+
+-- some row has such patterns alone
+abbrev pub some_irrefutable : List (List Tree) → Bool
+some_irrefutable [] = false
+some_irrefutable (r ∷ rs) = are_irrefutable r || some_irrefutable rs
 
 -- without the first column
 abbrev pub tail : List Tree → List Tree

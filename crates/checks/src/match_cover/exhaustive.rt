@@ -11,7 +11,7 @@ ghost use Rattle.checks.specs.match_cover.Meaning.{shape_of, shapes_of, table_at
 
 use crate::match_cover::ValueShape;
 use crate::match_cover::constructors::constructors_of;
-use crate::match_cover::patterns::{column_told, specialize_rows};
+use crate::match_cover::patterns::{column_told, some_irrefutable, specialize_rows};
 use crate::match_cover::shape::{behind_unknown, unknown_shape, unknowns, with_built};
 use std::alloc::{AllocError, Global};
 use tasks::{Seq, Signature};
@@ -70,6 +70,9 @@ fn missed_shapes(
         return Ok(Some(all));
     }
     if columns == 0 {
+        return Ok(None);
+    }
+    if some_irrefutable(store, rows, at) {
         return Ok(None);
     }
     let cons = splits(alloc, store, sig, rows, at)?;

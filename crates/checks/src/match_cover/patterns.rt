@@ -7,7 +7,7 @@ ghost use Rattle.trees.specs.Node.{tree_at, Holds};
 ghost use Rattle.tasks.specs.Typing.{members};
 ghost use Rattle.tasks.specs.Meaning.{trees_at};
 ghost use Rattle.checks.specs.match_cover.Shapes.{without_aliases};
-ghost use Rattle.checks.specs.match_cover.Tables.{apart, opened, behind_parts, opened_row, specialized, symbol_of_type, told, row_told, column_told};
+ghost use Rattle.checks.specs.match_cover.Tables.{apart, opened, behind_parts, opened_row, specialized, symbol_of_type, told, row_told, column_told, is_irrefutable, are_irrefutable, some_irrefutable};
 ghost use Rattle.checks.specs.match_cover.Meaning.{table_at, RowHeld, TableHeld};
 
 use std::alloc::{AllocError, Global};
@@ -234,5 +234,40 @@ pub(crate) fn column_told(store: &Store, rows: &[Seq<TermId>], at: usize) -> Opt
             None => column_told(store, rest, at),
         },
         None => None,
+    }
+}
+
+// Whether every value meets a pattern.
+fn is_irrefutable(store: &Store, pattern: TermId) -> bool
+    requires { Holds store.now pattern }
+    ensures { result ≡ is_irrefutable (without_aliases (tree_at store.now pattern)) }
+{
+    match store.node(bare_pattern(store, pattern)) {
+        Node::PatAny(_) => true,
+        Node::PatVar(_) => true,
+        _ => false,
+    }
+}
+
+// Whether every value meets each pattern of a row.
+fn are_irrefutable(store: &Store, row: &[TermId]) -> bool
+    requires { All (Holds store.now) row.now }
+    ensures { result ≡ are_irrefutable (trees_at store.now row.now) }
+{
+    match row.split_first() {
+        Some((first, rest)) => is_irrefutable(store, *first) && are_irrefutable(store, rest),
+        None => true,
+    }
+}
+
+// Whether every value meets each pattern of some row, from a column on.
+pub(crate) fn some_irrefutable(store: &Store, rows: &[Seq<TermId>], at: usize) -> bool
+    requires { TableHeld store.now rows.now }
+    ensures { result ≡ some_irrefutable (table_at store.now at rows.now) }
+{
+    match rows.split_first() {
+        Some((first, rest)) => are_irrefutable(store, from_column(store, first, at))
+            || some_irrefutable(store, rest, at),
+        None => false,
     }
 }

@@ -5,6 +5,7 @@ use Rattle.checks.specs.match_cover.Meaning.{shapes_of, table_at, TableHeld}
 use Rattle.checks.specs.match_cover.Tables.{Answered, specialized, Splits}
 use Rattle.std.specs.Option.{option_map}
 use Rattle.checks.proofs.match_cover.Missing.{empty_is, empty_not, answer_empty, answer_narrow, next_table, next_smaller, answer_plain, left_table, left_smaller, enough, answer_missed, parts_more, answer_covered, in_list, read_same}
+use Rattle.checks.proofs.match_cover.Answering.{answered_irrefutable}
 use Rattle.checks.proofs.match_cover.exhaustive.+missed_shapes.Goals as goal
 
 pub returns-then-is_empty : goal.returns-then-is_empty
@@ -16,6 +17,11 @@ pub returns-then-columns-eq0 : goal.returns-then-columns-eq0
 returns-then-columns-eq0 t c =
     answer_narrow (symbols_at c.args.store.now c.args.sig.now.symbols) c.args.store.now c.args.at c.args.rows.now c.args.columns
     (empty_not c.args.rows.now c.is_empty.result c.is_empty.ensures c.if-is_empty.false) c.if-columns-eq0.true
+
+pub returns-then-some_irrefutable : goal.returns-then-some_irrefutable
+returns-then-some_irrefutable t c =
+    answered_irrefutable (symbols_at c.args.store.now c.args.sig.now.symbols) c.args.columns (table_at c.args.store.now c.args.at c.args.rows.now)
+    (sym c.some_irrefutable.ensures ∙ c.if-some_irrefutable.true)
 
 pub missed_shapes-requires : goal.missed_shapes-requires
 missed_shapes-requires t c =
