@@ -128,27 +128,37 @@ fn elaborate_scope(
     Ok(())
 }
 
-// What is asked of the last of these declarations, the first of which has the number `at`.
+// Declarations, the first of which has the number `at`.
+#[derive(Clone, Copy)]
+struct CountedDecls<'a> {
+    decls: &'a [DeclTree],
+    at: usize,
+}
+
+// What is asked of the last of these declarations.
 fn put_answer(
     alloc: Global,
     text: &mut String,
     store: &mut Store,
     sig: &mut Signature,
     scope: &mut Scope,
-    decls: &[DeclTree],
-    at: usize,
+    counted: CountedDecls<'_>,
     asked: Asked,
 ) -> Result<(), AllocError>
     requires signature { IsSignature store.old sig.old.symbols }
     requires scopes { AreScopes store.old (length sig.old.symbols) scope.old }
 {
-    let Some((first, rest)) = decls.split_first() else {
+    let Some((first, others)) = counted.decls.split_first() else {
         return Ok(());
     };
-    let next = at.saturating_add(1);
+    let at = counted.at;
+    let rest = CountedDecls {
+        decls: others,
+        at: at.saturating_add(1),
+    };
     if let DeclNode::ScopeDecl(_, inner) = &first.node {
         return match elaborate_scope(alloc, store, sig, scope, inner.as_slice(), at) {
-            Ok(()) => put_answer(alloc, text, store, sig, scope, rest, next, asked),
+            Ok(()) => put_answer(alloc, text, store, sig, scope, rest, asked),
             Err(fault) => put_refusal(alloc, text, fault),
         };
     }
@@ -158,10 +168,10 @@ fn put_answer(
     let from = sig.symbols.len();
     match elaborate(alloc, store, sig, scope, b"T", b"", first, at) {
         Ok(made) => {
-            if rest.is_empty() {
+            if others.is_empty() {
                 put_last(alloc, text, store, sig, from, &made, asked)
             } else {
-                put_answer(alloc, text, store, sig, scope, rest, next, asked)
+                put_answer(alloc, text, store, sig, scope, rest, asked)
             }
         }
         Err(fault) => put_refusal(alloc, text, fault),
@@ -181,8 +191,9 @@ fn describe_all(
         return Err(AllocError);
     };
     no_names(&scope);
+    let counted = CountedDecls { decls, at: 1 };
     put_answer(
-        alloc, text, &mut store, &mut sig, &mut scope, decls, 1, asked,
+        alloc, text, &mut store, &mut sig, &mut scope, counted, asked,
     )
 }
 
