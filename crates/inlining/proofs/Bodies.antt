@@ -15,7 +15,6 @@ use Rattle.tasks.specs.Valid.{VariablesBelow, ParametersOf, IsDefinition}
 use Rattle.evidence.specs.images.typing_laws.HasTyping.{HasTyping}
 use Rattle.images.proofs.typing_laws.Sorted.{typed_has, formula_no_type}
 use Rattle.checks.specs.decl_checks.Structure.{defining_body}
-use Rattle.images.proofs.match_terms.Growing.{some_same as some_is}
 
 -- a list, last first, before another
 abbrev pub onto : List Tree → List Tree → List Tree
@@ -65,6 +64,9 @@ record IsRightSide (v : Vocabulary) (types : List Tree) (kind : SymbolKind) (out
   pub variables : VariablesBelow n (defining_body inner)
   pub parameters : ParametersOf [] (defining_body inner)
   pub result : IsBodyOf kind out (defining_body inner)
+
+some_is : (a b : Tree) → Some a ≡ Some b → a ≡ b
+some_is a b q = cc
 
 right_side : (v : Vocabulary) (types : List Tree) (n k : ℕ) (zs bs : Tree) (kind : SymbolKind) (result : Option Tree) (body inner : Tree) → equated kind k zs bs result body ≡ Some inner
     → HasTyping v types inner → VariablesBelow n inner → ParametersOf [] inner → IsRightSide v types kind result n inner

@@ -12,12 +12,11 @@ use Rattle.tasks.specs.Valid.{IsValid}
 use Rattle.tasks.proofs.Declared.{matched_made, made_usable, contains_step}
 use Rattle.evidence.specs.stage_limits.Limits.{is_small, are_small, task_height}
 use Rattle.evidence.specs.Bounded.{gives_small}
-use Rattle.evidence.specs.Stages.{Gives, Keeps}
+use Rattle.evidence.specs.Stages.{Gives, Keeps, limited_gives}
 use Rattle.evidence.specs.task_parts.Kept.{one_keeps}
 use Rattle.declarations.specs.Rewritten.{rewritten_decls, rewritten_task}
 use Rattle.declarations.specs.Equation.{rewrite_equation}
 use Rattle.declarations.specs.lemmas.Rewritten.{rewritten_kept}
-use Rattle.declarations.proofs.Stage.{one_task}
 use Rattle.declarations.specs.spelled_groups.Spelled.{GroupFacts, spelling_rule, SaysSmall, PatternsAreUsable, IsSpelling}
 use Rattle.declarations.specs.spelled_groups.Groups.{definition_facts, inductive_facts}
 use Rattle.declarations.specs.spelled_groups.Kept.{spelling_keeps, spelling_constructors, spelling_valid}
@@ -59,7 +58,7 @@ pub spelled_keep : (f : GroupFacts) → IsSpelling IsSmallTree f → (t : TaskTr
     → IsValid t → Gives (rewrite_equation (spelling_rule f)) t ts → All (Keeps t) ts
 spelled_keep f h t ts valid gives =
     let g = spelling_rule f in
-    let one = one_task g t ts gives in
+    let one = limited_gives (rewritten_task g t ∷ []) ts gives in
     let few : nodes (rewritten_task g t) ≤ 1048576 =
     few_nodes (rewritten_task g t)
     (subst (λ (us : List TaskTree). are_small us ≡ true) one

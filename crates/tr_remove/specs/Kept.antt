@@ -8,10 +8,9 @@ use Rattle.tasks.specs.Task.{TaskTree, DeclarationTree, BodyTree, MakesType, Mak
 use Rattle.tasks.specs.Roles.{maker, role_by, role_in, is_made_by, is_constructor}
 use Rattle.tasks.specs.Vocabulary.{Vocabulary}
 use Rattle.tasks.specs.Valid.{IsValid, IsValidDecl}
-use Rattle.evidence.specs.Stages.{Gives, Keeps}
+use Rattle.evidence.specs.Stages.{Gives, Keeps, limited_gives}
 use Rattle.declarations.specs.Rewritten.{KeepsMade, KeepsConstructors}
 use Rattle.declarations.specs.lemmas.Rewritten.{alone_made, alone_role, rewritten_kept}
-use Rattle.declarations.proofs.Stage.{one_task}
 use Rattle.evidence.specs.task_parts.Kept.{one_keeps}
 use Rattle.tr_remove.specs.Remove.{is_proposition, is_removed, removal_rule, removed_task, remove_equation}
 
@@ -56,7 +55,7 @@ removal_constructors props =
 pub remove_keeps : (props : List (List ℕ × List ℕ)) (t : TaskTree) (ts : List TaskTree) → IsValid t
     → Gives (remove_equation props) t ts → All (Keeps t) ts
 remove_keeps props t ts valid gives =
-    one_keeps t (removed_task props t) ts (one_task (removal_rule props) t ts gives)
+    one_keeps t (removed_task props t) ts (limited_gives (removed_task props t ∷ []) ts gives)
     (rewritten_kept (removal_rule props) (removal_keeps props) t (removal_constructors props)
     (λ d. Unit {0}) (λ d u n a. valid_left props d _ (is_removed props d) a) valid
     (λ k d l. tt))
