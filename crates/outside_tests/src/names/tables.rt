@@ -121,7 +121,7 @@ static ALIASES: [Row; 24] = [
         &["a"],
         Answer::Done,
     ),
-    (Call::Look(Table::Types), &["a"], Answer::Found(7)),
+    (Call::Look(Table::Types), &["a"], Answer::Found(0)),
     (
         Call::LookType,
         &["a"],
@@ -167,7 +167,7 @@ static ALIASES: [Row; 24] = [
         Answer::Done,
     ),
     (Call::Close, &[], Answer::Done),
-    (Call::Look(Table::Types), &["a"], Answer::Found(7)),
+    (Call::Look(Table::Types), &["a"], Answer::Found(0)),
     (
         Call::LookType,
         &["S", "a"],
@@ -181,7 +181,7 @@ static ALIASES: [Row; 24] = [
         &["b"],
         Answer::Means(TypeName::Alias { vars: 0, ty: 5 }),
     ),
-    (Call::Look(Table::Types), &["b"], Answer::Found(5)),
+    (Call::Look(Table::Types), &["b"], Answer::Found(0)),
     (Call::Look(Table::Symbols), &["b"], Answer::Nothing),
     (
         Call::LookType,
