@@ -154,8 +154,8 @@ impl Scope {
     }
 
     /// What the name at the path's end stands for in this table, its qualifiers being the names before it. Of a scope it is
-    /// the scope's number, of an alias the type's. It is `None` exactly where no open scope has the first name, or a name
-    /// that follows isn't in the scope found so far. No memory is taken.
+    /// the scope's number, of an alias, which is no entry, 0. It is `None` exactly where no open scope has the first name,
+    /// or a name that follows isn't in the scope found so far. No memory is taken.
     pub fn look(&self, table: Table, path: &[String]) -> Option<usize>
         ensures { result ≡ find_number self.now table (map string_bytes path.now) }
     {
