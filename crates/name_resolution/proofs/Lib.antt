@@ -6,3 +6,4 @@ pub mod Told
 pub mod Operated
 pub mod Rows
 pub mod Tuples
+pub mod ScopeAt

@@ -11,7 +11,8 @@ use Rattle.surface.specs.Lexeme.{Word}
 use Rattle.name_resolution.specs.Abstract.{variable_type, composed_type, no_types, Pattern, wildcard_pattern, variable_pattern, constructor_pattern, alias_pattern, no_patterns, more_patterns, Alternatives, no_alternatives, more_alternatives, Expression, applied_expression, true_expression, not_expression, connected_expression, equality_expression, let_expression, match_expression, quantified_expression, no_expressions, more_expressions, no_branches, more_branches}
 use Rattle.name_resolution.specs.declared.NamingFault.{NamingFault}
 use Rattle.name_resolution.specs.declared.NamingFault.TheVariants.{Unknown, Duplicate, WrongKind, Arity}
-use Rattle.name_resolution.specs.Where.{Where, Stands, Abbreviates}
+use Rattle.name_resolution.specs.Where.{Where}
+use Rattle.scopes.specs.declared.Referent.TheVariants as stands
 use Rattle.name_resolution.specs.Faults.{fault}
 
 abbrev entry : Word → SymbolKind → ℕ → List Tree → SymbolTree
@@ -27,7 +28,7 @@ abbrev here : Where
 here = record {
   symbols = int_symbol ∷ entry (codes "t") Kind 0 [] ∷ entry (codes "c") Function 0 [] ∷ entry (codes "p") Predicate 0 (int_type ∷ []) ∷ entry (codes "q") Predicate 0 []
       ∷ entry (codes "Nil") Constructor 0 [] ∷ entry (codes "Cons") Constructor 0 (int_type ∷ int_type ∷ []) ∷ [];
-  types = called ((codes "rows", Abbreviates 1 int_type) ∷ (codes "t", Stands 1) ∷ []);
+  types = called ((codes "rows", stands.Alias 1 int_type) ∷ (codes "t", stands.Entry 1) ∷ []);
   names = called ((codes "c", 2) ∷ (codes "p", 3) ∷ (codes "q", 4) ∷ (codes "Nil", 5) ∷ (codes "Cons", 6) ∷ []);
   tuples = λ n. None;
   vars = codes "'a" ∷ [];

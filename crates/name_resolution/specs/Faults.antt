@@ -10,7 +10,8 @@ use Rattle.surface.specs.Lexeme.{Word}
 use Rattle.name_resolution.specs.Abstract.{TypeExpression, TypeExpressions, variable_type, composed_type, product_type, no_types, more_types, Pattern, Patterns, wildcard_pattern, variable_pattern, constructor_pattern, tuple_pattern, alias_pattern, no_patterns, more_patterns, Alternatives, no_alternatives, more_alternatives, BoundNames, Expression, Expressions, MatchBranches, applied_expression, infix_expression, integer_expression, true_expression, false_expression, tuple_expression, cast_expression, not_expression, connected_expression, equality_expression, if_expression, let_expression, match_expression, quantified_expression, no_expressions, more_expressions, no_branches, more_branches, count_forms, count_patterns, count_expressions, OperatorMeaning, connective_operator, equality_operator, symbol_operator}
 use Rattle.name_resolution.specs.declared.NamingFault.{NamingFault}
 use Rattle.name_resolution.specs.declared.NamingFault.TheVariants.{Unknown, Duplicate, WrongKind, Arity}
-use Rattle.name_resolution.specs.Where.{Where, MeaningTree, Stands, Abbreviates, place_of}
+use Rattle.name_resolution.specs.Where.{Where, MeaningTree, place_of}
+use Rattle.scopes.specs.declared.Referent.TheVariants as stands
 
 -- the earlier fault, where there is one
 abbrev pub first_of : Option NamingFault → Option NamingFault → Option NamingFault
@@ -25,8 +26,8 @@ fault_if false f = None
 -- so many arguments belong to the name of a type
 abbrev pub meaning_fault : Where → ℕ → ℕ → Option MeaningTree → Option NamingFault
 meaning_fault w i n None = Some (Unknown i)
-meaning_fault w i n (Some (Stands k)) = fault_if (not ((symbol_or w.symbols k).vars == n)) (Arity i)
-meaning_fault w i n (Some (Abbreviates vars t)) = fault_if (not (vars == n)) (Arity i)
+meaning_fault w i n (Some (stands.Entry k)) = fault_if (not ((symbol_or w.symbols k).vars == n)) (Arity i)
+meaning_fault w i n (Some (stands.Alias vars t)) = fault_if (not (vars == n)) (Arity i)
 
 -- in an open declaration a type variable is new where it isn't there
 abbrev mutual

@@ -9,13 +9,14 @@ use Rattle.tasks.specs.Task.{SymbolTree}
 pub use Rattle.tasks.specs.Entries.{builtin, is_tuple, tuple_from, tuple_in}
 use Rattle.surface.specs.Lexeme.{Word}
 use Rattle.surface.specs.Surface.{own_of, op_of}
-use Rattle.scopes.specs.Names.{ScopeNames, find_number, find_name, TypeName}
+use Rattle.scopes.specs.Names.{NamesOf, ScopeNames, TypeName, find_number, find_name, referent_with, names_with}
 use Rattle.scopes.specs.declared.Table.TheVariants.{Types, Symbols}
+use Rattle.scopes.specs.declared.Referent.{Referent}
 use Rattle.scopes.specs.declared.Referent.TheVariants as stands
 use Rattle.name_resolution.specs.Abstract.{binders_of, connective_operator, equality_operator, symbol_operator, text_of_own, prefix_name, spelled}
 use Rattle.name_resolution.specs.Abstract as abstract
 use Rattle.name_resolution.specs.Faults.{bound_names, TriggerHeadTree, trigger_named, trigger_equality, trigger_other}
-use Rattle.name_resolution.specs.Where.{Where, MeaningTree, Stands, Abbreviates}
+use Rattle.name_resolution.specs.Where.{Where, MeaningTree, NamesTree}
 use Rattle.name_resolution.specs.declared.NamingFault.{NamingFault}
 use Rattle.name_resolution.specs.declared.NamingFault.TheVariants.{Memory}
 use Rattle.name_resolution.specs.declared.bound.Names.{Names as Bound, Outside, Inside', Under', Among'}
@@ -27,22 +28,28 @@ use Rattle.name_resolution.specs.declared.world.World.{World}
 
 -- ---- names
 -- the entry for which a symbol's name after its scopes stands
-abbrev pub symbol_named : ScopeNames → List Word → Word → Option ℕ
+abbrev pub symbol_named : {A : Type 0} → NamesOf A → List Word → Word → Option ℕ
 symbol_named names qs x = find_number names Symbols (qs ++ x ∷ [])
 
 -- `int` is the outermost name of a type
-abbrev pub or_int : List Word → Word → Option TypeName → Option TypeName
+abbrev pub or_int : {A : Type 0} → List Word → Word → Option (Referent A) → Option (Referent A)
 or_int [] x None = cond (bytes_eq x (codes "int")) (Some (stands.Entry 0)) None
 or_int qs x found = found
 
-abbrev pub type_named : ScopeNames → List Word → Word → Option TypeName
+abbrev pub type_named : {A : Type 0} → NamesOf A → List Word → Word → Option (Referent A)
 type_named names qs x = or_int qs x (find_name names Types (qs ++ x ∷ []))
 
-abbrev pub meaning_at : List Tree → TypeName → MeaningTree
-meaning_at s (stands.Entry k) = Stands k
-meaning_at s (stands.Alias vars ty) = Abbreviates vars (tree_at s (record { 0 = ty }))
-
 -- ---- what names mean in code
+-- the type of an alias, by its number
+abbrev pub type_tree_at : List Tree → ℕ → Tree
+type_tree_at s ty = tree_at s (record { 0 = ty })
+
+abbrev pub meaning_at : List Tree → TypeName → MeaningTree
+meaning_at s thing = referent_with (type_tree_at s) thing
+
+abbrev pub scope_at : List Tree → ScopeNames → NamesTree
+scope_at s names = names_with (type_tree_at s) names
+
 abbrev pub where_at : List Tree → World → Where
 where_at s w = record {
   symbols = symbols_at s w.symbols.now;

@@ -3,13 +3,18 @@ use Rattle.std.specs.Prelude.{ℕ, suc, cond, List, [], ◌∷◌, Option, Some,
 use Rattle.std.specs.Str.{bytes_eq}
 use Rattle.std.specs.Option.{option_map}
 use Rattle.tasks.specs.trees.Tree.{Tree}
+use Rattle.scopes.specs.Names.{NamesOf}
+use Rattle.scopes.specs.declared.Referent.{Referent}
 use Rattle.surface.specs.Lexeme.{Word}
 use Rattle.tasks.specs.Task.{SymbolTree}
 
 -- what the name of a type stands for: an entry, or a type with so many type variables
-pub data MeaningTree : Type 0 where
-  Stands : ℕ → MeaningTree
-  Abbreviates : ℕ → Tree → MeaningTree
+abbrev pub MeaningTree : Type 0
+MeaningTree = Referent Tree
+
+-- the names of scopes in definitions, where an alias stands for a tree
+abbrev pub NamesTree : Type 0
+NamesTree = NamesOf Tree
 
 -- the signature's entries; what the name of a type and of another symbol means after its scopes;
 -- the constructor of the tuples of each width; and the declaration's type variables

@@ -3,7 +3,7 @@
 ghost use Rattle.std.specs.Prelude.{◌≡◌, List, Some, option_map};
 ghost use Rattle.tasks.specs.trees.Tree.{Tree};
 ghost use Rattle.name_resolution.specs.Abstract.{variable_type, type_expression_of, forms_of, bound_names_of, binders_of};
-ghost use Rattle.name_resolution.specs.Where.{Stands};
+ghost use Rattle.scopes.specs.declared.Referent.TheVariants as stands;
 ghost use Rattle.name_resolution.specs.Faults.{fault_if, meaning_fault, form_fault, forms_fault, type_fault, binders_fault};
 ghost use Rattle.name_resolution.specs.Naming.{where_at, meaning_at, type_named, Tells, as_result};
 
@@ -30,7 +30,7 @@ fn check_type(
     count: usize,
 ) -> Result<(), NamingFault>
     ensures { (s : List Tree) → Tells result (meaning_fault (where_at s world.now) token count (Some
-        (Stands symbol))) }
+        (stands.Entry symbol))) }
 {
     match world.symbols.get(symbol) {
         Some(info) => refuse_if(info.vars != count, NamingFault::Arity { token }),

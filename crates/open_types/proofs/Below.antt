@@ -14,7 +14,8 @@ use Rattle.surface.specs.Lexeme.{Word}
 use Rattle.name_resolution.specs.Abstract.{TypeExpression, TypeExpressions, variable_type, composed_type, product_type, no_types, more_types, BoundNames, count_forms}
 use Rattle.name_resolution.specs.declared.NamingFault.TheVariants.{Arity}
 use Rattle.name_resolution.specs.Faults.{meaning_fault, form_fault, forms_fault, type_fault, binders_fault}
-use Rattle.name_resolution.specs.Where.{Where, MeaningTree, Stands, Abbreviates, place_of}
+use Rattle.name_resolution.specs.Where.{Where, MeaningTree, place_of}
+use Rattle.scopes.specs.declared.Referent.TheVariants as stands
 use Rattle.open_types.specs.Patterns.{LocalTree, at_unknowns, result_or_int, first_or_int, rest_of, entry_of, reordering}
 use Rattle.open_types.specs.Pieces.{type_at, types_at, applied_meaning, variable_at, Use, Local', Symbol', variable_named, found_local, use_of_name, use_or, use_vars, parameters, symbol_at_types, untyped, locals_of_type, binder_locals, binder_vars, binders_vars, bound, quantify}
 use Rattle.open_types.specs.Scoped.{IsScoped, IsScopedEntry, IsScopedMeaning}
@@ -193,8 +194,8 @@ module _ (w : Where) (sc : IsScoped w) where
 
   applied_below : (m : Option MeaningTree) (i n : ℕ) (ts : List Tree) → meaning_fault w i n m ≡ None → length ts ≡ n → IfSome m IsScopedMeaning → AreBelow (length w.vars) ts → TyVarsBelow (length w.vars) (applied_meaning m ts)
   applied_below None i n ts f l s h = tt
-  applied_below (Some (Stands k)) i n ts f l s h = cells_below (length w.vars) ts h
-  applied_below (Some (Abbreviates vars t)) i n ts f l s h =
+  applied_below (Some (stands.Entry k)) i n ts f l s h = cells_below (length w.vars) ts h
+  applied_below (Some (stands.Alias vars t)) i n ts f l s h =
       let q : vars ≡ n = eqb-true vars n (not_not (vars == n) (not_if (not (vars == n)) (Arity i) f)) in
       inst_below vars (length w.vars) ts (λ j b. found_at ts h j (TyVar j) (omega (arith, q, l, b))) 0 t s
 

@@ -9,7 +9,8 @@ use Rattle.tasks.specs.Task.{SymbolTree, int_symbol}
 use Rattle.tasks.specs.Equations.{cells}
 use Rattle.surface.specs.Lexeme.{Word}
 use Rattle.name_resolution.specs.Abstract.{composed_type, no_types, more_types, Pattern, variable_pattern, tuple_pattern, no_patterns, more_patterns, no_alternatives, more_alternatives, Expression, applied_expression, infix_expression, integer_expression, true_expression, tuple_expression, equality_expression, let_expression, match_expression, quantified_expression, no_expressions, more_expressions, no_branches, more_branches}
-use Rattle.name_resolution.specs.Where.{Where, Stands, Abbreviates}
+use Rattle.name_resolution.specs.Where.{Where}
+use Rattle.scopes.specs.declared.Referent.TheVariants as stands
 use Rattle.open_types.specs.Patterns.{local, alternatives_pieces, all_notes, reordered}
 use Rattle.open_types.specs.Pieces.{piece, type_at}
 use Rattle.name_resolution.proofs.Rows.{called}
@@ -40,7 +41,7 @@ here = record {
       ∷ entry (codes "+") Function 0 (int_type ∷ int_type ∷ []) (Some int_type) ∷ entry (codes "list") Kind 1 [] None
       ∷ entry (codes "Nil") Constructor 1 [] (Some (list_of (unknown 0))) ∷ entry (codes "p") Predicate 0 (t_type ∷ []) None
       ∷ entry (codes "tuple2") Kind 2 [] None ∷ entry (codes "Tuple2") Constructor 2 (unknown 0 ∷ unknown 1 ∷ []) (Some (pair_of (unknown 0) (unknown 1))) ∷ [];
-  types = called ((codes "pair", Abbreviates 1 (list_of (list_of (unknown 0)))) ∷ (codes "t", Stands 1) ∷ []);
+  types = called ((codes "pair", stands.Alias 1 (list_of (list_of (unknown 0)))) ∷ (codes "t", stands.Entry 1) ∷ []);
   names = called ((codes "c", 2) ∷ (codes "d", 3) ∷ (codes "+", 4) ∷ (codes "Nil", 6) ∷ (codes "p", 7) ∷ []);
   tuples = pair_at;
   vars = [];

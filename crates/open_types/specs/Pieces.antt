@@ -12,15 +12,16 @@ use Rattle.tasks.specs.Equations.{cells, type_variables}
 use Rattle.surface.specs.Lexeme.{Word}
 use Rattle.name_resolution.specs.Abstract.{TypeExpression, TypeExpressions, variable_type, composed_type, product_type, no_types, more_types, BoundNames, Expression, Expressions, MatchBranches, applied_expression, infix_expression, integer_expression, true_expression, false_expression, tuple_expression, cast_expression, not_expression, connected_expression, equality_expression, if_expression, let_expression, match_expression, quantified_expression, no_expressions, more_expressions, no_branches, more_branches, count_forms, count_expressions}
 use Rattle.name_resolution.specs.Faults.{is_formula_trigger, token}
-use Rattle.name_resolution.specs.Where.{Where, MeaningTree, Stands, Abbreviates, place_of}
+use Rattle.name_resolution.specs.Where.{Where, MeaningTree, place_of}
+use Rattle.scopes.specs.declared.Referent.TheVariants as stands
 use Rattle.open_types.specs.Patterns.{Notes, noted, no_notes, follow, taken, LocalTree, local, at_unknowns, result_or_int, first_or_int, rest_of, NumberedEntry, entry_of, Matched, alternatives_pieces, all_notes, first_variables, pattern_trees, arms}
 
 -- ---- types
 -- the type that a name with arguments stands for
 abbrev pub applied_meaning : Option MeaningTree → List Tree → Tree
 applied_meaning None ts = int_type
-applied_meaning (Some (Stands k)) ts = One (HTyApp k) (cells ts)
-applied_meaning (Some (Abbreviates vars t)) ts = inst_types t ts
+applied_meaning (Some (stands.Entry k)) ts = One (HTyApp k) (cells ts)
+applied_meaning (Some (stands.Alias vars t)) ts = inst_types t ts
 
 abbrev pub variable_at : Option ℕ → Tree
 variable_at None = int_type

@@ -25,7 +25,7 @@ module _ {A B : Type 0} (f : A → B) where
   declared_with table x [] = refl
   declared_with table x (e ∷ es) = let more : is_declared table x (map (entry_with f) es) ≡ is_declared table x es = declared_with table x es in cc
 
-  got_with : (ess : List (List (EntryOf A))) (k : ℕ) → get_or (map (map (entry_with f)) ess) k [] ≡ map (entry_with f) (get_or ess k [])
+  pub got_with : (ess : List (List (EntryOf A))) (k : ℕ) → get_or (map (map (entry_with f)) ess) k [] ≡ map (entry_with f) (get_or ess k [])
   got_with [] k = refl
   got_with (es ∷ ess) zero = refl
   got_with (es ∷ ess) (suc k) = got_with ess k

@@ -7,7 +7,8 @@ use Rattle.surface.specs.Lexeme.{Word}
 use Rattle.name_resolution.specs.Abstract.{TypeExpression, TypeExpressions, variable_type, composed_type, product_type, no_types, more_types, Pattern, Patterns, wildcard_pattern, variable_pattern, constructor_pattern, tuple_pattern, alias_pattern, no_patterns, more_patterns, Alternatives, no_alternatives, more_alternatives, BoundNames, Expression, Expressions, MatchBranches, applied_expression, infix_expression, integer_expression, true_expression, false_expression, tuple_expression, cast_expression, not_expression, connected_expression, equality_expression, if_expression, let_expression, match_expression, quantified_expression, no_expressions, more_expressions, no_branches, more_branches, count_forms, count_patterns, count_expressions}
 use Rattle.name_resolution.specs.declared.NamingFault.{NamingFault}
 use Rattle.name_resolution.specs.declared.NamingFault.TheVariants.{Unknown, WrongKind}
-use Rattle.name_resolution.specs.Where.{Where, MeaningTree, Stands, Abbreviates, place_of}
+use Rattle.name_resolution.specs.Where.{Where, MeaningTree, place_of}
+use Rattle.scopes.specs.declared.Referent.TheVariants as stands
 use Rattle.name_resolution.specs.Faults.{first_of, fault_if, meaning_fault, form_fault, forms_fault, symbol_fault, local_fault, is_variable, name_fault, type_fault, binders_fault, bound_names, constructor_fault, pattern_fault, patterns_fault, pattern_names, later_fault, alternatives_fault, alternatives_names, TriggerHeadTree, trigger_named, trigger_equality, trigger_other, trigger_head, makes_formulas, is_formula_head, is_formula_trigger, fault, faults, triggers_fault, branches_fault, first_pattern_fault, has_alternative}
 use Rattle.name_resolution.specs.variables.Seen.{SeenTree, with_variable, with_width, form_seen, forms_seen, type_seen, binders_seen, pattern_seen, patterns_seen, alternatives_seen, seen, all_seen, branches_seen}
 use Rattle.name_resolution.proofs.Placed.{one_more}
@@ -140,8 +141,8 @@ module _ (w : Where) (vs : List Word) where
 
   meaning_same : (i n : ℕ) (m : Option MeaningTree) → meaning_fault with_vars i n m ≡ meaning_fault w i n m
   meaning_same i n None = refl
-  meaning_same i n (Some (Stands k)) = refl
-  meaning_same i n (Some (Abbreviates k t)) = refl
+  meaning_same i n (Some (stands.Entry k)) = refl
+  meaning_same i n (Some (stands.Alias k t)) = refl
 
   symbol_same : (due : Bool) (i n : ℕ) (m : Option ℕ) → symbol_fault with_vars due i n m ≡ symbol_fault w due i n m
   symbol_same due i n None = refl
