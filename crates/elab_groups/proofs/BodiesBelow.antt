@@ -1,5 +1,5 @@
 -- The type variables of the pieces of bodies are those of the members and the unknowns that they take.
-use Rattle.std.proofs.Common.{◌≡◌, ℕ, ◌+◌, ◌≤◌, List, [], ◌∷◌, ◌++◌, map, max, reverse, length, Option, None, Some, IfSome, refl, sym, ap, subst, ◌∙◌, arith, length-append}
+use Rattle.std.proofs.Common.{◌≡◌, ℕ, ◌+◌, ◌≤◌, List, [], ◌∷◌, ◌++◌, reverse, length, Option, None, Some, IfSome, arith, length-append}
 use Rattle.std.specs.Option.{is_none}
 use Rattle.std.specs.List.{AllByRecursion}
 use Rattle.tasks.specs.trees.Tree.{Tree}
@@ -8,7 +8,7 @@ use Rattle.name_resolution.specs.surface.Lexeme.{Word}
 use Rattle.name_resolution.specs.Abstract.{Expression}
 use Rattle.name_resolution.specs.Where.{Where}
 use Rattle.open_types.specs.Patterns.{taken, LocalTree}
-use Rattle.open_types.specs.Pieces.{NotedTree, unknown_after}
+use Rattle.open_types.specs.Pieces.{unknown_after}
 use Rattle.open_types.specs.Scoped.{IsScoped}
 use Rattle.open_types.proofs.Below.{AreBelow, LocalsBelow, below_more, list_more, wanted_more, reversed}
 use Rattle.open_types.proofs.Bounded.{IsBelow, bounded}

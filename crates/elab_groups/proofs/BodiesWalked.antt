@@ -23,7 +23,7 @@ use Rattle.elab_groups.proofs.parts.Putting.{trees_stay}
 use Rattle.elab_groups.specs.declared.members.signing.Signed.{Signed}
 use Rattle.elab_groups.specs.members.Members.{SignatureTree, words_of_parameters, body_fault}
 use Rattle.elab_groups.specs.Groups.{typed_locals, body_piece, member_piece, member_pieces, pieces_trees}
-use Rattle.elab_groups.specs.Bodies.{IsBodyWalked, AreBodiesWalked, AreDefined, sorts_due}
+use Rattle.elab_groups.specs.Bodies.{IsBodyWalked, AreBodiesWalked, sorts_due}
 
 pub walked_none : (s : List Tree) (d : Constraints) (ids : List TermId) (ms : List GroupMember) (its : List Signed) → (length ms ≡ length its → its ≡ []) → IsReady s d → All (Holds s) ids → AreBodiesWalked [] ms its s d ids s d ids
 walked_none s d ids ms its e r h = record { held = h; trees = sym (append-nil (trees_at s ids)); sorts = λ l k. ap sorts_due (sym (e l)); noted = nothing_noted s d r }

@@ -1,13 +1,12 @@
 -- Definitions, one after another.
-use Rattle.std.proofs.Common.{◌≡◌, ℕ, suc, Bool, true, false, not, List, [], ◌∷◌, ◌++◌, map, length, get_or, Option, Some, None, option_map, Bor, refl, sym, ap, subst, ◌∙◌, append_assoc, arith}
+use Rattle.std.proofs.Common.{◌≡◌, ℕ, suc, Bool, true, false, not, List, [], ◌∷◌, ◌++◌, map, get_or, Option, Some, None, option_map, Bor, refl, sym, ap, subst, ◌∙◌, append_assoc, arith}
 use Rattle.std.specs.List.{All}
 use Rattle.std.specs.Option.{is_some, option_copied}
 use Rattle.std.proofs.lemmas.List.{map-append}
 use Rattle.std.proofs.lemmas.List.Elements.{All-append, All-cons, All-nil}
 use Rattle.tasks.specs.trees.declared.TermId.{TermId}
-use Rattle.tasks.specs.trees.declared.Sort.{Sort}
 use Rattle.tasks.specs.trees.Tree.{Tree}
-use Rattle.tasks.specs.trees.Node.{tree_at, Holds, Grows}
+use Rattle.tasks.specs.trees.Node.{Holds, Grows}
 use Rattle.tasks.specs.trees.Sorts.{sort_of}
 use Rattle.tasks.proofs.trees.Nodes.{tree_at-grows}
 use Rattle.tasks.specs.declared.declaration.Def.{Def}
@@ -16,16 +15,15 @@ use Rattle.tasks.specs.Task.{DefinitionTree, DeclarationTree, Defines}
 use Rattle.tasks.specs.Meaning.{trees_at, definition_at, declaration_at, declarations_at, DeclHeld}
 use Rattle.name_resolution.specs.surface.declared.expressions.Expr.{Expr}
 use Rattle.name_resolution.specs.Abstract.{Expression, expression_of}
-use Rattle.open_types.specs.Drafts.{due}
 use Rattle.open_types.proofs.Growing.{held_grows}
 use Rattle.elab_groups.specs.parts.Declarations.{GroupMember}
-use Rattle.elab_groups.proofs.parts.Putting.{all_first, all_rest, trees_stay, all_held}
+use Rattle.elab_groups.proofs.parts.Putting.{trees_stay, all_held}
 use Rattle.elab_groups.specs.declared.members.signing.Signed.{Signed}
 use Rattle.elab_groups.specs.members.Members.{SignatureTree}
 use Rattle.elab_groups.specs.members.Sources.{signed_at, SignedHeld}
 use Rattle.elab_groups.proofs.members.SignaturesHeld.{all_signed_stay}
 use Rattle.elab_groups.specs.Groups.{definitions, group_body}
-use Rattle.elab_groups.specs.Bodies.{IsBody, AreBodies, AreDefined, AllHaveBodies, sorts_due}
+use Rattle.elab_groups.specs.Bodies.{IsBody, AreBodies, AreDefined, AllHaveBodies}
 use Rattle.tasks.proofs.Growth.{map_agree as map_same}
 
 abbrev pub DefHeld : List Tree → Def → Type 0

@@ -1,19 +1,17 @@
 -- How the parts of a group's declaration make its elaboration.
-use Rattle.std.proofs.Common.{◌≡◌, ℕ, ◌+◌, ◌<◌, ◌≤◌, true, List, [], ◌∷◌, ◌++◌, map, length, slice_get, Option, Some, None, refl, sym, ap, subst, ◌∙◌, arith, append_assoc, length-append}
+use Rattle.std.proofs.Common.{◌≡◌, ℕ, ◌+◌, ◌<◌, ◌≤◌, List, [], ◌++◌, map, length, slice_get, None, refl, sym, ap, subst, ◌∙◌, arith, append_assoc, length-append}
 use Rattle.std.proofs.Math.ListN.{length-map}
 use Rattle.std.specs.List.{All, AllByRecursion}
 use Rattle.std.proofs.lemmas.List.Elements.{All-append}
 use Rattle.tasks.specs.trees.Tree.{Tree}
 use Rattle.tasks.specs.trees.Node.{Grows}
-use Rattle.tasks.proofs.trees.Nodes.{Grows_refl}
+use Rattle.tasks.proofs.trees.Nodes.{Grows_refl, Grows_trans}
 use Rattle.tasks.specs.Task.{SymbolTree, int_symbol}
 use Rattle.tasks.specs.Meaning.{symbol_at, symbols_at, declarations_at}
 use Rattle.tasks.specs.declared.signature.Signature.{Signature}
 use Rattle.name_resolution.specs.scopes.Names.{ScopeNames}
-use Rattle.name_resolution.specs.surface.Lexeme.{Word}
-use Rattle.name_resolution.specs.declared.NamingFault.{NamingFault}
-use Rattle.name_resolution.specs.Faults.{first_of}
-use Rattle.name_resolution.specs.Where.{Where}
+use Rattle.name_resolution.specs.Naming.{scope_at}
+use Rattle.name_resolution.specs.Where.{Where, NamesTree}
 use Rattle.open_types.specs.Drafts.{match_at}
 use Rattle.open_types.specs.Scoped.{IsScopedEntry}
 use Rattle.elab_groups.specs.declared.parts.made.Elaborated.{Elaborated}
@@ -22,15 +20,16 @@ use Rattle.elab_groups.specs.parts.Declarations.{GroupMember, made_by_members, m
 use Rattle.elab_groups.specs.parts.Entries.{IsSignature, AreScopes}
 use Rattle.elab_groups.specs.parts.Outcomes.{Setting, over, setting, declared_in, IsKept}
 use Rattle.elab_groups.proofs.parts.Entering.{entries_stay, signature_grows, first_stays}
-use Rattle.elab_groups.proofs.parts.Overs.{some_entry, over_stays}
+use Rattle.elab_groups.proofs.parts.Overs.{some_entry, scope_stays}
+use Rattle.elab_groups.proofs.parts.AtScope.{members_at_scope}
 use Rattle.elab_groups.proofs.parts.Refused.{no_fault}
 use Rattle.elab_groups.proofs.parts.Scopes.{scopes_grow}
 use Rattle.elab_groups.specs.declared.members.signing.Signatures.{Signatures}
-use Rattle.elab_groups.specs.members.Members.{SignatureTree, signature_of, signed_entries, member_entries, with_members, members_fault}
+use Rattle.elab_groups.specs.members.Members.{SignatureTree, signature_of, member_entries, with_members}
 use Rattle.elab_groups.specs.members.Sources.{signed_at, IsEntered, IsScopedSignature, AreResolved}
 use Rattle.elab_groups.proofs.members.MembersNamed.{members_types, members_scopes, entries_count}
 use Rattle.elab_groups.proofs.members.MembersScoped.{members_scoped, signatures_scoped, members_resolved}
-use Rattle.elab_groups.specs.Groups.{group_tuples, before_group, group_signatures, group_scope, within_group, group_used, group_fault, group_decls, BodiesSolved, IsGroup, IsGroupElaborated}
+use Rattle.elab_groups.specs.Groups.{group_tuples, before_group, group_signatures, group_scope, within_group, group_used, group_decls, BodiesSolved, IsGroupElaborated}
 use Rattle.elab_groups.specs.Bodies.{IsGroupMade}
 
 module _ (p : Place) (s s1 : List Tree) (grows : Grows s s1) (g g1 : Signature) (names : ScopeNames) (ms : List GroupMember) (it : Signatures) (sig : IsSignature s g.symbols) (scopes : AreScopes s (length g.symbols) names)
@@ -54,7 +53,7 @@ module _ (p : Place) (s s1 : List Tree) (grows : Grows s s1) (g g1 : Signature) 
   before_count = omega (arith, length-append (symbols_at s g.symbols) (group_tuples c ms), length-map g.symbols (symbol_at s))
 
   total_is : total ≡ length before + length ms
-  total_is = length-append before entries ∙ ap (λ (n : ℕ). length before + n) (entries_count c.theory c.within ms (over s before names []))
+  total_is = length-append before entries ∙ ap (λ (n : ℕ). length before + n) (entries_count c.theory c.within ms (over before (scope_at s names) []))
 
   scopes_before : AreScopes s (length before) names
   scopes_before = scopes_grow s s (Grows_refl s) (length g.symbols) (length before) before_count names scopes
@@ -68,14 +67,13 @@ module _ (p : Place) (s s1 : List Tree) (grows : Grows s s1) (g g1 : Signature) 
       let b : it.number + length ms ≤ total = omega (arith, total_is, e.number) in
       members_scopes s total it.number ms names b (scopes_grow s s (Grows_refl s) (length before) total a names scopes_before)
 
-  after_is : after ≡ group_scope c ms
-  after_is = ap (λ (k : ℕ). with_members k ms names) e.number
+  after_is : (t : List Tree) → Grows s t → scope_at t after ≡ group_scope c ms
+  after_is t w = scope_stays s t w total after scopes_total ∙ (members_at_scope s it.number ms names ∙ ap (λ (k : ℕ). with_members k ms (scope_at s names)) e.number)
 
   -- what names mean among the members
-  pub inside_is : over s1 (symbols_at s1 g1.symbols) after [] ≡ within_group c ms
+  pub inside_is : over (symbols_at s1 g1.symbols) (scope_at s1 after) [] ≡ within_group c ms
   inside_is =
-      let a : 0 < total = omega (arith, total_is, some) in
-      ap (λ (es : List SymbolTree). over s1 es after []) e.symbols ∙ (over_stays s s1 grows total (before ++ entries) after [] scopes_total a ∙ ap (λ (ns : ScopeNames). over s (before ++ entries) ns []) after_is)
+      ap (λ (es : List SymbolTree). over es (scope_at s1 after) []) e.symbols ∙ ap (λ (ns : NamesTree). over (before ++ entries) ns []) (after_is s1 grows)
 
   counted : length g1.symbols ≡ total
   counted = sym (length-map g1.symbols (symbol_at s1)) ∙ ap length e.symbols
@@ -84,7 +82,7 @@ module _ (p : Place) (s s1 : List Tree) (grows : Grows s s1) (g g1 : Signature) 
   scopes_after = scopes_grow s s1 grows total (length g1.symbols) (omega (arith, counted)) after scopes_total
 
   pub each : length it.list.items ≡ length ms
-  each = sym (length-map it.list.items (signed_at s1)) ∙ (ap length e.signed ∙ length-map ms (signature_of (over s before names [])))
+  each = sym (length-map it.list.items (signed_at s1)) ∙ (ap length e.signed ∙ length-map ms (signature_of (over before (scope_at s names) [])))
 
   module _ (right : group_used c ms ≡ None) where
     pub signature_after : IsSignature s1 g1.symbols
@@ -92,16 +90,16 @@ module _ (p : Place) (s s1 : List Tree) (grows : Grows s s1) (g g1 : Signature) 
       int = ap (λ (es : List SymbolTree). slice_get es 0) e.symbols ∙ first_stays before entries int_symbol e.int;
       typed = e.typed;
       scoped = subst (All IsScopedEntry) (sym e.symbols) (All-append IsScopedEntry before entries e.scoped
-          (members_scoped s before entries names (group_scope c ms) scopes_before some (members_types (length before) ms names) e.outer c.theory c.within ms right));
+          (members_scoped s before entries names (group_scope c ms) scopes_before some (members_types (length before) ms (scope_at s names)) e.outer c.theory c.within ms right));
     }
 
     pub own_after : AllByRecursion IsScopedSignature (map (signed_at s1) it.list.items)
-    own_after = subst (AllByRecursion IsScopedSignature) (sym e.signed) (signatures_scoped s before entries names (group_scope c ms) scopes_before some (members_types (length before) ms names) e.outer ms right)
+    own_after = subst (AllByRecursion IsScopedSignature) (sym e.signed) (signatures_scoped s before entries names (group_scope c ms) scopes_before some (members_types (length before) ms (scope_at s names)) e.outer ms right)
 
     pub resolved_after : (w : Where) → w ≡ within_group c ms → AreResolved w ms (map (signed_at s1) it.list.items)
     resolved_after w q =
         subst (λ (v : Where). AreResolved v ms (map (signed_at s1) it.list.items)) (sym q)
-        (subst (AreResolved (within_group c ms) ms) (sym e.signed) (members_resolved s before entries names (group_scope c ms) scopes_before some (members_types (length before) ms names) e.outer ms right))
+        (subst (AreResolved (within_group c ms) ms) (sym e.signed) (members_resolved s before entries names (group_scope c ms) scopes_before some (members_types (length before) ms (scope_at s names)) e.outer ms right))
 
     module _ (s2 : List Tree) (further : Grows s1 s2) (w : Where) (q : w ≡ within_group c ms) (made : Elaborated) (m : IsGroupMade w p.theory.now p.within.now ms it.number (map (signed_at s1) it.list.items) s2 made) where
       solved_after : BodiesSolved (within_group c ms) ms (group_signatures c ms) m.bodies (map (match_at s2) made.matches)
@@ -114,7 +112,7 @@ module _ (p : Place) (s s1 : List Tree) (grows : Grows s s1) (g g1 : Signature) 
           m.decls ∙ (ap (λ (k : ℕ). group_decls c.theory c.within ms k (map (signed_at s1) it.list.items) m.bodies) e.number
           ∙ ap (λ (gs : List SignatureTree). group_decls c.theory c.within ms (length before) gs m.bodies) e.signed)
 
-      pub group_elaborated : made_fault (declared_in names) [] (made_by_members ms) ≡ None → IsGroupElaborated c ms g s2 g1 after made
+      pub group_elaborated : made_fault (declared_in (scope_at s names)) [] (made_by_members ms) ≡ None → IsGroupElaborated c ms g s2 g1 after made
       group_elaborated free = record {
         outcome = record {
           symbols = group_tuples c ms ++ entries;
@@ -124,10 +122,10 @@ module _ (p : Place) (s s1 : List Tree) (grows : Grows s s1) (g g1 : Signature) 
           matches = map (match_at s2) made.matches;
         };
         is = record { bodies = m.bodies; solved = solved_after; symbols = refl; scope = refl; decls = refl; rigid = refl };
-        named = no_fault (made_fault (declared_in names) [] (made_by_members ms)) (group_used c ms) free right;
+        named = no_fault (made_fault (declared_in (scope_at s names)) [] (made_by_members ms)) (group_used c ms) free right;
         symbols_are = entries_stay s1 s2 further g1.symbols signature_after ∙ (e.symbols ∙ append_assoc (symbols_at s g.symbols) (group_tuples c ms) entries);
         ints = e.ints;
-        scope = after_is;
+        scope = after_is s2 (Grows_trans s s1 s2 grows further);
         decls = decls_after;
         rigid = m.rigid;
         matches = refl;

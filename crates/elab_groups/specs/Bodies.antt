@@ -14,7 +14,7 @@ use Rattle.name_resolution.specs.Where.{Where}
 use Rattle.open_types.specs.declared.draft.Constraints.{Constraints}
 use Rattle.open_types.specs.Patterns.{Notes, taken}
 use Rattle.open_types.specs.Pieces.{NotedTree}
-use Rattle.open_types.specs.Drafts.{IsReady, IsNoted, MatchHeld, match_at, due}
+use Rattle.open_types.specs.Drafts.{IsNoted, MatchHeld, match_at, due}
 use Rattle.elab_groups.specs.declared.parts.made.Elaborated.{Elaborated}
 use Rattle.elab_groups.specs.parts.Declarations.{GroupMember}
 use Rattle.elab_groups.specs.declared.members.signing.Signed.{Signed}

@@ -13,7 +13,7 @@ use Rattle.name_resolution.specs.surface.Lexeme.{Word}
 use Rattle.name_resolution.specs.Abstract.{Expression}
 use Rattle.name_resolution.specs.declared.NamingFault.{NamingFault}
 use Rattle.name_resolution.specs.Faults.{first_of}
-use Rattle.name_resolution.specs.Where.{Where}
+use Rattle.name_resolution.specs.Where.{Where, NamesTree}
 use Rattle.open_types.specs.Patterns.{Notes, no_notes, follow, LocalTree, local}
 use Rattle.open_types.specs.Pieces.{NotedTree, piece, bare_piece, unknown_after}
 use Rattle.elab_groups.specs.declared.parts.ElabFault.{ElabFault}
@@ -129,7 +129,7 @@ before_group c ms = c.symbols ++ group_tuples c ms
 abbrev pub group_signatures : Setting → List GroupMember → List SignatureTree
 group_signatures c ms = signature_trees c (before_group c ms) ms
 
-abbrev pub group_scope : Setting → List GroupMember → ScopeNames
+abbrev pub group_scope : Setting → List GroupMember → NamesTree
 group_scope c ms = with_members (length (before_group c ms)) ms c.scope
 
 -- what names mean in its bodies

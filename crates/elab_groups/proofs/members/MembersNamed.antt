@@ -3,7 +3,7 @@ use Rattle.std.proofs.Common.{◌≡◌, ℕ, ◌+◌, ◌≤◌, true, List, []
 use Rattle.trees.specs.Tree.{Tree}
 use Rattle.scopes.specs.declared.Table.TheVariants.{Symbols}
 use Rattle.scopes.specs.declared.Referent.TheVariants as stands
-use Rattle.scopes.specs.Names.{ScopeNames, with_name}
+use Rattle.scopes.specs.Names.{NamesOf, ScopeNames, with_name}
 use Rattle.surface.specs.Lexeme.{Word}
 use Rattle.name_resolution.specs.Naming.{type_named}
 use Rattle.name_resolution.specs.Where.{Where}
@@ -12,7 +12,7 @@ use Rattle.elab_groups.specs.parts.Entries.{AreScopes}
 use Rattle.elab_groups.proofs.parts.Scopes.{types_past, scopes_more}
 use Rattle.elab_groups.specs.members.Members.{signature_of, signed_entries, with_members}
 
-pub members_types : (k : ℕ) (ms : List GroupMember) (names : ScopeNames) (qs : List Word) (x : Word) → type_named (with_members k ms names) qs x ≡ type_named names qs x
+pub members_types : {A : Type 0} (k : ℕ) (ms : List GroupMember) (names : NamesOf A) (qs : List Word) (x : Word) → type_named (with_members k ms names) qs x ≡ type_named names qs x
 members_types k [] names qs x = refl
 members_types k (m ∷ ms) names qs x =
     members_types (suc k) ms (with_name Symbols m.called.name (stands.Entry k) true names) qs x ∙ types_past Symbols refl m.called.name (stands.Entry k) true names refl qs x

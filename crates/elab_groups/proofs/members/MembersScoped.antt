@@ -1,17 +1,17 @@
 -- Members whose names are there have signatures whose types name only their own type variables.
-use Rattle.std.proofs.Common.{◌≡◌, ℕ, ◌+◌, ◌<◌, true, false, List, [], ◌∷◌, ◌++◌, map, length, suc, Option, None, Some, IfSome, option_map, refl, sym, ap, ◌∙◌, arith, length-append}
+use Rattle.std.proofs.Common.{◌≡◌, ◌<◌, true, false, List, [], ◌∷◌, ◌++◌, map, length, suc, Option, None, Some, IfSome, option_map, refl, sym, ap, ◌∙◌, arith, length-append}
 use Rattle.std.specs.List.{All, AllByRecursion}
 use Rattle.std.specs.Option.{is_none}
 use Rattle.std.proofs.lemmas.List.Elements.{All-from_recursion}
 use Rattle.trees.specs.Tree.{Tree}
 use Rattle.trees.specs.Facts.{TyVarsBelow}
 use Rattle.tasks.specs.Task.{SymbolTree}
-use Rattle.scopes.specs.Names.{TypeName, ScopeNames}
+use Rattle.scopes.specs.Names.{ScopeNames}
 use Rattle.surface.specs.Lexeme.{Word}
 use Rattle.name_resolution.specs.Abstract.{TypeExpression}
 use Rattle.name_resolution.specs.Faults.{first_of, type_fault, binders_fault}
-use Rattle.name_resolution.specs.Naming.{meaning_at, type_named}
-use Rattle.name_resolution.specs.Where.{Where}
+use Rattle.name_resolution.specs.Naming.{scope_at, type_named}
+use Rattle.name_resolution.specs.Where.{Where, NamesTree}
 use Rattle.open_types.specs.Pieces.{type_at}
 use Rattle.open_types.specs.Scoped.{IsScoped, IsScopedEntry}
 use Rattle.open_types.proofs.Below.{AreBelow}
@@ -21,8 +21,8 @@ use Rattle.elab_groups.specs.parts.Declarations.{TokenName, Parameter, GroupMemb
 use Rattle.elab_groups.specs.parts.Entries.{AreScopes}
 use Rattle.elab_groups.specs.parts.Outcomes.{over}
 use Rattle.elab_groups.proofs.parts.Alike.{binders_alike}
-use Rattle.elab_groups.proofs.parts.Scopes.{type_thing, arity_kept}
-use Rattle.elab_groups.specs.members.Members.{SignatureTree, signature_of, signed_entries, type_copies, parameter_types, parameter_words, words_of_parameters, body_fault, member_fault, members_fault}
+use Rattle.elab_groups.proofs.parts.Scopes.{arity_kept}
+use Rattle.elab_groups.specs.members.Members.{signature_of, signed_entries, type_copies, parameter_types, parameter_words, words_of_parameters, body_fault, member_fault, members_fault}
 use Rattle.elab_groups.specs.members.Sources.{IsScopedSignature, AreResolved}
 use Rattle.elab_groups.proofs.members.ParamsClosed.{as_binders, signature_closed, params_below, result_below}
 
@@ -50,18 +50,17 @@ body_right w m h =
     (none_both (type_fault w true m.result) (body_fault w m (own_variables m) m.body) p.1).1
 
 -- before the members stand these entries and names; their own entries and names are added to them
-module _ (s : List Tree) (before more : List SymbolTree) (names names' : ScopeNames) (scopes : AreScopes s (length before) names) (some : 0 < length before)
-    (same : (qs : List Word) (x : Word) → type_named names' qs x ≡ type_named names qs x) (scoped : (vars : List Word) → IsScoped (over s before names vars)) where
+module _ (s : List Tree) (before more : List SymbolTree) (names : ScopeNames) (names' : NamesTree) (scopes : AreScopes s (length before) names) (some : 0 < length before)
+    (same : (qs : List Word) (x : Word) → type_named names' qs x ≡ type_named (scope_at s names) qs x) (scoped : (vars : List Word) → IsScoped (over before (scope_at s names) vars)) where
   abbrev outer : List Word → Where
-  outer vars = over s before names vars
+  outer vars = over before (scope_at s names) vars
 
   abbrev within : List Word → Where
-  within vars = over s (before ++ more) names' vars
+  within vars = over (before ++ more) names' vars
 
   types_alike : (vars : List Word) → TypesAlike (outer vars) (within vars)
   types_alike vars = record {
-    types = λ qs x. arity_kept s s before more (type_named names qs x) (type_thing s (length before) names scopes some qs x)
-        ∙ ap (λ (m : Option TypeName). option_map (meaning_arity (before ++ more)) (option_map (meaning_at s) m)) (sym (same qs x));
+    types = λ qs x. arity_kept s before more names scopes some qs x ∙ ap (option_map (meaning_arity (before ++ more))) (sym (same qs x));
     vars = refl;
   }
 

@@ -1,5 +1,5 @@
 -- The names that a group makes, told member by member.
-use Rattle.std.proofs.Common.{◌≡◌, ℕ, Bool, true, false, cond, List, [], ◌∷◌, ◌++◌, get_or, set, zero, suc, Option, Some, None, option_map, refl, sym, ap, ◌∙◌}
+use Rattle.std.proofs.Common.{◌≡◌, ℕ, Bool, true, false, cond, List, [], ◌∷◌, ◌++◌, get_or, set, zero, suc, Option, Some, option_map, refl, sym, ap, ◌∙◌}
 use Rattle.std.specs.Prelude.{◌||◌, ◌&&◌}
 use Rattle.std.specs.Option.{is_some}
 use Rattle.std.specs.Str.{bytes_eq}
@@ -9,11 +9,14 @@ use Rattle.scopes.specs.Names.{TypeName, ScopeNames, ScopeEntry, is_declared, in
 use Rattle.surface.specs.Lexeme.{Word}
 use Rattle.name_resolution.specs.declared.NamingFault.{NamingFault}
 use Rattle.name_resolution.specs.declared.NamingFault.TheVariants.{Duplicate}
+use Rattle.tasks.specs.trees.Tree.{Tree}
 use Rattle.name_resolution.specs.Faults.{first_of, fault_if}
+use Rattle.name_resolution.specs.Naming.{scope_at}
 use Rattle.name_resolution.specs.Where.{place_of}
 use Rattle.name_resolution.proofs.Placed.{one_more}
 use Rattle.elab_groups.specs.parts.Declarations.{GroupMember, Made, makes, binds_names, names_of_parameters, list_fault, made_before, made_by_members, made_fault}
 use Rattle.elab_groups.specs.parts.Outcomes.{declared_in}
+use Rattle.elab_groups.proofs.parts.AtScope.{declared_at}
 use Rattle.elab_groups.specs.members.Members.{member_made, members_made}
 use Rattle.scopes.proofs.outside.Bools.{or_grouped as or_assoc}
 use Rattle.name_resolution.proofs.Told.{three as first_assoc}
@@ -63,8 +66,9 @@ told_by declared d before ws h (m ∷ ms) =
     ∙ (ap (λ (r : Option NamingFault). first_of (fault_if (d c.name || is_some (place_of c.name ws)) (Duplicate c.at)) (first_of (list_fault [] (names_of_parameters m.params)) r)) rest
     ∙ sym (first_assoc (fault_if (d c.name || is_some (place_of c.name ws)) (Duplicate c.at)) (list_fault [] (names_of_parameters m.params)) (members_made d (ws ++ c.name ∷ []) ms)))
 
-pub made_told : (names : ScopeNames) (ms : List GroupMember) → made_fault (declared_in names) [] (made_by_members ms) ≡ members_made (declared_in names Symbols) [] ms
-made_told names ms = told_by (declared_in names) (declared_in names Symbols) [] [] (λ x. refl) ms
+pub made_told : (s : List Tree) (names : ScopeNames) (ms : List GroupMember) → made_fault (declared_in (scope_at s names)) [] (made_by_members ms) ≡ members_made (declared_in names Symbols) [] ms
+made_told s names ms =
+    ap (λ (f : Table → Word → Bool). made_fault f [] (made_by_members ms)) (declared_at s names) ∙ told_by (declared_in names) (declared_in names Symbols) [] [] (λ x. refl) ms
 
 -- ---- a name that is declared meanwhile
 same_made : (d d' : Word → Bool) (ws : List Word) → Same d d' (λ x. is_some (place_of x ws)) (λ x. is_some (place_of x ws)) → (ms : List GroupMember) → members_made d ws ms ≡ members_made d' ws ms

@@ -1,11 +1,9 @@
 -- Signatures whose names are there: closed at their own type variables, their types have no others.
-use Rattle.std.proofs.Common.{◌≡◌, ℕ, true, false, List, [], ◌∷◌, ◌++◌, length, Option, Some, None, IfSome, option_map, refl, sym, ap, subst, ◌∙◌}
+use Rattle.std.proofs.Common.{◌≡◌, ℕ, true, false, List, [], ◌∷◌, length, Option, Some, None, IfSome, option_map, refl, sym, ap, subst, ◌∙◌}
 use Rattle.std.specs.Option.{is_some}
 use Rattle.trees.specs.Tree.{Tree}
 use Rattle.trees.specs.Facts.{TyVarsBelow}
-use Rattle.surface.specs.Lexeme.{Word}
 use Rattle.name_resolution.specs.Abstract.{TypeExpression, BoundNames, quantified_expression, true_expression, no_expressions}
-use Rattle.name_resolution.specs.declared.NamingFault.{NamingFault}
 use Rattle.name_resolution.specs.Faults.{first_of, form_fault, type_fault, binders_fault, fault}
 use Rattle.name_resolution.specs.Where.{Where, place_of}
 use Rattle.name_resolution.specs.variables.Seen.{SeenTree, form_seen, type_seen, binders_seen, seen}

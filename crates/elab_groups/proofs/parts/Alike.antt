@@ -8,7 +8,8 @@ use Rattle.name_resolution.specs.Abstract.{TypeExpression, TypeExpressions, vari
 use Rattle.name_resolution.specs.declared.NamingFault.{NamingFault}
 use Rattle.name_resolution.specs.declared.NamingFault.TheVariants.{Unknown, Duplicate, WrongKind, Arity}
 use Rattle.name_resolution.specs.Faults.{first_of, fault_if, meaning_fault, form_fault, forms_fault, differ, is_predicate, symbol_fault, local_fault, is_variable, name_fault, type_fault, binders_fault, bound_names, constructor_fault, pattern_names, pattern_fault, patterns_fault, same_names, later_fault, alternatives_fault, alternatives_names, first_pattern_fault, has_alternative, TriggerHeadTree, trigger_named, trigger_equality, trigger_other, trigger_head, makes_formulas, is_formula_head, is_formula_trigger, fault, faults, triggers_fault, branches_fault}
-use Rattle.name_resolution.specs.Where.{Where, MeaningTree, Stands, Abbreviates, place_of}
+use Rattle.name_resolution.specs.Where.{Where, MeaningTree, place_of}
+use Rattle.scopes.specs.declared.Referent.TheVariants as stands
 use Rattle.elab_groups.specs.parts.Alike.{meaning_arity, EntryShape, shape, TypesAlike, AreScopesAlike}
 
 pub both : {x y x' y' : Option NamingFault} → x ≡ x' → y ≡ y' → first_of x y ≡ first_of x' y'
@@ -29,8 +30,8 @@ arity_fault i n (Some m) = fault_if (not (m == n)) (Arity i)
 meaning_told : (w : Where) (i n : ℕ) (m : Option MeaningTree) → meaning_fault w i n m ≡ arity_fault i n (option_map (meaning_arity w.symbols) m)
 unfolding arity_fault
 meaning_told w i n None = refl
-meaning_told w i n (Some (Stands k)) = refl
-meaning_told w i n (Some (Abbreviates m t)) = refl
+meaning_told w i n (Some (stands.Entry k)) = refl
+meaning_told w i n (Some (stands.Alias m t)) = refl
 
 use_fault : Bool → ℕ → ℕ → Option EntryShape → Option NamingFault
 use_fault due i n None = Some (Unknown i)

@@ -1,14 +1,13 @@
 -- Trees and matches at types, one after another.
 use Rattle.std.proofs.Common.{◌≡◌, ℕ, suc, ◌<◌, List, [], ◌∷◌, ◌++◌, map, length, get_or, ap, subst, ◌∙◌, append_assoc, arith}
-use Rattle.std.specs.List.{All, AllByRecursion}
+use Rattle.std.specs.List.{All}
 use Rattle.std.proofs.lemmas.List.{map-append}
-use Rattle.std.proofs.lemmas.List.Elements.{All-append, All-cons, All-nil, recursion_from_All}
+use Rattle.std.proofs.lemmas.List.Elements.{All-append, All-cons, All-nil}
 use Rattle.tasks.specs.trees.declared.TermId.{TermId}
 use Rattle.tasks.specs.trees.Tree.{Tree}
 use Rattle.tasks.specs.trees.Node.{tree_at, Holds, Grows}
 use Rattle.tasks.specs.trees.Binding.{inst_types}
 use Rattle.tasks.proofs.trees.Nodes.{tree_at-grows}
-use Rattle.trees.specs.binders.Visits.{HoldTypes}
 use Rattle.tasks.specs.Meaning.{trees_at}
 use Rattle.open_types.specs.declared.draft.MatchAt.{MatchAt}
 use Rattle.open_types.specs.Drafts.{HoldsType, MatchHeld, match_at, instances}

@@ -12,10 +12,13 @@ use Rattle.tasks.specs.Task.{SymbolTree, symbol_or, int_symbol}
 use Rattle.tasks.specs.Vocabulary.{is_constructor_kind}
 use Rattle.scopes.specs.declared.Table.{Table}
 use Rattle.scopes.specs.declared.Table.TheVariants.{Types, Symbols, Propositions, Scopes}
-use Rattle.scopes.specs.Names.{TypeName, ScopeNames, ScopeEntry, number_of, same_table, is_named, latest, entries_of, or_else, first_found, table_before, find_within, find_name, innermost, with_name}
+use Rattle.scopes.specs.Names.{EntryOf, NamesOf, TypeName, ScopeNames, ScopeEntry, number_of, same_table, is_named, latest, entries_of, or_else, first_found, table_before, find_within, find_name, innermost, with_name}
+use Rattle.scopes.specs.declared.Referent.{Referent}
 use Rattle.scopes.specs.declared.Referent.TheVariants as stands
 use Rattle.surface.specs.Lexeme.{Word}
-use Rattle.name_resolution.specs.Naming.{or_int, type_named, symbol_named, meaning_at}
+use Rattle.name_resolution.specs.Naming.{or_int, type_named, symbol_named, meaning_at, scope_at}
+use Rattle.name_resolution.specs.Where.{MeaningTree, NamesTree}
+use Rattle.name_resolution.proofs.ScopeAt.{type_named_at, symbol_named_at}
 use Rattle.open_types.specs.Patterns.{entry_of}
 use Rattle.open_types.specs.Scoped.{IsScopedMeaning}
 use Rattle.open_types.specs.Drafts.{MeaningHeld}
@@ -56,7 +59,7 @@ module _ (s : List Tree) (n : ℕ) where
     first_thing table x [] = tt
     first_thing table x (k ∷ ks) = or_thing table (latest table x (get_or ess k [])) (first_found table x ess ks) (latest_thing table x (get_or ess k []) (at_scope ess h k)) (first_thing table x ks)
 
-  found_thing : (names : ScopeNames) → AreScopes s n names → (table : Table) (path : List Word) → IfSome (find_name names table path) (IsThing s n table)
+  pub found_thing : (names : ScopeNames) → AreScopes s n names → (table : Table) (path : List Word) → IfSome (find_name names table path) (IsThing s n table)
   found_thing names h table [] = tt
   found_thing names h table (x ∷ path) =
       let k = recursion_from_All (λ (es : List ScopeEntry). All (IsEntry s n) es) names.entries h in
@@ -76,7 +79,8 @@ module _ (s : List Tree) (n : ℕ) where
 
   number_below : (m : Option TypeName) → IfSome m (IsThing s n Symbols) → IfSome (option_map number_of m) (λ (k : ℕ). k < n)
   number_below None h = tt
-  number_below (Some t) h = h
+  number_below (Some (stands.Entry k)) h = h
+  number_below (Some (stands.Alias vars ty)) h = absurd h
 
   pub symbol_below : (names : ScopeNames) → AreScopes s n names → (qs : List Word) (x : Word) → IfSome (symbol_named names qs x) (λ (k : ℕ). k < n)
   symbol_below names h qs x = number_below (find_name names Symbols (qs ++ x ∷ [])) (found_thing names h Symbols (qs ++ x ∷ []))
@@ -86,10 +90,13 @@ module _ (s : List Tree) (n : ℕ) where
   meaning_held (Some (stands.Entry k)) h = tt
   meaning_held (Some (stands.Alias vars ty)) h = h.0
 
-  pub meaning_scoped : (m : Option TypeName) → IfSome m (IsTypeNameMeaning s n) → IfSome (option_map (meaning_at s) m) IsScopedMeaning
+  meaning_scoped : (m : Option TypeName) → IfSome m (IsTypeNameMeaning s n) → IfSome (option_map (meaning_at s) m) IsScopedMeaning
   meaning_scoped None h = tt
   meaning_scoped (Some (stands.Entry k)) h = tt
   meaning_scoped (Some (stands.Alias vars ty)) h = h.1
+
+  pub scoped_at : (names : ScopeNames) → AreScopes s n names → 0 < n → (qs : List Word) (x : Word) → IfSome (type_named (scope_at s names) qs x) IsScopedMeaning
+  scoped_at names h p qs x = subst (λ (m : Option MeaningTree). IfSome m IsScopedMeaning) (sym (type_named_at s names qs x)) (meaning_scoped (type_named names qs x) (type_thing names h p qs x))
 
 -- ---- further names
 module _ (s s' : List Tree) (g : Grows s s') (m n : ℕ) (l : m ≤ n) where
@@ -99,9 +106,10 @@ module _ (s s' : List Tree) (g : Grows s s') (m n : ℕ) (l : m ≤ n) where
 
   thing_on : (table : Table) (t : TypeName) → IsThing s m table t → IsThing s' n table t
   thing_on Types t h = meaning_on t h
-  thing_on Symbols t h = omega arith
-  thing_on Propositions t h = tt
-  thing_on Scopes t h = tt
+  thing_on Symbols (stands.Entry k) h = omega arith
+  thing_on Symbols (stands.Alias vars ty) h = absurd h
+  thing_on Propositions t h = h
+  thing_on Scopes t h = h
 
   pub scopes_grow : (names : ScopeNames) → AreScopes s m names → AreScopes s' n names
   scopes_grow names h = λ k es i. λ j e x. thing_on (get_or (get_or names.entries k es) j e).table (get_or (get_or names.entries k es) j e).thing (h k es i j e x)
@@ -113,22 +121,22 @@ scopes_more s n names table x t d h k =
     All-set (λ (es : List ScopeEntry). All (IsEntry s n) es) names.entries (innermost names) (e ∷ entries_of names (innermost names)) (All-cons (IsEntry s n) e (entries_of names (innermost names)) h (All-from_recursion (IsEntry s n) (entries_of names (innermost names)) old)) k
 
 -- ---- a name hides those of its own table alone
-module _ (table : Table) (x : Word) (e : ScopeEntry) (h : (es : List ScopeEntry) → latest table x (e ∷ es) ≡ latest table x es) where
-  latest_kept : (ess : List (List ScopeEntry)) (k j : ℕ) → latest table x (get_or (set ess k (e ∷ get_or ess k [])) j []) ≡ latest table x (get_or ess j [])
+module _ {A : Type 0} (table : Table) (x : Word) (e : EntryOf A) (h : (es : List (EntryOf A)) → latest table x (e ∷ es) ≡ latest table x es) where
+  latest_kept : (ess : List (List (EntryOf A))) (k j : ℕ) → latest table x (get_or (set ess k (e ∷ get_or ess k [])) j []) ≡ latest table x (get_or ess j [])
   latest_kept [] k j = refl
   latest_kept (es ∷ ess) zero zero = h es
   latest_kept (es ∷ ess) zero (suc j) = refl
   latest_kept (es ∷ ess) (suc k) zero = refl
   latest_kept (es ∷ ess) (suc k) (suc j) = latest_kept ess k j
 
-module _ (hidden : Table) (no_scope : same_table Scopes hidden ≡ false) (x : Word) (t : TypeName) (d : Bool) (names : ScopeNames) where
-  abbrev e : ScopeEntry
+module _ {A : Type 0} (hidden : Table) (no_scope : same_table Scopes hidden ≡ false) (x : Word) (t : Referent A) (d : Bool) (names : NamesOf A) where
+  abbrev e : EntryOf A
   e = record { table = hidden; name = x; thing = t; declared = d }
 
-  abbrev more : List (List ScopeEntry)
+  abbrev more : List (List (EntryOf A))
   more = set names.entries (innermost names) (e ∷ entries_of names (innermost names))
 
-  skipped : (table : Table) → same_table table hidden ≡ false → (y : Word) (es : List ScopeEntry) → latest table y (e ∷ es) ≡ latest table y es
+  skipped : (table : Table) → same_table table hidden ≡ false → (y : Word) (es : List (EntryOf A)) → latest table y (e ∷ es) ≡ latest table y es
   skipped table h y es = ap (λ (b : Bool). cond (b && bytes_eq x y) (Some t) (latest table y es)) h
 
   unheard : (table : Table) → same_table table hidden ≡ false → (y : Word) (j : ℕ) → latest table y (get_or more j []) ≡ latest table y (get_or names.entries j [])
@@ -138,11 +146,11 @@ module _ (hidden : Table) (no_scope : same_table Scopes hidden ≡ false) (x : W
   other_before table h [] = h
   other_before table h (y ∷ path) = no_scope
 
-  within_kept : (table : Table) → same_table table hidden ≡ false → (path : List Word) (found : Option TypeName) → find_within more table found path ≡ find_within names.entries table found path
+  within_kept : (table : Table) → same_table table hidden ≡ false → (path : List Word) (found : Option (Referent A)) → find_within more table found path ≡ find_within names.entries table found path
   within_kept table h [] found = refl
   within_kept table h (y ∷ path) None = refl
   within_kept table h (y ∷ path) (Some u) =
-      within_kept table h path (latest (table_before table path) y (get_or more (number_of u) [])) ∙ ap (λ (f : Option TypeName). find_within names.entries table f path) (unheard (table_before table path) (other_before table h path) y (number_of u))
+      within_kept table h path (latest (table_before table path) y (get_or more (number_of u) [])) ∙ ap (λ (f : Option (Referent A)). find_within names.entries table f path) (unheard (table_before table path) (other_before table h path) y (number_of u))
 
   first_kept : (table : Table) → same_table table hidden ≡ false → (y : Word) (ks : List ℕ) → first_found table y more ks ≡ first_found table y names.entries ks
   first_kept table h y [] = refl
@@ -151,7 +159,7 @@ module _ (hidden : Table) (no_scope : same_table Scopes hidden ≡ false) (x : W
   found_kept : (table : Table) → same_table table hidden ≡ false → (path : List Word) → find_name (with_name hidden x t d names) table path ≡ find_name names table path
   found_kept table h [] = refl
   found_kept table h (y ∷ path) =
-      within_kept table h path (first_found (table_before table path) y more names.nested) ∙ ap (λ (f : Option TypeName). find_within names.entries table f path) (first_kept (table_before table path) (other_before table h path) y names.nested)
+      within_kept table h path (first_found (table_before table path) y more names.nested) ∙ ap (λ (f : Option (Referent A)). find_within names.entries table f path) (first_kept (table_before table path) (other_before table h path) y names.nested)
 
   pub types_past : same_table Types hidden ≡ false → (qs : List Word) (y : Word) → type_named (with_name hidden x t d names) qs y ≡ type_named names qs y
   types_past h qs y = ap (or_int qs y) (found_kept Types h (qs ++ y ∷ []))
@@ -160,25 +168,34 @@ module _ (hidden : Table) (no_scope : same_table Scopes hidden ≡ false) (x : W
   symbols_past h qs y = ap (option_map number_of) (found_kept Symbols h (qs ++ y ∷ []))
 
 -- ---- further entries
-module _ (s s' : List Tree) (symbols more : List SymbolTree) where
-  pub arity_kept : (m : Option TypeName) → IfSome m (IsTypeNameMeaning s (length symbols)) → option_map (meaning_arity symbols) (option_map (meaning_at s) m) ≡ option_map (meaning_arity (symbols ++ more)) (option_map (meaning_at s') m)
-  arity_kept None h = refl
-  arity_kept (Some (stands.Entry k)) h = ap (λ (e : SymbolTree). Some e.vars) (sym (get_or-append symbols more int_symbol k h))
-  arity_kept (Some (stands.Alias vars ty)) h = refl
+module _ (s : List Tree) (symbols more : List SymbolTree) where
+  arity_on : (m : Option TypeName) → IfSome m (IsTypeNameMeaning s (length symbols)) → option_map (meaning_arity symbols) (option_map (meaning_at s) m) ≡ option_map (meaning_arity (symbols ++ more)) (option_map (meaning_at s) m)
+  arity_on None h = refl
+  arity_on (Some (stands.Entry k)) h = ap (λ (e : SymbolTree). Some e.vars) (sym (get_or-append symbols more int_symbol k h))
+  arity_on (Some (stands.Alias vars ty)) h = refl
+
+  pub arity_kept : (names : ScopeNames) → AreScopes s (length symbols) names → 0 < length symbols → (qs : List Word) (x : Word)
+      → option_map (meaning_arity symbols) (type_named (scope_at s names) qs x) ≡ option_map (meaning_arity (symbols ++ more)) (type_named (scope_at s names) qs x)
+  arity_kept names h p qs x =
+      subst (λ (m : Option MeaningTree). option_map (meaning_arity symbols) m ≡ option_map (meaning_arity (symbols ++ more)) m) (sym (type_named_at s names qs x))
+      (arity_on (type_named names qs x) (type_thing s (length symbols) names h p qs x))
 
   shape_kept : (m : Option ℕ) → IfSome m (λ (k : ℕ). k < length symbols) → option_map (shape symbols) m ≡ option_map (shape (symbols ++ more)) m
   shape_kept None h = refl
   shape_kept (Some k) h = let q : get_or symbols k int_symbol ≡ get_or (symbols ++ more) k int_symbol = sym (get_or-append symbols more int_symbol k h) in cc
 
-  pub alike_more : (names names' : ScopeNames) (vars : List Word) → AreScopes s (length symbols) names → 0 < length symbols
-      → ((qs : List Word) (x : Word) → type_named names' qs x ≡ type_named names qs x) → ((qs : List Word) (x : Word) → symbol_named names' qs x ≡ symbol_named names qs x)
-      → AreScopesAlike (over s symbols names vars) (over s' (symbols ++ more) names' vars)
+  -- in scopes whose further names are in other tables
+  pub alike_more : (names : ScopeNames) (names' : NamesTree) (vars : List Word) → AreScopes s (length symbols) names → 0 < length symbols
+      → ((qs : List Word) (x : Word) → type_named names' qs x ≡ type_named (scope_at s names) qs x) → ((qs : List Word) (x : Word) → symbol_named names' qs x ≡ symbol_named (scope_at s names) qs x)
+      → AreScopesAlike (over symbols (scope_at s names) vars) (over (symbols ++ more) names' vars)
   alike_more names names' vars h p types syms = record {
     forms = record {
-      types = λ qs x. arity_kept (type_named names qs x) (type_thing s (length symbols) names h p qs x) ∙ ap (λ (m : Option TypeName). option_map (meaning_arity (symbols ++ more)) (option_map (meaning_at s') m)) (sym (types qs x));
+      types = λ qs x. arity_kept names h p qs x ∙ ap (option_map (meaning_arity (symbols ++ more))) (sym (types qs x));
       vars = refl;
     };
-    names = λ qs x. shape_kept (symbol_named names qs x) (symbol_below s (length symbols) names h qs x) ∙ ap (option_map (shape (symbols ++ more))) (sym (syms qs x));
+    names = λ qs x. ap (option_map (shape symbols)) (symbol_named_at s names qs x)
+        ∙ (shape_kept (symbol_named names qs x) (symbol_below s (length symbols) names h qs x)
+        ∙ ap (option_map (shape (symbols ++ more))) (sym (syms qs x ∙ symbol_named_at s names qs x)));
   }
 
 -- ---- tuples

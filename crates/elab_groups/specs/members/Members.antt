@@ -1,25 +1,25 @@
 -- The members of a group of functions, predicates and constants: what they see, their signatures,
 -- the entries and the names that they make, and the first fault of the names that they use (Why3
 -- manual, "logical declarations"). They see each other.
-use Rattle.std.specs.Prelude.{◌≡◌, ℕ, suc, Bool, true, false, ◌||◌, List, [], ◌∷◌, ◌++◌, map, reverse, length, Option, Some, None, option_map}
+use Rattle.std.specs.Prelude.{ℕ, suc, Bool, true, false, ◌||◌, List, [], ◌∷◌, ◌++◌, map, reverse, length, Option, Some, None, option_map}
 use Rattle.std.specs.Option.{is_none, is_some}
 use Rattle.trees.specs.Tree.{Tree}
 use Rattle.tasks.specs.Task.{SymbolTree}
 use Rattle.tasks.specs.declared.signature.SymbolKind.{SymbolKind}
 use Rattle.tasks.specs.declared.signature.SymbolKind.TheVariants.{Function, Predicate}
-use Rattle.scopes.specs.Names.{ScopeNames, with_entry}
+use Rattle.scopes.specs.Names.{NamesOf, with_entry}
 use Rattle.scopes.specs.declared.Table.TheVariants.{Symbols}
 use Rattle.surface.specs.Lexeme.{Word}
 use Rattle.name_resolution.specs.Abstract.{TypeExpression, Expression}
 use Rattle.name_resolution.specs.declared.NamingFault.{NamingFault}
 use Rattle.name_resolution.specs.declared.NamingFault.TheVariants.{Duplicate}
 use Rattle.name_resolution.specs.Faults.{first_of, fault_if, type_fault, fault}
-use Rattle.name_resolution.specs.Where.{Where, place_of}
+use Rattle.name_resolution.specs.Where.{Where, NamesTree, place_of}
 use Rattle.name_resolution.specs.variables.Seen.{SeenTree, seen, type_seen}
 use Rattle.open_types.specs.Pieces.{type_at}
 use Rattle.elab_groups.specs.parts.Elaborated.{unseen}
 use Rattle.elab_groups.specs.parts.Declarations.{TokenName, Parameter, GroupMember, words, names_of_parameters, list_fault, params_seen, params_fault, own_variables, with_vars}
-use Rattle.elab_groups.specs.parts.Outcomes.{Setting, over, full_name}
+use Rattle.elab_groups.specs.parts.Outcomes.{Setting, over}
 
 -- ---- what is seen: of each member its parameters, its result and its body
 abbrev pub signature_seen : List Parameter → Option TypeExpression → SeenTree
@@ -92,20 +92,20 @@ signed_entries theory within (m ∷ ms) (g ∷ gs) =
 
 -- after these entries
 abbrev pub signature_trees : Setting → List SymbolTree → List GroupMember → List SignatureTree
-signature_trees c before ms = map (signature_of (over c.trees before c.scope [])) ms
+signature_trees c before ms = map (signature_of (over before c.scope [])) ms
 
 abbrev pub member_entries : Setting → List SymbolTree → List GroupMember → List SymbolTree
 member_entries c before ms = signed_entries c.theory c.within ms (signature_trees c before ms)
 
 -- the members' names stand for the entries from a place on
-abbrev pub with_members : ℕ → List GroupMember → ScopeNames → ScopeNames
+abbrev pub with_members : {A : Type 0} → ℕ → List GroupMember → NamesOf A → NamesOf A
 with_members k [] names = names
 with_members k (m ∷ ms) names =
     with_members (suc k) ms (with_entry Symbols m.called.name k true names)
 
 -- what names mean where the members' entries come after these, in scopes that have their names
-abbrev pub inside_group : Setting → List SymbolTree → List GroupMember → ScopeNames → Where
-inside_group c before ms names = over c.trees (before ++ member_entries c before ms) names []
+abbrev pub inside_group : Setting → List SymbolTree → List GroupMember → NamesTree → Where
+inside_group c before ms names = over (before ++ member_entries c before ms) names []
 
 -- ---- the first fault of names
 -- the name of a member that the scope declared or that is before it, and then its parameters

@@ -1,5 +1,5 @@
 -- Members in code, and what is made of them.
-use Rattle.std.specs.Prelude.{◌≡◌, List, [], ◌∷◌, ◌++◌, map, length, All, Option, Some, None, option_map, IfSome, slice_get}
+use Rattle.std.specs.Prelude.{◌≡◌, List, ◌∷◌, ◌++◌, map, length, All, Option, Some, None, option_map, IfSome, slice_get}
 use Rattle.std.specs.Option.{option_copied, is_none}
 use Rattle.std.specs.List.{AllByRecursion}
 use Rattle.trees.specs.Tree.{Tree}
@@ -63,7 +63,7 @@ pub record IsEntered (c : Setting) (before : List SymbolTree) (ms : List GroupMe
   pub ints : g'.ints ≡ g.ints
   pub int : slice_get before 0 ≡ Some int_symbol
   pub scoped : All IsScopedEntry before
-  pub outer : (vars : List Word) → IsScoped (over c.trees before c.scope vars)
+  pub outer : (vars : List Word) → IsScoped (over before c.scope vars)
 
 -- the types of a signature name only its own type variables
 pub record IsScopedSignature (g : SignatureTree) : Type 0 where

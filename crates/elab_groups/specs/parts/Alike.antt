@@ -4,11 +4,12 @@ use Rattle.std.specs.Prelude.{◌≡◌, ℕ, List, length, option_map}
 use Rattle.tasks.specs.Task.{SymbolTree, symbol_or}
 use Rattle.tasks.specs.declared.signature.SymbolKind.{SymbolKind}
 use Rattle.surface.specs.Lexeme.{Word}
-use Rattle.name_resolution.specs.Where.{Where, MeaningTree, Stands, Abbreviates}
+use Rattle.name_resolution.specs.Where.{Where, MeaningTree}
+use Rattle.scopes.specs.declared.Referent.TheVariants as stands
 
 abbrev pub meaning_arity : List SymbolTree → MeaningTree → ℕ
-meaning_arity symbols (Stands k) = (symbol_or symbols k).vars
-meaning_arity symbols (Abbreviates n t) = n
+meaning_arity symbols (stands.Entry k) = (symbol_or symbols k).vars
+meaning_arity symbols (stands.Alias n t) = n
 
 pub record EntryShape : Type 0 where
   pub kind : SymbolKind

@@ -8,9 +8,9 @@ use Rattle.tasks.specs.declared.signature.SymbolInfo.{SymbolInfo}
 use Rattle.tasks.specs.declared.signature.Signature.{Signature}
 use Rattle.tasks.specs.Task.{SymbolTree, int_symbol}
 use Rattle.tasks.specs.Meaning.{symbols_at}
-use Rattle.scopes.specs.Names.{ScopeNames, ScopeEntry, number_of, TypeName}
+use Rattle.scopes.specs.Names.{ScopeNames, ScopeEntry, TypeName}
 use Rattle.scopes.specs.declared.Table.{Table}
-use Rattle.scopes.specs.declared.Table.TheVariants.{Types, Symbols}
+use Rattle.scopes.specs.declared.Table.TheVariants.{Types, Symbols, Propositions, Scopes}
 use Rattle.scopes.specs.declared.Referent.TheVariants as stands
 pub use Rattle.tasks.specs.Entries.{type_entry, projection_name, projections, constructor_entries, builtin, is_tuple, tuple_from, tuple_in, tuple_entries, wanting_tuple, wanting_tuples}
 use Rattle.open_types.specs.Scoped.{IsScopedEntry}
@@ -36,10 +36,20 @@ IsTypeNameMeaning s count (stands.Entry k) = k < count
 IsTypeNameMeaning s count (stands.Alias vars ty) =
     HoldsType s (record { 0 = ty }) × TyVarsBelow vars (tree_at s (record { 0 = ty }))
 
+-- a name of another table stands for an entry, a proposition or a scope, by its number
+abbrev pub IsSymbolMeaning : ℕ → TypeName → Type 0
+IsSymbolMeaning count (stands.Entry k) = k < count
+IsSymbolMeaning count (stands.Alias vars ty) = ⊥
+
+abbrev pub IsNumber : TypeName → Type 0
+IsNumber (stands.Entry k) = Unit {0}
+IsNumber (stands.Alias vars ty) = ⊥
+
 abbrev pub IsThing : List Tree → ℕ → Table → TypeName → Type 0
 IsThing s count Types thing = IsTypeNameMeaning s count thing
-IsThing s count Symbols thing = number_of thing < count
-IsThing s count _ thing = Unit {0}
+IsThing s count Symbols thing = IsSymbolMeaning count thing
+IsThing s count Propositions thing = IsNumber thing
+IsThing s count Scopes thing = IsNumber thing
 
 abbrev pub IsEntry : List Tree → ℕ → ScopeEntry → Type 0
 IsEntry s count e = IsThing s count e.table e.thing

@@ -1,17 +1,17 @@
 -- What the elaboration of a declaration gives where it is, or its first fault (Why3 manual,
 -- "logical declarations"). Each kind of declaration says by these what it makes.
-use Rattle.std.specs.Prelude.{◌≡◌, ℕ, Bool, true, All, List, ◌++◌, map, length, Option, Some, None, option_map}
+use Rattle.std.specs.Prelude.{◌≡◌, ℕ, Bool, true, All, List, ◌++◌, map, length, Option, Some, None}
 use Rattle.tasks.specs.trees.Tree.{Tree, Leaf, HTyRigid}
 use Rattle.tasks.specs.Task.{SymbolTree, DeclarationTree}
 use Rattle.tasks.specs.Meaning.{symbols_at, declarations_at, DeclHeld}
 use Rattle.tasks.specs.declared.signature.Signature.{Signature}
-use Rattle.scopes.specs.Names.{ScopeNames, is_declared, entries_of, innermost}
+use Rattle.scopes.specs.Names.{NamesOf, ScopeNames, is_declared, entries_of, innermost}
 use Rattle.scopes.specs.declared.Table.{Table}
 use Rattle.surface.specs.Lexeme.{Word}
 use Rattle.name_resolution.specs.declared.NamingFault.{NamingFault}
 use Rattle.name_resolution.specs.declared.NamingFault.TheVariants as names
-use Rattle.name_resolution.specs.Naming.{meaning_at, type_named, symbol_named}
-use Rattle.name_resolution.specs.Where.{Where}
+use Rattle.name_resolution.specs.Naming.{scope_at, type_named, symbol_named}
+use Rattle.name_resolution.specs.Where.{Where, NamesTree}
 use Rattle.name_resolution.specs.variables.Seen.{SeenTree}
 use Rattle.open_types.specs.Patterns.{Notes}
 use Rattle.open_types.specs.Drafts.{match_at, MatchHeld}
@@ -25,50 +25,50 @@ use Rattle.elab_groups.specs.parts.Entries.{tuple_in, wanting_tuples, IsSignatur
 use Rattle.elab_groups.specs.parts.Declarations.{TokenName}
 
 -- where a declaration stands: its theory's path, the names of the open scopes, its number, the
--- store, the signature and the scopes
+-- signature and the scopes
 pub record Setting : Type 0 where
   pub theory : Word
   pub within : Word
   pub decl : ℕ
-  pub trees : List Tree
   pub symbols : List SymbolTree
-  pub scope : ScopeNames
+  pub scope : NamesTree
 
 -- what it gives: further entries, the scopes with the names that it makes, declarations, the
 -- entries of its rigid type variables, and its matches in reading order
 pub record Outcome : Type 0 where
   pub symbols : List SymbolTree
-  pub scope : ScopeNames
+  pub scope : NamesTree
   pub decls : List DeclarationTree
   pub rigid : List ℕ
   pub matches : List (ℕ × List Tree)
 
 -- what names mean over a signature
-abbrev pub over : List Tree → List SymbolTree → ScopeNames → List Word → Where
-over s symbols names vars = record {
-  symbols = symbols;
-  types = λ qs x. option_map (meaning_at s) (type_named names qs x);
-  names = symbol_named names;
-  tuples = tuple_in symbols;
-  vars = vars;
-}
+abbrev pub over : List SymbolTree → NamesTree → List Word → Where
+over symbols names vars =
+    record {
+      symbols = symbols;
+      types = type_named names;
+      names = symbol_named names;
+      tuples = tuple_in symbols;
+      vars = vars;
+    }
 
 -- before the declaration
 abbrev pub around : Setting → List Word → Where
-around c vars = over c.trees c.symbols c.scope vars
+around c vars = over c.symbols c.scope vars
 
 -- with the constructors of the tuples that are seen in it
 abbrev pub tuples_wanting : Setting → SeenTree → List SymbolTree
 tuples_wanting c s = wanting_tuples c.symbols s.widths
 
 abbrev pub where_tuples_are : Setting → SeenTree → Where
-where_tuples_are c s = over c.trees (c.symbols ++ tuples_wanting c s) c.scope s.vars
+where_tuples_are c s = over (c.symbols ++ tuples_wanting c s) c.scope s.vars
 
 abbrev pub full_name : Setting → TokenName → Word
 full_name c x = c.within ++ x.name
 
 -- whether the innermost scope declared a name in a table
-abbrev pub declared_in : ScopeNames → Table → Word → Bool
+abbrev pub declared_in : {A : Type 0} → NamesOf A → Table → Word → Bool
 declared_in names t x = is_declared t x (entries_of names (innermost names))
 
 -- a name is refused for want of memory, or where it is declared
@@ -96,7 +96,7 @@ pub record IsElaboratedAs (Is : Outcome → Type 0) (first : Option NamingFault)
   pub named : first ≡ None
   pub symbols_are : symbols_at s' g'.symbols ≡ symbols ++ outcome.symbols
   pub ints : g'.ints ≡ g.ints
-  pub scope : scope' ≡ outcome.scope
+  pub scope : scope_at s' scope' ≡ outcome.scope
   pub decls : declarations_at s' made.decls ≡ outcome.decls
   pub rigid : made.rigid ≡ outcome.rigid
   pub matches : map (match_at s') made.matches ≡ outcome.matches
@@ -114,10 +114,8 @@ setting p s g names = record {
   theory = p.theory.now;
   within = p.within.now;
   decl = p.decl;
-  trees =
-      s;
   symbols = symbols_at s g.symbols;
-  scope = names;
+  scope = scope_at s names;
 }
 
 abbrev pub setting_where : Word → Word → ℕ → List Tree → Signature → ScopeNames → Setting
@@ -126,10 +124,8 @@ setting_where theory within at s g names =
       theory = theory;
       within = within;
       decl = at;
-      trees = s;
-      symbols =
-          symbols_at s g.symbols;
-      scope = names;
+      symbols = symbols_at s g.symbols;
+      scope = scope_at s names;
     }
 
 abbrev pub rigid_types : List ℕ → List Tree

@@ -3,7 +3,7 @@ ghost use Rattle.std.specs.Prelude.{◌≡◌, ◌++◌, ◌∷◌, [], ℕ, Lis
 ghost use Rattle.trees.specs.Tree.{Tree};
 ghost use Rattle.trees.specs.Node.{Grows};
 ghost use Rattle.tasks.specs.Meaning.{symbols_at};
-ghost use Rattle.name_resolution.specs.Naming.{where_at};
+ghost use Rattle.name_resolution.specs.Naming.{where_at, scope_at};
 ghost use Rattle.open_types.specs.Drafts.{SymbolTyped, WorldHeld};
 ghost use Rattle.elab_groups.specs.parts.Entries.{IsSignature, AreScopes, wanting_tuples};
 ghost use Rattle.elab_groups.specs.parts.Outcomes.{over, setting};
@@ -100,8 +100,8 @@ fn sign_members(
     requires scopes { AreScopes store.old (length sig.now.symbols) scope.now }
     ensures held { IfOk result (λ list. All (SignedHeld store.new) list.items) }
     ensures signed { IfOk result (λ list. map (signed_at store.new) list.items ≡ map
-        (signature_of (over store.old (symbols_at store.old sig.now.symbols) scope.now []))
-        (members_at members.now)) }
+        (signature_of (over (symbols_at store.old sig.now.symbols)
+        (scope_at store.old scope.now) [])) (members_at members.now)) }
     ensures grows { Grows store.old store.new }
 {
     let world = world_over(sig, scope, &[], true);

@@ -6,7 +6,7 @@ ghost use Rattle.tasks.specs.trees.Tree.{Tree};
 ghost use Rattle.tasks.specs.Meaning.{symbols_at};
 ghost use Rattle.name_resolution.specs.Abstract.{texts_of_names};
 ghost use Rattle.name_resolution.specs.Where.{place_of};
-ghost use Rattle.name_resolution.specs.Naming.{where_at};
+ghost use Rattle.name_resolution.specs.Naming.{where_at, scope_at};
 ghost use Rattle.name_resolution.specs.declared.NamingFault.TheVariants.{Duplicate};
 ghost use Rattle.open_types.specs.Scoped.{IsScoped};
 ghost use Rattle.open_types.specs.Drafts.{WorldHeld};
@@ -85,8 +85,8 @@ pub fn world_over<'a>(
     vars: &'a [Text],
     new_vars: bool,
 ) -> World<'a>
-    ensures names { (s : List Tree) → where_at s result ≡ over s (symbols_at s sig.now.symbols)
-        scope.now vars.now }
+    ensures names { (s : List Tree) → where_at s result ≡ over (symbols_at s sig.now.symbols)
+        (scope_at s scope.now) vars.now }
     ensures open { result.new_vars ≡ new_vars }
     ensures vars { result.vars.now ≡ vars.now }
     ensures held { (s : List Tree) → IsSignature s sig.now.symbols → AreScopes s

@@ -1,12 +1,11 @@
-use Rattle.std.proofs.Common.{◌≡◌, ℕ, ◌+◌, ◌++◌, ◌∷◌, [], List, map, length, sym, ap, subst, ◌∙◌, arith}
+use Rattle.std.proofs.Common.{◌≡◌, ◌++◌, ◌∷◌, [], List, map, length, sym, ap, subst, arith}
 use Rattle.std.proofs.lemmas.Result.{on_ok_weaker}
-use Rattle.tasks.specs.trees.declared.TermId.{TermId}
 use Rattle.name_resolution.specs.Naming.{where_at}
 use Rattle.name_resolution.specs.Where.{Where}
 use Rattle.open_types.specs.Pieces.{NotedTree, unknown_after}
 use Rattle.open_types.proofs.Growing.{world_stays, world_grows}
 use Rattle.open_types.proofs.Noting.{next, no_elements}
-use Rattle.elab_groups.proofs.parts.Putting.{all_first, all_rest, held_more}
+use Rattle.elab_groups.proofs.parts.Putting.{all_rest, held_more}
 use Rattle.elab_groups.specs.members.Members.{SignatureTree}
 use Rattle.elab_groups.specs.members.Sources.{member_at, members_at, signed_at, SignedHeld, AreResolved}
 use Rattle.elab_groups.proofs.members.SignaturesHeld.{all_signed_stay, all_signed_grow}

@@ -1,4 +1,4 @@
-use Rattle.std.proofs.Common.{◌≡◌, ◌++◌, [], List, true, false, None, Some, Option, option_map, map, reverse, length, refl, sym, ap, ◌∙◌}
+use Rattle.std.proofs.Common.{◌≡◌, ◌++◌, [], List, true, false, None, Some, map, reverse, length, refl, sym, ap, ◌∙◌}
 use Rattle.std.specs.List.{All}
 use Rattle.std.specs.Option.{is_some, is_none}
 use Rattle.std.proofs.lemmas.List.{append-nil}
@@ -7,7 +7,6 @@ use Rattle.std.proofs.lemmas.Result.{IfOk-weaker}
 use Rattle.tasks.specs.trees.declared.TermId.{TermId}
 use Rattle.tasks.specs.trees.Node.{tree_at}
 use Rattle.tasks.specs.trees.Sorts.{sort_of}
-use Rattle.tasks.specs.Meaning.{trees_at}
 use Rattle.name_resolution.specs.surface.Lexeme.{Word}
 use Rattle.name_resolution.specs.Abstract.{expression_of}
 use Rattle.name_resolution.specs.Faults.{fault}

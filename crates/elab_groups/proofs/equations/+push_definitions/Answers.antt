@@ -1,7 +1,7 @@
-use Rattle.std.proofs.Common.{◌≡◌, ℕ, ◌+◌, ◌++◌, ◌∷◌, [], List, suc, map, length, sym, ap, ◌∙◌, arith, append-nil}
+use Rattle.std.proofs.Common.{◌≡◌, ◌++◌, [], List, suc, map, length, sym, ap, ◌∙◌, arith, append-nil}
 use Rattle.std.proofs.lemmas.Result.{on_ok_weaker}
 use Rattle.tasks.specs.trees.Tree.{Tree}
-use Rattle.tasks.specs.trees.Node.{tree_at, Holds}
+use Rattle.tasks.specs.trees.Node.{tree_at}
 use Rattle.tasks.specs.Task.{DefinitionTree}
 use Rattle.tasks.specs.Meaning.{trees_at, definition_at}
 use Rattle.tasks.specs.Equations.{for_all}

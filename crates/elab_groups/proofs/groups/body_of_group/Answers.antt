@@ -1,4 +1,4 @@
-use Rattle.std.proofs.Common.{◌≡◌, List, map, true, sym, ap, ◌∙◌}
+use Rattle.std.proofs.Common.{◌≡◌, map, true, sym, ap, ◌∙◌}
 use Rattle.std.specs.Option.{is_some}
 use Rattle.tasks.specs.Task.{Defines}
 use Rattle.tasks.specs.Meaning.{trees_at}

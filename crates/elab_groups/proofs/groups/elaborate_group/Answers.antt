@@ -1,11 +1,9 @@
 use Rattle.std.proofs.Common.{◌≡◌, ℕ, ◌++◌, [], List, None, Err, map, length, sym, ap, subst, ◌∙◌}
 use Rattle.std.proofs.Math.ListN.{length-map}
-use Rattle.tasks.specs.trees.Tree.{Tree}
 use Rattle.tasks.specs.Meaning.{symbols_at}
 use Rattle.name_resolution.specs.scopes.declared.Table.TheVariants.{Symbols}
 use Rattle.name_resolution.specs.scopes.Names.{ScopeNames}
-use Rattle.name_resolution.specs.surface.Lexeme.{Word}
-use Rattle.name_resolution.specs.Naming.{where_at, Tells}
+use Rattle.name_resolution.specs.Naming.{where_at, scope_at, Tells}
 use Rattle.name_resolution.specs.Where.{Where}
 use Rattle.name_resolution.specs.variables.Seen.{SeenTree}
 use Rattle.elab_groups.specs.parts.Declarations.{made_by_members, made_fault}
@@ -37,10 +35,10 @@ type_group-requires-clause-world c =
     let e : IsEntered st (before_group st ms) ms g s1 g1 it = subst (λ (ws : List ℕ). IsEntered st (symbols_at s g.symbols ++ wanting_tuples (symbols_at s g.symbols) ws) ms g s1 g1 it) widths c.in_ok-entered.ensures.entered in
     let after : c.declare_members.new.scope ≡ with_members it.number ms names = c.in-Ok.ensures.ok in
     let scopes : AreScopes s1 (length g1.symbols) c.declare_members.new.scope = subst (AreScopes s1 (length g1.symbols)) (sym after) (scopes_after p s s1 grows g g1 names ms it c.requires.signature c.requires.scopes e) in
-    let free : made_fault (declared_in names) [] (made_by_members ms) ≡ None = made_told names ms ∙ (rw c.new-before.ensures.items at c.in-Ok.ensures.told) in
+    let free : made_fault (declared_in (scope_at s names)) [] (made_by_members ms) ≡ None = made_told s names ms ∙ (rw c.new-before.ensures.items at c.in-Ok.ensures.told) in
     let world = c.world_over-world.result in
     let is : where_at s1 world ≡ within_group st ms =
-    c.world_over-world.ensures.names s1 ∙ (ap (λ (ns : ScopeNames). over s1 (symbols_at s1 g1.symbols) ns []) after ∙ inside_is p s s1 grows g g1 names ms it c.requires.signature c.requires.scopes e) in
+    c.world_over-world.ensures.names s1 ∙ (ap (λ (ns : ScopeNames). over (symbols_at s1 g1.symbols) (scope_at s1 ns) []) after ∙ inside_is p s s1 grows g g1 names ms it c.requires.signature c.requires.scopes e) in
     let right : group_used st ms ≡ None = subst (λ (w : Where). members_fault w ms ≡ None) is (c.in-Ok-check_members.ensures s1) in
     let signature = signature_after p s s1 grows g g1 names ms it c.requires.signature c.requires.scopes e right in
     c.world_over-world.ensures.held s1 signature scopes
@@ -62,10 +60,10 @@ type_group-requires-clause-scoped c =
     let e : IsEntered st (before_group st ms) ms g s1 g1 it = subst (λ (ws : List ℕ). IsEntered st (symbols_at s g.symbols ++ wanting_tuples (symbols_at s g.symbols) ws) ms g s1 g1 it) widths c.in_ok-entered.ensures.entered in
     let after : c.declare_members.new.scope ≡ with_members it.number ms names = c.in-Ok.ensures.ok in
     let scopes : AreScopes s1 (length g1.symbols) c.declare_members.new.scope = subst (AreScopes s1 (length g1.symbols)) (sym after) (scopes_after p s s1 grows g g1 names ms it c.requires.signature c.requires.scopes e) in
-    let free : made_fault (declared_in names) [] (made_by_members ms) ≡ None = made_told names ms ∙ (rw c.new-before.ensures.items at c.in-Ok.ensures.told) in
+    let free : made_fault (declared_in (scope_at s names)) [] (made_by_members ms) ≡ None = made_told s names ms ∙ (rw c.new-before.ensures.items at c.in-Ok.ensures.told) in
     let world = c.world_over-world.result in
     let is : where_at s1 world ≡ within_group st ms =
-    c.world_over-world.ensures.names s1 ∙ (ap (λ (ns : ScopeNames). over s1 (symbols_at s1 g1.symbols) ns []) after ∙ inside_is p s s1 grows g g1 names ms it c.requires.signature c.requires.scopes e) in
+    c.world_over-world.ensures.names s1 ∙ (ap (λ (ns : ScopeNames). over (symbols_at s1 g1.symbols) (scope_at s1 ns) []) after ∙ inside_is p s s1 grows g g1 names ms it c.requires.signature c.requires.scopes e) in
     let right : group_used st ms ≡ None = subst (λ (w : Where). members_fault w ms ≡ None) is (c.in-Ok-check_members.ensures s1) in
     let signature = signature_after p s s1 grows g g1 names ms it c.requires.signature c.requires.scopes e right in
     c.world_over-world.ensures.scoped s1 signature scopes
@@ -90,10 +88,10 @@ type_group-requires-clause-own c =
     let e : IsEntered st (before_group st ms) ms g s1 g1 it = subst (λ (ws : List ℕ). IsEntered st (symbols_at s g.symbols ++ wanting_tuples (symbols_at s g.symbols) ws) ms g s1 g1 it) widths c.in_ok-entered.ensures.entered in
     let after : c.declare_members.new.scope ≡ with_members it.number ms names = c.in-Ok.ensures.ok in
     let scopes : AreScopes s1 (length g1.symbols) c.declare_members.new.scope = subst (AreScopes s1 (length g1.symbols)) (sym after) (scopes_after p s s1 grows g g1 names ms it c.requires.signature c.requires.scopes e) in
-    let free : made_fault (declared_in names) [] (made_by_members ms) ≡ None = made_told names ms ∙ (rw c.new-before.ensures.items at c.in-Ok.ensures.told) in
+    let free : made_fault (declared_in (scope_at s names)) [] (made_by_members ms) ≡ None = made_told s names ms ∙ (rw c.new-before.ensures.items at c.in-Ok.ensures.told) in
     let world = c.world_over-world.result in
     let is : where_at s1 world ≡ within_group st ms =
-    c.world_over-world.ensures.names s1 ∙ (ap (λ (ns : ScopeNames). over s1 (symbols_at s1 g1.symbols) ns []) after ∙ inside_is p s s1 grows g g1 names ms it c.requires.signature c.requires.scopes e) in
+    c.world_over-world.ensures.names s1 ∙ (ap (λ (ns : ScopeNames). over (symbols_at s1 g1.symbols) (scope_at s1 ns) []) after ∙ inside_is p s s1 grows g g1 names ms it c.requires.signature c.requires.scopes e) in
     let right : group_used st ms ≡ None = subst (λ (w : Where). members_fault w ms ≡ None) is (c.in-Ok-check_members.ensures s1) in
     let signature = signature_after p s s1 grows g g1 names ms it c.requires.signature c.requires.scopes e right in
     own_after p s s1 grows g g1 names ms it c.requires.signature c.requires.scopes e right
@@ -115,10 +113,10 @@ type_group-requires-clause-resolved c =
     let e : IsEntered st (before_group st ms) ms g s1 g1 it = subst (λ (ws : List ℕ). IsEntered st (symbols_at s g.symbols ++ wanting_tuples (symbols_at s g.symbols) ws) ms g s1 g1 it) widths c.in_ok-entered.ensures.entered in
     let after : c.declare_members.new.scope ≡ with_members it.number ms names = c.in-Ok.ensures.ok in
     let scopes : AreScopes s1 (length g1.symbols) c.declare_members.new.scope = subst (AreScopes s1 (length g1.symbols)) (sym after) (scopes_after p s s1 grows g g1 names ms it c.requires.signature c.requires.scopes e) in
-    let free : made_fault (declared_in names) [] (made_by_members ms) ≡ None = made_told names ms ∙ (rw c.new-before.ensures.items at c.in-Ok.ensures.told) in
+    let free : made_fault (declared_in (scope_at s names)) [] (made_by_members ms) ≡ None = made_told s names ms ∙ (rw c.new-before.ensures.items at c.in-Ok.ensures.told) in
     let world = c.world_over-world.result in
     let is : where_at s1 world ≡ within_group st ms =
-    c.world_over-world.ensures.names s1 ∙ (ap (λ (ns : ScopeNames). over s1 (symbols_at s1 g1.symbols) ns []) after ∙ inside_is p s s1 grows g g1 names ms it c.requires.signature c.requires.scopes e) in
+    c.world_over-world.ensures.names s1 ∙ (ap (λ (ns : ScopeNames). over (symbols_at s1 g1.symbols) (scope_at s1 ns) []) after ∙ inside_is p s s1 grows g g1 names ms it c.requires.signature c.requires.scopes e) in
     let right : group_used st ms ≡ None = subst (λ (w : Where). members_fault w ms ≡ None) is (c.in-Ok-check_members.ensures s1) in
     let signature = signature_after p s s1 grows g g1 names ms it c.requires.signature c.requires.scopes e right in
     resolved_after p s s1 grows g g1 names ms it c.requires.signature c.requires.scopes e right (where_at s1 world) is
@@ -140,10 +138,10 @@ type_group-requires-clause-each c =
     let e : IsEntered st (before_group st ms) ms g s1 g1 it = subst (λ (ws : List ℕ). IsEntered st (symbols_at s g.symbols ++ wanting_tuples (symbols_at s g.symbols) ws) ms g s1 g1 it) widths c.in_ok-entered.ensures.entered in
     let after : c.declare_members.new.scope ≡ with_members it.number ms names = c.in-Ok.ensures.ok in
     let scopes : AreScopes s1 (length g1.symbols) c.declare_members.new.scope = subst (AreScopes s1 (length g1.symbols)) (sym after) (scopes_after p s s1 grows g g1 names ms it c.requires.signature c.requires.scopes e) in
-    let free : made_fault (declared_in names) [] (made_by_members ms) ≡ None = made_told names ms ∙ (rw c.new-before.ensures.items at c.in-Ok.ensures.told) in
+    let free : made_fault (declared_in (scope_at s names)) [] (made_by_members ms) ≡ None = made_told s names ms ∙ (rw c.new-before.ensures.items at c.in-Ok.ensures.told) in
     let world = c.world_over-world.result in
     let is : where_at s1 world ≡ within_group st ms =
-    c.world_over-world.ensures.names s1 ∙ (ap (λ (ns : ScopeNames). over s1 (symbols_at s1 g1.symbols) ns []) after ∙ inside_is p s s1 grows g g1 names ms it c.requires.signature c.requires.scopes e) in
+    c.world_over-world.ensures.names s1 ∙ (ap (λ (ns : ScopeNames). over (symbols_at s1 g1.symbols) (scope_at s1 ns) []) after ∙ inside_is p s s1 grows g g1 names ms it c.requires.signature c.requires.scopes e) in
     each p s s1 grows g g1 names ms it c.requires.signature c.requires.scopes e ∙ length-map c.args.members.now member_at
 
 pub returns-in-Ok-type_group-clause-ok : goal.returns-in-Ok-type_group-clause-ok
@@ -163,10 +161,10 @@ returns-in-Ok-type_group-clause-ok c =
     let e : IsEntered st (before_group st ms) ms g s1 g1 it = subst (λ (ws : List ℕ). IsEntered st (symbols_at s g.symbols ++ wanting_tuples (symbols_at s g.symbols) ws) ms g s1 g1 it) widths c.in_ok-entered.ensures.entered in
     let after : c.declare_members.new.scope ≡ with_members it.number ms names = c.in-Ok.ensures.ok in
     let scopes : AreScopes s1 (length g1.symbols) c.declare_members.new.scope = subst (AreScopes s1 (length g1.symbols)) (sym after) (scopes_after p s s1 grows g g1 names ms it c.requires.signature c.requires.scopes e) in
-    let free : made_fault (declared_in names) [] (made_by_members ms) ≡ None = made_told names ms ∙ (rw c.new-before.ensures.items at c.in-Ok.ensures.told) in
+    let free : made_fault (declared_in (scope_at s names)) [] (made_by_members ms) ≡ None = made_told s names ms ∙ (rw c.new-before.ensures.items at c.in-Ok.ensures.told) in
     let world = c.world_over-world.result in
     let is : where_at s1 world ≡ within_group st ms =
-    c.world_over-world.ensures.names s1 ∙ (ap (λ (ns : ScopeNames). over s1 (symbols_at s1 g1.symbols) ns []) after ∙ inside_is p s s1 grows g g1 names ms it c.requires.signature c.requires.scopes e) in
+    c.world_over-world.ensures.names s1 ∙ (ap (λ (ns : ScopeNames). over (symbols_at s1 g1.symbols) (scope_at s1 ns) []) after ∙ inside_is p s s1 grows g g1 names ms it c.requires.signature c.requires.scopes e) in
     let right : group_used st ms ≡ None = subst (λ (w : Where). members_fault w ms ≡ None) is (c.in-Ok-check_members.ensures s1) in
     let signature = signature_after p s s1 grows g g1 names ms it c.requires.signature c.requires.scopes e right in
     let s2 = c.type_group.new.store in
@@ -191,10 +189,10 @@ returns-in-Ok-type_group-clause-kept c =
     let e : IsEntered st (before_group st ms) ms g s1 g1 it = subst (λ (ws : List ℕ). IsEntered st (symbols_at s g.symbols ++ wanting_tuples (symbols_at s g.symbols) ws) ms g s1 g1 it) widths c.in_ok-entered.ensures.entered in
     let after : c.declare_members.new.scope ≡ with_members it.number ms names = c.in-Ok.ensures.ok in
     let scopes : AreScopes s1 (length g1.symbols) c.declare_members.new.scope = subst (AreScopes s1 (length g1.symbols)) (sym after) (scopes_after p s s1 grows g g1 names ms it c.requires.signature c.requires.scopes e) in
-    let free : made_fault (declared_in names) [] (made_by_members ms) ≡ None = made_told names ms ∙ (rw c.new-before.ensures.items at c.in-Ok.ensures.told) in
+    let free : made_fault (declared_in (scope_at s names)) [] (made_by_members ms) ≡ None = made_told s names ms ∙ (rw c.new-before.ensures.items at c.in-Ok.ensures.told) in
     let world = c.world_over-world.result in
     let is : where_at s1 world ≡ within_group st ms =
-    c.world_over-world.ensures.names s1 ∙ (ap (λ (ns : ScopeNames). over s1 (symbols_at s1 g1.symbols) ns []) after ∙ inside_is p s s1 grows g g1 names ms it c.requires.signature c.requires.scopes e) in
+    c.world_over-world.ensures.names s1 ∙ (ap (λ (ns : ScopeNames). over (symbols_at s1 g1.symbols) (scope_at s1 ns) []) after ∙ inside_is p s s1 grows g g1 names ms it c.requires.signature c.requires.scopes e) in
     let right : group_used st ms ≡ None = subst (λ (w : Where). members_fault w ms ≡ None) is (c.in-Ok-check_members.ensures s1) in
     let signature = signature_after p s s1 grows g g1 names ms it c.requires.signature c.requires.scopes e right in
     let s2 = c.type_group.new.store in
@@ -218,10 +216,10 @@ returns-in-Ok-check_members-clause-err c =
     let e : IsEntered st (before_group st ms) ms g s1 g1 it = subst (λ (ws : List ℕ). IsEntered st (symbols_at s g.symbols ++ wanting_tuples (symbols_at s g.symbols) ws) ms g s1 g1 it) widths c.in_ok-entered.ensures.entered in
     let after : c.declare_members.new.scope ≡ with_members it.number ms names = c.in-Ok.ensures.ok in
     let scopes : AreScopes s1 (length g1.symbols) c.declare_members.new.scope = subst (AreScopes s1 (length g1.symbols)) (sym after) (scopes_after p s s1 grows g g1 names ms it c.requires.signature c.requires.scopes e) in
-    let free : made_fault (declared_in names) [] (made_by_members ms) ≡ None = made_told names ms ∙ (rw c.new-before.ensures.items at c.in-Ok.ensures.told) in
+    let free : made_fault (declared_in (scope_at s names)) [] (made_by_members ms) ≡ None = made_told s names ms ∙ (rw c.new-before.ensures.items at c.in-Ok.ensures.told) in
     let world = c.world_over-world.result in
     let is : where_at s1 world ≡ within_group st ms =
-    c.world_over-world.ensures.names s1 ∙ (ap (λ (ns : ScopeNames). over s1 (symbols_at s1 g1.symbols) ns []) after ∙ inside_is p s s1 grows g g1 names ms it c.requires.signature c.requires.scopes e) in
+    c.world_over-world.ensures.names s1 ∙ (ap (λ (ns : ScopeNames). over (symbols_at s1 g1.symbols) (scope_at s1 ns) []) after ∙ inside_is p s s1 grows g g1 names ms it c.requires.signature c.requires.scopes e) in
     let right : group_used st ms ≡ None = subst (λ (w : Where). members_fault w ms ≡ None) is (c.in-Ok-check_members.ensures s1) in
     let signature = signature_after p s s1 grows g g1 names ms it c.requires.signature c.requires.scopes e right in
     let f = c.in-Err-type_group.fault in
@@ -230,7 +228,7 @@ returns-in-Ok-check_members-clause-err c =
     subst (λ (gs : List SignatureTree). IsTypingFault (most_variables gs) (pieces_notes (bodies_pieces (within_group st ms) ms gs)) f) e.signed
     (subst (λ (w : Where). IsTypingFault (most_variables (map (signed_at s1) it.list.items)) (pieces_notes (bodies_pieces w ms (map (signed_at s1) it.list.items))) f) is c.in-Err-type_group.ensures.err) in
     subst (IsGroupRefusal st ms) (sym c.typing_fault.ensures)
-    (typing_refusal p.decl r (group_notes st ms) (group_fault st ms) f (no_fault (made_fault (declared_in names) [] (made_by_members ms)) (group_used st ms) free right) fault)
+    (typing_refusal p.decl r (group_notes st ms) (group_fault st ms) f (no_fault (made_fault (declared_in (scope_at s names)) [] (made_by_members ms)) (group_used st ms) free right) fault)
 
 pub returns-in-Ok-clause-err : goal.returns-in-Ok-clause-err
 returns-in-Ok-clause-err c =
@@ -249,14 +247,14 @@ returns-in-Ok-clause-err c =
     let e : IsEntered st (before_group st ms) ms g s1 g1 it = subst (λ (ws : List ℕ). IsEntered st (symbols_at s g.symbols ++ wanting_tuples (symbols_at s g.symbols) ws) ms g s1 g1 it) widths c.in_ok-entered.ensures.entered in
     let after : c.declare_members.new.scope ≡ with_members it.number ms names = c.in-Ok.ensures.ok in
     let scopes : AreScopes s1 (length g1.symbols) c.declare_members.new.scope = subst (AreScopes s1 (length g1.symbols)) (sym after) (scopes_after p s s1 grows g g1 names ms it c.requires.signature c.requires.scopes e) in
-    let free : made_fault (declared_in names) [] (made_by_members ms) ≡ None = made_told names ms ∙ (rw c.new-before.ensures.items at c.in-Ok.ensures.told) in
+    let free : made_fault (declared_in (scope_at s names)) [] (made_by_members ms) ≡ None = made_told s names ms ∙ (rw c.new-before.ensures.items at c.in-Ok.ensures.told) in
     let world = c.world_over-world.result in
     let is : where_at s1 world ≡ within_group st ms =
-    c.world_over-world.ensures.names s1 ∙ (ap (λ (ns : ScopeNames). over s1 (symbols_at s1 g1.symbols) ns []) after ∙ inside_is p s s1 grows g g1 names ms it c.requires.signature c.requires.scopes e) in
+    c.world_over-world.ensures.names s1 ∙ (ap (λ (ns : ScopeNames). over (symbols_at s1 g1.symbols) (scope_at s1 ns) []) after ∙ inside_is p s s1 grows g g1 names ms it c.requires.signature c.requires.scopes e) in
     let f = c.in-Err-check_members.fault in
     let told : Tells (Err f) (group_used st ms) = subst (λ (w : Where). Tells (Err f) (members_fault w ms)) is (c.in-Err-check_members.ensures s1) in
     subst (IsGroupRefusal st ms) (sym c.naming_fault.ensures)
-    (used_refusal p.decl (most_variables (group_signatures st ms)) (group_notes st ms) (made_fault (declared_in names) [] (made_by_members ms)) (group_used st ms) f free told)
+    (used_refusal p.decl (most_variables (group_signatures st ms)) (group_notes st ms) (made_fault (declared_in (scope_at s names)) [] (made_by_members ms)) (group_used st ms) f free told)
 
 pub returns-clause-err : goal.returns-clause-err
 returns-clause-err c =
@@ -268,6 +266,6 @@ returns-clause-err c =
     let st = setting p s g names in
     let f = c.in-Err.fault in
     let members : Tells (Err f) (members_made (declared_in names Symbols) [] ms) = rw c.new-before.ensures.items at c.in-Err.ensures.told in
-    let told : Tells (Err f) (made_fault (declared_in names) [] (made_by_members ms)) = rw (made_told names ms) members in
+    let told : Tells (Err f) (made_fault (declared_in (scope_at s names)) [] (made_by_members ms)) = rw (made_told s names ms) members in
     subst (IsGroupRefusal st ms) (sym c.naming_fault-in-Err.ensures)
-    (made_refusal p.decl (most_variables (group_signatures st ms)) (group_notes st ms) (made_fault (declared_in names) [] (made_by_members ms)) (group_used st ms) f told)
+    (made_refusal p.decl (most_variables (group_signatures st ms)) (group_notes st ms) (made_fault (declared_in (scope_at s names)) [] (made_by_members ms)) (group_used st ms) f told)

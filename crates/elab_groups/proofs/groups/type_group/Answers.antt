@@ -8,7 +8,7 @@ use Rattle.elab_groups.proofs.parts.Putting.{matches_stay, matches_grow}
 use Rattle.elab_groups.proofs.parts.Solving.{if_err}
 use Rattle.elab_groups.specs.declared.members.signing.Signed.{Signed}
 use Rattle.elab_groups.specs.members.Members.{SignatureTree}
-use Rattle.elab_groups.specs.members.Sources.{members_at, signed_at, SignedHeld}
+use Rattle.elab_groups.specs.members.Sources.{members_at, signed_at}
 use Rattle.elab_groups.proofs.members.SignaturesHeld.{all_signed_stay, all_signed_grow}
 use Rattle.elab_groups.specs.Groups.{most_variables, bodies_pieces, pieces_notes, BodiesSolved, group_decls}
 use Rattle.elab_groups.proofs.groups.type_group.Goals as goal

@@ -1,11 +1,9 @@
-use Rattle.std.proofs.Common.{◌≡◌, ℕ, ◌≤◌, List, [], map, length, sym, ap, ◌∙◌}
+use Rattle.std.proofs.Common.{◌≡◌, List, [], map, length, sym, ap, ◌∙◌}
 use Rattle.std.proofs.Math.ListN.{length-map}
 use Rattle.std.proofs.lemmas.Result.{IfOk-weaker, IfErr-weaker}
-use Rattle.tasks.specs.trees.Tree.{Tree}
 use Rattle.tasks.specs.trees.Sorts.{sort_of}
 use Rattle.tasks.specs.Meaning.{trees_at}
 use Rattle.name_resolution.specs.Naming.{where_at}
-use Rattle.open_types.specs.Patterns.{Notes}
 use Rattle.open_types.specs.Pieces.{NotedTree}
 use Rattle.open_types.specs.Drafts.{match_at, notes_at}
 use Rattle.elab_groups.specs.parts.Elaborated.{IsTypingFault}

@@ -1,9 +1,9 @@
 use Rattle.std.proofs.Common.{◌≡◌, ◌++◌, List, [], map, length, slice_get, sym, ap, subst, ◌∙◌}
 use Rattle.std.proofs.Math.ListN.{length-map}
 use Rattle.std.specs.List.{All}
-use Rattle.trees.specs.Tree.{Tree}
 use Rattle.tasks.specs.Task.{SymbolTree}
 use Rattle.tasks.specs.Meaning.{symbol_at, symbols_at}
+use Rattle.name_resolution.specs.Naming.{scope_at}
 use Rattle.name_resolution.specs.Where.{Where}
 use Rattle.open_types.specs.Scoped.{IsScopedEntry}
 use Rattle.elab_groups.specs.parts.Entries.{wanting_tuples, IsExtended}
@@ -30,8 +30,8 @@ returns-clause-entered c =
     let before : List SymbolTree = symbols_at s g.symbols ++ tuples in
     let ext : IsExtended s g s1 g1 tuples = c.in_ok-push_tuples.ensures.entries in
     let ext2 : IsExtended s g s2 g1 tuples = extended_grows tuples c.sign_members.ensures.grows ext in
-    let is : over s1 (symbols_at s1 g1.symbols) names [] ≡ over s before names [] = over_extended s s1 grows g g1 tuples names c.requires.signature c.requires.scopes ext [] in
-    let trees : List SignatureTree = map (signature_of (over s before names [])) ms in
+    let is : over (symbols_at s1 g1.symbols) (scope_at s1 names) [] ≡ over before (scope_at s names) [] = over_extended s s1 grows g g1 tuples names c.requires.signature c.requires.scopes ext [] in
+    let trees : List SignatureTree = map (signature_of (over before (scope_at s names) [])) ms in
     let signed : map (signed_at s2) c.in_ok-list.list.items ≡ trees = c.in_ok-list.ensures.signed ∙ ap (λ (w : Where). map (signature_of w) ms) is in
     let entries = rw (c.as_slice.ensures.value, signed) at c.in_ok-push_entries.ensures.entries in
     record {
