@@ -16,7 +16,7 @@ use Rattle.surface.specs.declared.declarations.PropKind.{PropKind}
 use Rattle.name_resolution.specs.Abstract.{Expression}
 use Rattle.name_resolution.specs.declared.NamingFault.{NamingFault}
 use Rattle.name_resolution.specs.Faults.{fault}
-use Rattle.name_resolution.specs.Naming.{Tells}
+use Rattle.name_resolution.specs.Naming.{Tells, type_tree_at, scope_at}
 use Rattle.name_resolution.specs.Where.{Where}
 use Rattle.elab_groups.specs.open_types.Pieces.{NotedTree, piece}
 use Rattle.elab_groups.specs.name_resolution.variables.Seen.{SeenTree}
@@ -29,10 +29,13 @@ use Rattle.elab_groups.specs.parts.Declarations.{TokenName, proposition_declarat
 use Rattle.elab_groups.specs.parts.Entries.{IsExtended, AreScopes, wanting_tuples}
 use Rattle.elab_groups.specs.parts.Outcomes.{Setting, over, around, setting, declared_in, IsNameRefused, IsKept}
 use Rattle.elab_declarations.specs.Outcomes.{proposition_seen, proposition_piece, rigid_names, entry_numbers, said_as, schematic, IsTypedProposition, IsElaborated, IsRefusal, names_fault, notes_of, rigid_of}
+use Rattle.elab_groups.proofs.parts.AtScope.{entered_with}
+use Rattle.elab_groups.proofs.parts.Overs.{scope_stays}
 use Rattle.elab_groups.proofs.parts.Scopes.{scopes_grow, scopes_more}
 use Rattle.elab_groups.proofs.parts.Entering.{extended_both}
 use Rattle.elab_groups.proofs.parts.Keeping.{over_kept, length_extended}
 use Rattle.elab_groups.proofs.parts.Refused.{no_fault, name_refused, name_free, made_refusal, used_refusal, typing_refusal}
+use Rattle.elab_declarations.proofs.Over.{made_at, told_at}
 
 -- a proposition, whose name stands for its number in the scopes afterwards
 abbrev pub named_after : Place → ScopeNames → Word → ScopeNames
@@ -43,7 +46,7 @@ module _ (p : Place) (s : List Tree) (g : Signature) (names : ScopeNames) (k : P
   c = setting p s g names
 
   abbrev made_here : Option NamingFault
-  made_here = made_fault (declared_in names) [] (made_names (proposition_declaration k x e))
+  made_here = made_fault (declared_in (scope_at s names)) [] (made_names (proposition_declaration k x e))
 
   abbrev used_here : Option NamingFault
   used_here = fault (around c []) true [] true e
@@ -55,11 +58,11 @@ module _ (p : Place) (s : List Tree) (g : Signature) (names : ScopeNames) (k : P
   used_kept = ap (λ (w : Where). fault w true [] true e) (over_kept s (symbols_at s g.symbols) x.name (stands.Entry p.decl) names [])
 
   pub name_refusal : (f : NamingFault) → IsNameRefused (declared_in names Propositions x.name) x.at f → IsRefusal (setting p s g names) (proposition_declaration k x e) (elab_naming_fault p.decl f)
-  name_refusal f h = made_refusal p.decl (rigid_of c (proposition_declaration k x e)) (notes_of c (proposition_declaration k x e)) made_here used_here f (name_refused (declared_in names Propositions x.name) x.at f None h)
+  name_refusal f h = made_refusal p.decl (rigid_of c (proposition_declaration k x e)) (notes_of c (proposition_declaration k x e)) made_here used_here f (told_at s names (made_names (proposition_declaration k x e)) f (name_refused (declared_in names Propositions x.name) x.at f None h))
 
   module _ (free : declared_in names Propositions x.name ≡ false) where
-    made_free : made_fault (declared_in names) [] (made_names (proposition_declaration k x e)) ≡ None
-    made_free = name_free (declared_in names Propositions x.name) x.at None free
+    made_free : made_fault (declared_in (scope_at s names)) [] (made_names (proposition_declaration k x e)) ≡ None
+    made_free = made_at s names (made_names (proposition_declaration k x e)) ∙ name_free (declared_in names Propositions x.name) x.at None free
 
     pub use_refusal : (f : NamingFault) → Tells (Err f) (fault (around (setting p s g (named_after p names x.name)) []) true [] true e) → IsRefusal (setting p s g names) (proposition_declaration k x e) (elab_naming_fault p.decl f)
     use_refusal f h = used_refusal p.decl (rigid_of c (proposition_declaration k x e)) (notes_of c (proposition_declaration k x e)) made_here used_here f made_free (subst (λ (m : Option NamingFault). Tells (Err f) m) used_kept h)
@@ -72,12 +75,12 @@ module _ (p : Place) (s : List Tree) (g : Signature) (names : ScopeNames) (k : P
           → IsRefusal (setting p s g names) (proposition_declaration k x e) (elab_typing_fault p.decl f)
       type_refusal f h = typing_refusal p.decl (rigid_of c (proposition_declaration k x e)) (notes_of c (proposition_declaration k x e)) (names_fault c (proposition_declaration k x e)) f all_named (subst (λ (q : NotedTree). IsTypingFault (length (proposition_seen e).vars) q.notes f) piece_kept h)
 
-      pub elaborated : (s' : List Tree) (g' : Signature) (made : Elaborated) → IsTypedProposition p s g (named_after p names x.name) k x.name e s' g' made
+      pub elaborated : (s' : List Tree) (g' : Signature) (made : Elaborated) → Grows s s' → AreScopes s (length g.symbols) names → IsTypedProposition p s g (named_after p names x.name) k x.name e s' g' made
           → IsElaborated (setting p s g names) (proposition_declaration k x e) g s' g' (named_after p names x.name) made
-      elaborated s' g' made h = record {
+      elaborated s' g' made w a h = record {
         outcome = record {
           symbols = wanting_tuples (symbols_at s g.symbols) (proposition_seen e).widths ++ map rigid_symbol (rigid_names k (proposition_seen e).vars);
-          scope = named_after p names x.name;
+          scope = with_name Propositions x.name (stands.Entry p.decl) true (scope_at s names);
           decls = declarations_at s' made.decls;
           rigid = made.rigid;
           matches = map (match_at s') made.matches;
@@ -93,7 +96,9 @@ module _ (p : Place) (s : List Tree) (g : Signature) (names : ScopeNames) (k : P
         named = all_named;
         symbols_are = h.extended.symbols;
         ints = h.extended.ints;
-        scope = refl;
+        scope =
+            entered_with (type_tree_at s') Propositions x.name p.decl names
+            ∙ ap (with_name Propositions x.name (stands.Entry p.decl) true) (scope_stays s s' w (length g.symbols) names a);
         decls = refl;
         rigid = refl;
         matches = refl;
@@ -117,7 +122,7 @@ module _ (p : Place) (s s1 s2 : List Tree) (g g1 g2 : Signature) (names : ScopeN
   tuples sn = wanting_tuples (symbols_at s g.symbols) sn.widths
 
   abbrev piece_at : SeenTree → NotedTree
-  piece_at sn = piece (over s (symbols_at s g.symbols ++ tuples sn) names sn.vars) [] (length sn.vars) None e
+  piece_at sn = piece (over (symbols_at s g.symbols ++ tuples sn) (scope_at s names) sn.vars) [] (length sn.vars) None e
 
   placed : (sn : SeenTree) → IsExtended s g s1 g1 (tuples sn) → length (symbols_at s g.symbols ++ tuples sn) ≡ length g1.symbols
   placed sn h = length-append (symbols_at s g.symbols) (tuples sn) ∙ ap (λ (n : ℕ). n + length (tuples sn)) (length-map g.symbols (symbol_at s)) ∙ sym (length_extended (tuples sn) h)

@@ -24,7 +24,6 @@ here = record {
   theory = codes "T";
   within = codes "S.";
   decl = 3;
-  trees = [];
   symbols = int_symbol ∷ record { theory = codes "T"; name = codes "t"; kind = Kind; vars = 0; args = []; result = None } ∷ [];
   scope = with_entry Types (codes "t") 1 true empty_names;
 }

@@ -18,19 +18,23 @@ use Rattle.tasks.specs.declared.signature.Signature.{Signature}
 use Rattle.name_resolution.specs.scopes.declared.Table.TheVariants.{Types}
 use Rattle.name_resolution.specs.scopes.declared.Referent.TheVariants as stands
 use Rattle.name_resolution.specs.scopes.Names.{ScopeNames, with_name}
+use Rattle.name_resolution.proofs.scopes.Mapped.{named_with}
 use Rattle.name_resolution.specs.Abstract.{TypeExpression}
 use Rattle.name_resolution.specs.Faults.{form_fault}
-use Rattle.elab_groups.specs.open_types.Pieces.{type_at}
+use Rattle.name_resolution.specs.Naming.{type_tree_at, scope_at}
 use Rattle.elab_groups.specs.open_types.Drafts.{HoldsType, MatchHeld, match_at}
 use Rattle.elab_groups.specs.declared.parts.made.Elaborated.{Elaborated}
 use Rattle.elab_groups.specs.declared.parts.made.Place.{Place}
 use Rattle.elab_groups.specs.parts.Declarations.{TokenName, words, abstract_type, alias, made_names, made_fault}
 use Rattle.elab_groups.specs.parts.Entries.{type_entry, IsExtended, AreScopes, wanting_tuples}
-use Rattle.elab_groups.specs.parts.Outcomes.{over, around, setting, declared_in, IsKept}
-use Rattle.elab_declarations.specs.Outcomes.{type_outcome, alias_seen, IsElaborated}
+use Rattle.elab_groups.specs.parts.Outcomes.{around, setting, declared_in, IsKept}
+use Rattle.elab_declarations.specs.Outcomes.{type_outcome, alias_seen, aliased_type, alias_outcome, IsElaborated}
+use Rattle.elab_groups.proofs.parts.AtScope.{entered_with}
+use Rattle.elab_groups.proofs.parts.Overs.{scope_stays}
 use Rattle.elab_groups.proofs.parts.Scopes.{scopes_grow, scopes_more}
 use Rattle.elab_groups.proofs.parts.Refused.{no_fault}
 use Rattle.elab_groups.proofs.parts.Keeping.{length_extended}
+use Rattle.elab_declarations.proofs.Over.{made_at}
 
 -- the declaration of a type holds no tree
 body_held : (s : List Tree) (b : Body) (k : ℕ) → body_at s b ≡ MakesType k → BodyHeld s b
@@ -62,10 +66,10 @@ module _ (p : Place) (s : List Tree) (g g' : Signature) (names : ScopeNames) (x 
   type_elaborated free h d r m = record {
     outcome = type_outcome (setting p s g names) x (length vs);
     is = refl;
-    named = no_fault (made_fault (declared_in names) [] (made_names (abstract_type x vs))) None free refl;
+    named = no_fault (made_fault (declared_in (scope_at s names)) [] (made_names (abstract_type x vs))) None (made_at s names (made_names (abstract_type x vs)) ∙ free) refl;
     symbols_are = h.symbols;
     ints = h.ints;
-    scope = ap (λ (k : ℕ). with_name Types x.name (stands.Entry k) true names) (sym counted);
+    scope = entered_with (type_tree_at s) Types x.name (length g.symbols) names ∙ ap (λ (k : ℕ). with_name Types x.name (stands.Entry k) true (scope_at s names)) (sym counted);
     decls = d ∙ ap (λ (k : ℕ). record { theory = p.theory.now; name = p.within.now ++ x.name; vars = length vs; body = MakesType k } ∷ []) (sym counted);
     rigid = r;
     matches = ap (map (match_at s)) m;
@@ -82,20 +86,22 @@ module _ (p : Place) (s : List Tree) (g g' : Signature) (names : ScopeNames) (x 
         matches = subst (All (MatchHeld s)) (sym m) (All-nil (MatchHeld s));
       }
 
--- an alias, whose type is one of the store afterwards
+-- an alias, whose name stands for its type afterwards
 module _ (p : Place) (s s' : List Tree) (grows : Grows s s') (g g' : Signature) (names : ScopeNames) (x : TokenName) (vs : List TokenName) (f : TypeExpression) (made : Elaborated) (id : TermId) where
   pub alias_elaborated : made_fault (declared_in names) [] (made_names (alias x vs f)) ≡ None → form_fault (around (setting p s g names) (words vs)) false f ≡ None
-      → IsExtended s g s' g' (wanting_tuples (symbols_at s g.symbols) (alias_seen f).widths) → HoldsType s' id
-      → tree_at s' id ≡ type_at (over s (symbols_at s g.symbols ++ wanting_tuples (symbols_at s g.symbols) (alias_seen f).widths) names (words vs)) f
+      → AreScopes s (length g.symbols) names → IsExtended s g s' g' (wanting_tuples (symbols_at s g.symbols) (alias_seen f).widths) → tree_at s' id ≡ aliased_type (setting p s g names) vs f
       → made.decls ≡ [] → made.rigid ≡ [] → made.matches ≡ []
       → IsElaborated (setting p s g names) (alias x vs f) g s' g' (with_name Types x.name (stands.Alias (length vs) id.0) true names) made
-  alias_elaborated free right h held tree d r m = record {
-    outcome = record { symbols = wanting_tuples (symbols_at s g.symbols) (alias_seen f).widths; scope = with_name Types x.name (stands.Alias (length vs) id.0) true names; decls = []; rigid = []; matches = [] };
-    is = record { type = id.0; held = held; tree = tree; symbols = refl; scope = refl; decls = refl; rigid = refl; matches = refl };
-    named = no_fault (made_fault (declared_in names) [] (made_names (alias x vs f))) (form_fault (around (setting p s g names) (words vs)) false f) free right;
+  alias_elaborated free right w h tree d r m = record {
+    outcome = alias_outcome (setting p s g names) x vs f;
+    is = refl;
+    named = no_fault (made_fault (declared_in (scope_at s names)) [] (made_names (alias x vs f))) (form_fault (around (setting p s g names) (words vs)) false f) (made_at s names (made_names (alias x vs f)) ∙ free) right;
     symbols_are = h.symbols;
     ints = h.ints;
-    scope = refl;
+    scope =
+        named_with (type_tree_at s') Types x.name (stands.Alias (length vs) id.0) true names
+        ∙ (ap (λ (t : Tree). with_name Types x.name (stands.Alias (length vs) t) true (scope_at s' names)) tree
+        ∙ ap (with_name Types x.name (stands.Alias (length vs) (aliased_type (setting p s g names) vs f)) true) (scope_stays s s' grows (length g.symbols) names w));
     decls = ap (declarations_at s') d;
     rigid = r;
     matches = ap (map (match_at s')) m;

@@ -1,6 +1,5 @@
 pub use Rattle.elab_groups.specs as elab_groups
 pub mod inductive_declarations
-pub mod plain
 pub mod type_declarations
 pub mod Outcomes
 pub mod Heads

@@ -2,7 +2,6 @@
 -- declarations").
 use Rattle.std.specs.Prelude.{◌≡◌, ℕ, ◌+◌, true, false, All, List, [], ◌∷◌, ◌++◌, map, length, Option, Some, None}
 use Rattle.tasks.specs.trees.Tree.{Tree, Leaf, HTyRigid}
-use Rattle.tasks.specs.trees.Node.{tree_at}
 use Rattle.tasks.specs.trees.Binding.{inst_types}
 use Rattle.tasks.specs.Task.{MakesType, Says}
 use Rattle.tasks.specs.Rigid.{rigid_symbol}
@@ -16,13 +15,14 @@ use Rattle.surface.specs.Declarations.{SyntaxDeclaration, use_decl, clone_decl, 
 use Rattle.surface.specs.declared.declarations.PropKind.{PropKind}
 use Rattle.surface.specs.declared.declarations.PropKind.TheVariants as kind
 use Rattle.name_resolution.specs.Abstract.{TypeExpression, Expression}
+use Rattle.name_resolution.specs.Naming.{scope_at}
 use Rattle.name_resolution.specs.declared.NamingFault.{NamingFault}
 use Rattle.name_resolution.specs.Faults.{first_of, fault, form_fault}
 use Rattle.elab_groups.specs.name_resolution.variables.Seen.{SeenTree, seen, form_seen}
 use Rattle.elab_groups.specs.name_resolution.declared.variables.variables.Seen.{Seen as SeenCode}
 use Rattle.elab_groups.specs.open_types.Patterns.{Notes, no_notes}
 use Rattle.elab_groups.specs.open_types.Pieces.{NotedTree, piece, type_at}
-use Rattle.elab_groups.specs.open_types.Drafts.{HoldsType, match_at, MatchHeld}
+use Rattle.elab_groups.specs.open_types.Drafts.{match_at, MatchHeld}
 use Rattle.elab_groups.specs.declared.parts.ElabFault.{ElabFault}
 use Rattle.elab_groups.specs.declared.parts.made.Elaborated.{Elaborated}
 use Rattle.elab_groups.specs.declared.parts.made.Place.{Place}
@@ -51,18 +51,20 @@ type_outcome c x n =
 abbrev pub alias_seen : TypeExpression → SeenTree
 alias_seen f = form_seen unseen f
 
--- its name stands for a type of the store afterwards
-pub record IsAlias (c : Setting) (s' : List Tree) (x : TokenName) (vs : List TokenName)
-    (f : TypeExpression) (o : Outcome) : Type 0 where
-  pub type : ℕ
-  pub held : HoldsType s' (record { 0 = type })
-  pub tree : tree_at s' (record { 0 = type })
-      ≡ type_at (over c.trees (c.symbols ++ tuples_wanting c (alias_seen f)) c.scope (words vs)) f
-  pub symbols : o.symbols ≡ tuples_wanting c (alias_seen f)
-  pub scope : o.scope ≡ with_name Types x.name (stands.Alias (length vs) type) true c.scope
-  pub decls : o.decls ≡ []
-  pub rigid : o.rigid ≡ []
-  pub matches : o.matches ≡ []
+abbrev pub aliased_type : Setting → List TokenName → TypeExpression → Tree
+aliased_type c vs f =
+    type_at (over (c.symbols ++ tuples_wanting c (alias_seen f)) c.scope (words vs)) f
+
+-- its name stands for its type
+abbrev pub alias_outcome : Setting → TokenName → List TokenName → TypeExpression → Outcome
+alias_outcome c x vs f = record {
+  symbols = tuples_wanting c (alias_seen f);
+  scope =
+      with_name Types x.name (stands.Alias (length vs) (aliased_type c vs f)) true c.scope;
+  decls = [];
+  rigid = [];
+  matches = [];
+}
 
 -- ---- propositions
 abbrev pub proposition_seen : Expression → SeenTree
@@ -124,13 +126,13 @@ IsLogical (clone_decl a l p n es) = ⊥
 IsLogical (scope_decl a n ds) = ⊥
 IsLogical _ = Unit {0}
 
-abbrev pub IsOutcome : Setting → List Tree → Declaration → Outcome → Type 0
-IsOutcome c s' (abstract_type x vs) o = o ≡ type_outcome c x (length vs)
-IsOutcome c s' (alias x vs f) o = IsAlias c s' x vs f o
-IsOutcome c s' (proposition_declaration k x e) o = IsProposition c k x e o
-IsOutcome c s' (algebraic ts) o = o ≡ group_outcome c ts
-IsOutcome c s' (member_group ms) o = IsGroup c ms o
-IsOutcome c s' (inductive ds) o = IsInductiveGroup c ds o
+abbrev pub IsOutcome : Setting → Declaration → Outcome → Type 0
+IsOutcome c (abstract_type x vs) o = o ≡ type_outcome c x (length vs)
+IsOutcome c (alias x vs f) o = o ≡ alias_outcome c x vs f
+IsOutcome c (proposition_declaration k x e) o = IsProposition c k x e o
+IsOutcome c (algebraic ts) o = o ≡ group_outcome c ts
+IsOutcome c (member_group ms) o = IsGroup c ms o
+IsOutcome c (inductive ds) o = IsInductiveGroup c ds o
 
 -- the first fault of the names that it uses
 abbrev pub used_fault : Setting → Declaration → Option NamingFault
@@ -166,13 +168,13 @@ IsRefusal c d f = IsRefusalFor c.decl (names_fault c d) (rigid_of c d) (notes_of
 abbrev pub IsElaborated : Setting → Declaration → Signature → List Tree → Signature → ScopeNames
     → Elaborated → Type 0
 IsElaborated c d g s' g' scope' made =
-    IsElaboratedAs (IsOutcome c s' d) (names_fault c d) c.symbols g s' g' scope' made
+    IsElaboratedAs (IsOutcome c d) (names_fault c d) c.symbols g s' g' scope' made
 
 -- ---- the parts of a proposition
 abbrev pub solved_piece : List Tree → Signature → ScopeNames → SeenCode → Expression → NotedTree
 solved_piece s g names seen' e =
-    piece (over s (symbols_at s g.symbols ++ wanting_tuples (symbols_at s g.symbols) seen'.widths)
-    names seen'.vars) [] (length seen'.vars) None e
+    piece (over (symbols_at s g.symbols ++ wanting_tuples (symbols_at s g.symbols) seen'.widths)
+    (scope_at s names) seen'.vars) [] (length seen'.vars) None e
 
 -- a proposition is made but for its name in the scope
 pub record IsTypedProposition (p : Place) (s : List Tree) (g : Signature) (names : ScopeNames)

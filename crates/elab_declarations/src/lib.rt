@@ -1,6 +1,5 @@
 //! Declarations of all kinds but `use`, `clone` and `scope`: types without a definition, aliases, groups of algebraic
-//! types, groups of functions, predicates and constants, groups of inductive predicates, axioms, lemmas and goals;
-//! what they make, said without a store.
+//! types, groups of functions, predicates and constants, groups of inductive predicates, axioms, lemmas and goals.
 //!
 //! Contract: exactly what a declaration makes, or its first fault.
 #![tactic(auto)]
@@ -8,7 +7,6 @@
 mod declarations;
 pub mod inductive_declarations;
 mod new_names;
-pub mod plain;
 mod propositions;
 pub mod type_declarations;
 mod types;

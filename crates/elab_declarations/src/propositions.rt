@@ -8,7 +8,7 @@ ghost use Rattle.tasks.specs.Rigid.{rigid_symbol};
 ghost use Rattle.tasks.specs.Meaning.{symbols_at, declarations_at, trees_at, DeclHeld};
 ghost use Rattle.name_resolution.specs.Abstract.{expression_of};
 ghost use Rattle.name_resolution.specs.Faults.{fault};
-ghost use Rattle.name_resolution.specs.Naming.{Tells};
+ghost use Rattle.name_resolution.specs.Naming.{Tells, scope_at};
 ghost use Rattle.elab_groups.specs.name_resolution.variables.Entered.{seen_at};
 ghost use Rattle.surface.specs.SurfaceDeclarations.{plain_name};
 ghost use Rattle.elab_groups.specs.open_types.Drafts.{HoldsType, MatchHeld, match_at};
@@ -30,8 +30,8 @@ use tasks::{Body, Decl, Grow, Node, Seq, Signature, Store, SymbolInfo, TermId, T
 
 // The first fault of a proposition's names.
 fn check_formula(alloc: Global, sig: &Signature, scope: &Scope, e: &Expr) -> Result<(), NamingFault>
-    ensures { (s : List Tree) → Tells result (fault (over s (symbols_at s sig.now.symbols) scope.now
-        []) true [] true (expression_of e.now)) }
+    ensures { (s : List Tree) → Tells result (fault (over (symbols_at s sig.now.symbols)
+        (scope_at s scope.now) []) true [] true (expression_of e.now)) }
 {
     let world = world_over(sig, scope, &[], true);
     check(alloc, e, &world, &Names::Outside, true)
@@ -140,8 +140,8 @@ fn solve_proposition(
     requires signature { IsSignature store.old sig.old.symbols }
     requires scopes { AreScopes store.old (length sig.old.symbols) scope.now }
     requires seen { seen_at seen.now ≡ proposition_seen (expression_of e.now) }
-    requires resolved { fault (over store.old (symbols_at store.old sig.old.symbols) scope.now [])
-        true [] true (expression_of e.now) ≡ None }
+    requires resolved { fault (over (symbols_at store.old sig.old.symbols)
+        (scope_at store.old scope.now) []) true [] true (expression_of e.now) ≡ None }
     ensures entries { OnOk result (IsExtended store.old sig.old store.new sig.new
         (wanting_tuples (symbols_at store.old sig.old.symbols) seen.now.widths)) }
     ensures held { IfOk result (FormulaHeld store.new) }
@@ -217,8 +217,8 @@ fn type_proposition(
 ) -> Result<Elaborated, TypingFault>
     requires signature { IsSignature store.old sig.old.symbols }
     requires scopes { AreScopes store.old (length sig.old.symbols) scope.now }
-    requires resolved { fault (over store.old (symbols_at store.old sig.old.symbols) scope.now [])
-        true [] true (expression_of e.now) ≡ None }
+    requires resolved { fault (over (symbols_at store.old sig.old.symbols)
+        (scope_at store.old scope.now) []) true [] true (expression_of e.now) ≡ None }
     ensures ok { IfOk result (IsTypedProposition place.now store.old sig.old scope.now kind name.now
         (expression_of e.now) store.new sig.new) }
     ensures err { IfErr result (IsTypingFault (length (proposition_seen (expression_of e.now)).vars)

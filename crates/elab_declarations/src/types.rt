@@ -9,7 +9,7 @@ ghost use Rattle.tasks.specs.Meaning.{symbols_at, declarations_at};
 ghost use Rattle.name_resolution.specs.scopes.Names.{with_name};
 ghost use Rattle.name_resolution.specs.Abstract.{type_expression_of};
 ghost use Rattle.name_resolution.specs.Faults.{form_fault};
-ghost use Rattle.name_resolution.specs.Naming.{Tells};
+ghost use Rattle.name_resolution.specs.Naming.{Tells, scope_at};
 ghost use Rattle.elab_groups.specs.open_types.Pieces.{type_at};
 ghost use Rattle.elab_groups.specs.open_types.Drafts.{HoldsType};
 ghost use Rattle.elab_groups.specs.parts.Declarations.{word, abstract_type, alias, made_fault, makes, binds_names};
@@ -132,12 +132,11 @@ fn make_alias(
         (alias_seen (type_expression_of ty.now)).widths)) }
     ensures held { IfOk result (HoldsType store.new) }
     ensures tree { IfOk result (λ id. tree_at store.new id ≡ type_at
-        (over store.old (symbols_at store.old sig.old.symbols ++ wanting_tuples
+        (over (symbols_at store.old sig.old.symbols ++ wanting_tuples
         (symbols_at store.old sig.old.symbols) (alias_seen (type_expression_of ty.now)).widths)
-        scope.now
-        vars.now) (type_expression_of ty.now)) }
+        (scope_at store.old scope.now) vars.now) (type_expression_of ty.now)) }
     ensures below { IfOk result (λ id. form_fault
-        (over store.old (symbols_at store.old sig.old.symbols) scope.now vars.now) false
+        (over (symbols_at store.old sig.old.symbols) (scope_at store.old scope.now) vars.now) false
         (type_expression_of ty.now) ≡ None → TyVarsBelow (length vars.now) (tree_at store.new id)) }
     ensures grows { Grows store.old store.new }
 {
@@ -160,7 +159,7 @@ fn check_alias(
     ty: &TypeTree,
 ) -> Result<(), NamingFault>
     ensures { (s : List Tree) → Tells result (form_fault
-        (over s (symbols_at s sig.now.symbols) scope.now vars.now) false
+        (over (symbols_at s sig.now.symbols) (scope_at s scope.now) vars.now) false
         (type_expression_of ty.now)) }
 {
     let world = world_over(sig, scope, vars, false);

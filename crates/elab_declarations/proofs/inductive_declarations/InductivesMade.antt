@@ -5,12 +5,13 @@ use Rattle.std.specs.List.{All}
 use Rattle.std.proofs.lemmas.List.Elements.{All-append}
 use Rattle.tasks.specs.trees.Tree.{Tree}
 use Rattle.tasks.specs.trees.Node.{Grows}
-use Rattle.tasks.proofs.trees.Nodes.{Grows_refl}
+use Rattle.tasks.proofs.trees.Nodes.{Grows_refl, Grows_trans}
 use Rattle.tasks.specs.Task.{SymbolTree, int_symbol}
 use Rattle.tasks.specs.Meaning.{symbol_at, symbols_at, declarations_at}
 use Rattle.tasks.specs.declared.signature.Signature.{Signature}
 use Rattle.name_resolution.specs.scopes.Names.{ScopeNames}
-use Rattle.name_resolution.specs.Where.{Where}
+use Rattle.name_resolution.specs.Naming.{type_tree_at, scope_at}
+use Rattle.name_resolution.specs.Where.{Where, NamesTree}
 use Rattle.open_types.specs.Drafts.{match_at}
 use Rattle.open_types.specs.Scoped.{IsScopedEntry}
 use Rattle.elab_groups.specs.declared.parts.made.Elaborated.{Elaborated}
@@ -20,7 +21,7 @@ use Rattle.elab_groups.specs.parts.Elaborated.{unseen}
 use Rattle.elab_groups.specs.parts.Entries.{IsSignature, AreScopes}
 use Rattle.elab_groups.specs.parts.Outcomes.{Setting, over, setting, declared_in, tuples_wanting, IsKept}
 use Rattle.elab_groups.proofs.parts.Entering.{entries_stay, signature_grows, first_stays}
-use Rattle.elab_groups.proofs.parts.Overs.{some_entry, over_stays}
+use Rattle.elab_groups.proofs.parts.Overs.{some_entry, scope_stays}
 use Rattle.elab_groups.proofs.parts.Refused.{no_fault}
 use Rattle.elab_groups.proofs.parts.Scopes.{scopes_grow}
 use Rattle.elab_groups.specs.declared.members.signing.Signatures.{Signatures}
@@ -31,7 +32,8 @@ use Rattle.elab_groups.proofs.members.MembersScoped.{members_scoped}
 use Rattle.elab_groups.specs.Groups.{BodiesSolved}
 use Rattle.elab_declarations.specs.inductive_declarations.Inductives.{inductives_seen, as_member, as_members, formula_members, clause_signatures, with_inductives, before_inductives, inductives_scope, within_inductives, inductive_decls, inductives_used, IsInductiveElaborated}
 use Rattle.elab_declarations.specs.inductive_declarations.Sources.{AreInductivesMade}
-use Rattle.elab_declarations.proofs.inductive_declarations.InductivesNamed.{inductives_types, inductives_scopes}
+use Rattle.elab_declarations.proofs.Over.{made_at}
+use Rattle.elab_declarations.proofs.inductive_declarations.InductivesNamed.{inductives_types, inductives_with, inductives_scopes}
 use Rattle.elab_declarations.proofs.inductive_declarations.ClausesResolved.{members_right, formulas_resolved}
 
 module _ (p : Place) (s s1 : List Tree) (grows : Grows s s1) (g g1 : Signature) (names : ScopeNames) (ds : List InductivePredicate) (it : Signatures) (sig : IsSignature s g.symbols) (scopes : AreScopes s (length g.symbols) names)
@@ -55,7 +57,7 @@ module _ (p : Place) (s s1 : List Tree) (grows : Grows s s1) (g g1 : Signature) 
   before_count = omega (arith, length-append (symbols_at s g.symbols) (tuples_wanting c (inductives_seen unseen ds)), length-map g.symbols (symbol_at s))
 
   total_is : total ≡ length before + length ds
-  total_is = length-append before entries ∙ ap (λ (n : ℕ). length before + n) (entries_count c.theory c.within (as_members ds) (over s before names []) ∙ length-map ds as_member)
+  total_is = length-append before entries ∙ ap (λ (n : ℕ). length before + n) (entries_count c.theory c.within (as_members ds) (over before (scope_at s names) []) ∙ length-map ds as_member)
 
   scopes_before : AreScopes s (length before) names
   scopes_before = scopes_grow s s (Grows_refl s) (length g.symbols) (length before) before_count names scopes
@@ -69,14 +71,15 @@ module _ (p : Place) (s s1 : List Tree) (grows : Grows s s1) (g g1 : Signature) 
       let b : it.number + length ds ≤ total = omega (arith, total_is, e.number) in
       inductives_scopes s total p.decl it.number ds names b (scopes_grow s s (Grows_refl s) (length before) total a names scopes_before)
 
-  after_is : after ≡ inductives_scope c ds
-  after_is = ap (λ (k : ℕ). with_inductives p.decl k ds names) e.number
+  -- the scopes have their names
+  scope_is : (s' : List Tree) → Grows s s' → scope_at s' after ≡ inductives_scope c ds
+  scope_is s' g' =
+      inductives_with (type_tree_at s') p.decl it.number ds names
+      ∙ (ap (with_inductives p.decl it.number ds) (scope_stays s s' g' (length g.symbols) names scopes) ∙ ap (λ (k : ℕ). with_inductives p.decl k ds (scope_at s names)) e.number)
 
   -- what names mean among the predicates
-  pub inside_is : over s1 (symbols_at s1 g1.symbols) after [] ≡ within_inductives c ds
-  inside_is =
-      let a : 0 < total = omega (arith, total_is, some) in
-      ap (λ (es : List SymbolTree). over s1 es after []) e.symbols ∙ (over_stays s s1 grows total (before ++ entries) after [] scopes_total a ∙ ap (λ (ns : ScopeNames). over s (before ++ entries) ns []) after_is)
+  pub inside_is : over (symbols_at s1 g1.symbols) (scope_at s1 after) [] ≡ within_inductives c ds
+  inside_is = ap (λ (es : List SymbolTree). over es (scope_at s1 after) []) e.symbols ∙ ap (λ (ns : NamesTree). over (before ++ entries) ns []) (scope_is s1 grows)
 
   counted : length g1.symbols ≡ total
   counted = sym (length-map g1.symbols (symbol_at s1)) ∙ ap length e.symbols
@@ -93,7 +96,7 @@ module _ (p : Place) (s s1 : List Tree) (grows : Grows s s1) (g g1 : Signature) 
       int = ap (λ (es : List SymbolTree). slice_get es 0) e.symbols ∙ first_stays before entries int_symbol e.int;
       typed = e.typed;
       scoped = subst (All IsScopedEntry) (sym e.symbols) (All-append IsScopedEntry before entries e.scoped
-          (members_scoped s before entries names (inductives_scope c ds) scopes_before some (inductives_types p.decl (length before) ds names) e.outer c.theory c.within (as_members ds) members_are));
+          (members_scoped s before entries names (inductives_scope c ds) scopes_before some (inductives_types p.decl (length before) ds (scope_at s names)) e.outer c.theory c.within (as_members ds) members_are));
     }
 
     pub resolved_after : (w : Where) → w ≡ within_inductives c ds → AreResolved w (formula_members ds) (clause_signatures ds)
@@ -116,10 +119,10 @@ module _ (p : Place) (s s1 : List Tree) (grows : Grows s s1) (g g1 : Signature) 
           matches = map (match_at s2) made.matches;
         };
         is = record { clauses = m.clauses; solved = solved_after; symbols = refl; scope = refl; decls = refl; rigid = refl };
-        named = no_fault (made_fault (declared_in names) [] (made_by_inductives ds)) (inductives_used c ds) free right;
+        named = no_fault (made_fault (declared_in (scope_at s names)) [] (made_by_inductives ds)) (inductives_used c ds) (made_at s names (made_by_inductives ds) ∙ free) right;
         symbols_are = entries_stay s1 s2 further g1.symbols signature_after ∙ (e.symbols ∙ append_assoc (symbols_at s g.symbols) (tuples_wanting c (inductives_seen unseen ds)) entries);
         ints = e.ints;
-        scope = after_is;
+        scope = scope_is s2 (Grows_trans s s1 s2 grows further);
         decls = decls_after;
         rigid = m.rigid;
         matches = refl;

@@ -14,7 +14,7 @@ use Rattle.elab_declarations.specs.inductive_declarations.Inductives.{as_members
 
 -- a theory `T` that has `int` alone
 abbrev here : Setting
-here = record { theory = codes "T"; within = codes "S."; decl = 1; trees = []; symbols = int_symbol ∷ []; scope = empty_names }
+here = record { theory = codes "T"; within = codes "S."; decl = 1; symbols = int_symbol ∷ []; scope = empty_names }
 
 abbrev int_form : TypeExpression
 int_form = composed_type 0 [] (codes "int") no_types

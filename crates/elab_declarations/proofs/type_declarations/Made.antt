@@ -13,8 +13,8 @@ use Rattle.tasks.specs.declared.signature.Signature.{Signature}
 use Rattle.scopes.specs.Names.{ScopeNames}
 use Rattle.surface.specs.Lexeme.{Word}
 use Rattle.name_resolution.specs.Abstract.{count_forms}
-use Rattle.name_resolution.specs.Naming.{Tells}
-use Rattle.name_resolution.specs.Where.{Where}
+use Rattle.name_resolution.specs.Naming.{Tells, type_tree_at, scope_at}
+use Rattle.name_resolution.specs.Where.{Where, NamesTree}
 use Rattle.name_resolution.specs.declared.NamingFault.{NamingFault}
 use Rattle.open_types.specs.Drafts.{MatchHeld, match_at}
 use Rattle.open_types.specs.Patterns.{no_notes}
@@ -22,16 +22,18 @@ use Rattle.open_types.specs.Pieces.{types_at}
 use Rattle.elab_groups.specs.declared.parts.made.Elaborated.{Elaborated}
 use Rattle.elab_groups.specs.declared.parts.made.Place.{Place}
 use Rattle.elab_groups.specs.parts.Elaborated.{elab_naming_fault}
-use Rattle.elab_groups.specs.parts.Declarations.{AlgebraicConstructor, AlgebraicType, words, with_vars, types_fault}
+use Rattle.elab_groups.specs.parts.Declarations.{AlgebraicConstructor, AlgebraicType, words, made_type_names, with_vars, types_fault}
 use Rattle.elab_groups.specs.parts.Entries.{wanting_tuples, projections, constructor_entries, IsExtended, AreScopes}
 use Rattle.elab_groups.specs.parts.Outcomes.{Setting, over, setting, IsKept}
 use Rattle.elab_groups.proofs.parts.Entering.{extended_both, extended_grows}
 use Rattle.elab_groups.proofs.parts.Keeping.{length_extended}
+use Rattle.elab_groups.proofs.parts.Overs.{scope_stays}
 use Rattle.elab_groups.proofs.parts.Refused.{no_fault, used_refusal}
 use Rattle.elab_groups.proofs.parts.Scopes.{scopes_grow}
 use Rattle.elab_declarations.specs.type_declarations.Algebraics.{group_seen, entry_count, group_count, first_type, first_constructor, with_types, group_names, type_entries, inside_types, constructor_trees, algebraic_trees, group_trees, constructors_entries, group_entries, first_name, first_vars, group_outcome, group_made, AreTypesElaborated, IsTypesRefusal}
 use Rattle.elab_declarations.proofs.type_declarations.Counted.{types_length}
-use Rattle.elab_declarations.proofs.type_declarations.Placed.{scopes_types, stays_over}
+use Rattle.elab_declarations.proofs.Over.{made_at}
+use Rattle.elab_declarations.proofs.type_declarations.Placed.{scopes_types, types_with}
 
 -- ---- so many entries
 pub projections_length : (theory x : Word) (n : ℕ) (t : Tree) (i : ℕ) (fs : List Tree) → length (projections theory x n t i fs) ≡ length fs
@@ -79,7 +81,7 @@ module _ (p : Place) (s s1 : List Tree) (grows : Grows s s1) (g g1 : Signature) 
   c = setting p s g names
 
   abbrev there : Where
-  there = over s1 (symbols_at s1 g1.symbols) after []
+  there = over (symbols_at s1 g1.symbols) (scope_at s1 after) []
 
   is_first : first_type c ts ≡ symbol
   is_first = length-append (symbols_at s g.symbols) tuples ∙ (ap (λ (n : ℕ). n + length tuples) (length-map g.symbols (symbol_at s)) ∙ sym first)
@@ -87,8 +89,11 @@ module _ (p : Place) (s s1 : List Tree) (grows : Grows s s1) (g g1 : Signature) 
   is_constructor : first_constructor c ts ≡ number
   is_constructor = ap (λ (n : ℕ). n + length ts) is_first ∙ sym (begins ∙ behind)
 
-  pub is_declared : after ≡ group_names c ts
-  is_declared = declared ∙ (ap (λ (i : ℕ). with_types i number ts names) (sym is_first) ∙ ap (λ (n : ℕ). with_types (first_type c ts) n ts names) (sym is_constructor))
+  -- the scopes have its names
+  scope_is : (s' : List Tree) → Grows s s' → scope_at s' after ≡ group_names c ts
+  scope_is s' g' =
+      ap (scope_at s') declared ∙ (types_with (type_tree_at s') symbol number ts names ∙ (ap (with_types symbol number ts) (scope_stays s s' g' (length g.symbols) names scopes)
+      ∙ (ap (λ (i : ℕ). with_types i number ts (scope_at s names)) (sym is_first) ∙ ap (λ (n : ℕ). with_types (first_type c ts) n ts (scope_at s names)) (sym is_constructor))))
 
   abbrev all : ℕ
   all = number + group_count ts
@@ -100,9 +105,8 @@ module _ (p : Place) (s s1 : List Tree) (grows : Grows s s1) (g g1 : Signature) 
 
   is_inside : there ≡ inside_types c ts
   is_inside =
-      ap (λ (es : List SymbolTree). over s1 es after []) ext.symbols
-      ∙ (stays_over s all after (all_scopes s (Grows_refl s)) s1 grows (symbols_at s g.symbols ++ (tuples ++ type_entries p.theory.now p.within.now ts)) []
-      ∙ ap (λ (ns : ScopeNames). over s (symbols_at s g.symbols ++ (tuples ++ type_entries p.theory.now p.within.now ts)) ns []) is_declared)
+      ap (λ (es : List SymbolTree). over es (scope_at s1 after) []) ext.symbols
+      ∙ ap (λ (ns : NamesTree). over (symbols_at s g.symbols ++ (tuples ++ type_entries p.theory.now p.within.now ts)) ns []) (scope_is s1 grows)
 
   is_trees : algebraic_trees there symbol number ts ≡ group_trees c ts
   is_trees =
@@ -110,7 +114,7 @@ module _ (p : Place) (s s1 : List Tree) (grows : Grows s s1) (g g1 : Signature) 
       ∙ (ap (λ (i : ℕ). algebraic_trees (inside_types c ts) i number ts) (sym is_first) ∙ ap (λ (n : ℕ). algebraic_trees (inside_types c ts) (first_type c ts) n ts) (sym is_constructor))
 
   pub group_refused : (f : NamingFault) → group_made names ts ≡ None → Tells (Err f) (types_fault there ts) → IsTypesRefusal c ts (elab_naming_fault p.decl f)
-  group_refused f free h = used_refusal p.decl 0 no_notes (group_made names ts) (types_fault (inside_types c ts) ts) f free (subst (λ (w : Where). Tells (Err f) (types_fault w ts)) is_inside h)
+  group_refused f free h = used_refusal p.decl 0 no_notes (group_made (scope_at s names) ts) (types_fault (inside_types c ts) ts) f (made_at s names (made_type_names ts) ∙ free) (subst (λ (w : Where). Tells (Err f) (types_fault w ts)) is_inside h)
 
   -- with its types and its declaration
   module _ (s2 s3 : List Tree) (more : Grows s1 s2) (g3 : Signature) (made : Elaborated) (ys : List AlgebraicTree) (trees : ys ≡ algebraic_trees there symbol number ts)
@@ -121,16 +125,16 @@ module _ (p : Place) (s s1 : List Tree) (grows : Grows s s1) (g g1 : Signature) 
     whole : IsExtended s g s3 g3 ((tuples ++ type_entries p.theory.now p.within.now ts) ++ group_entries p.theory.now p.within.now ts ys)
     whole = extended_both (tuples ++ type_entries p.theory.now p.within.now ts) (group_entries p.theory.now p.within.now ts ys) (extended_grows (tuples ++ type_entries p.theory.now p.within.now ts) more ext) entries
 
-    pub group_elaborated : group_made names ts ≡ None → types_fault there ts ≡ None
+    pub group_elaborated : Grows s s3 → group_made names ts ≡ None → types_fault there ts ≡ None
         → declarations_at s3 made.decls ≡ record { theory = p.theory.now; name = p.within.now ++ first_name ts; vars = first_vars ts; body = Constructs ys } ∷ []
         → made.rigid ≡ [] → made.matches ≡ [] → AreTypesElaborated c ts g s3 g3 after made
-    group_elaborated free right decls rigid matches = record {
+    group_elaborated w free right decls rigid matches = record {
       outcome = group_outcome c ts;
       is = refl;
-      named = no_fault (group_made names ts) (types_fault (inside_types c ts) ts) free (subst (λ (w : Where). types_fault w ts ≡ None) is_inside right);
+      named = no_fault (group_made (scope_at s names) ts) (types_fault (inside_types c ts) ts) (made_at s names (made_type_names ts) ∙ free) (subst (λ (w : Where). types_fault w ts ≡ None) is_inside right);
       symbols_are = whole.symbols ∙ ap (λ (es : List SymbolTree). symbols_at s g.symbols ++ es) (append_assoc tuples (type_entries p.theory.now p.within.now ts) (group_entries p.theory.now p.within.now ts ys) ∙ ap (λ (zs : List AlgebraicTree). tuples ++ (type_entries p.theory.now p.within.now ts ++ group_entries p.theory.now p.within.now ts zs)) are);
       ints = whole.ints;
-      scope = is_declared;
+      scope = scope_is s3 w;
       decls = decls ∙ ap (λ (zs : List AlgebraicTree). record { theory = p.theory.now; name = p.within.now ++ first_name ts; vars = first_vars ts; body = Constructs zs } ∷ []) are;
       rigid = rigid;
       matches = ap (map (match_at s3)) matches;

@@ -5,12 +5,12 @@ use Rattle.std.specs.Prelude.{◌≡◌, ℕ, suc, Bool, true, List, [], ◌∷�
 use Rattle.tasks.specs.trees.Tree.{Tree}
 use Rattle.tasks.specs.Task.{SymbolTree, InductiveTree, Induces, DeclarationTree}
 use Rattle.tasks.specs.declared.signature.Signature.{Signature}
-use Rattle.name_resolution.specs.scopes.Names.{ScopeNames, with_entry}
+use Rattle.name_resolution.specs.scopes.Names.{NamesOf, ScopeNames, with_entry}
 use Rattle.name_resolution.specs.scopes.declared.Table.TheVariants.{Symbols, Propositions}
 use Rattle.surface.specs.Lexeme.{Word}
 use Rattle.name_resolution.specs.declared.NamingFault.{NamingFault}
 use Rattle.name_resolution.specs.Faults.{first_of}
-use Rattle.name_resolution.specs.Where.{Where}
+use Rattle.name_resolution.specs.Where.{Where, NamesTree}
 use Rattle.name_resolution.specs.variables.Seen.{SeenTree, seen}
 use Rattle.open_types.specs.Patterns.{Notes}
 use Rattle.elab_groups.specs.declared.parts.ElabFault.{ElabFault}
@@ -59,12 +59,12 @@ clause_signatures (d ∷ ds) = map (clause_signature d) d.clauses ++ clause_sign
 
 -- ---- names: each predicate's stands for its entry, those of its clauses for the declaration's
 -- number
-abbrev pub with_clauses : ℕ → List InductiveClause → ScopeNames → ScopeNames
+abbrev pub with_clauses : {A : Type 0} → ℕ → List InductiveClause → NamesOf A → NamesOf A
 with_clauses n [] names = names
 with_clauses n (c ∷ cs) names =
     with_clauses n cs (with_entry Propositions c.called.name n true names)
 
-abbrev pub with_inductives : ℕ → ℕ → List InductivePredicate → ScopeNames → ScopeNames
+abbrev pub with_inductives : {A : Type 0} → ℕ → ℕ → List InductivePredicate → NamesOf A → NamesOf A
 with_inductives n k [] names = names
 with_inductives n k (d ∷ ds) names =
     with_inductives n (suc k) ds
@@ -74,7 +74,7 @@ with_inductives n k (d ∷ ds) names =
 abbrev pub before_inductives : Setting → List InductivePredicate → List SymbolTree
 before_inductives c ds = c.symbols ++ tuples_wanting c (inductives_seen unseen ds)
 
-abbrev pub inductives_scope : Setting → List InductivePredicate → ScopeNames
+abbrev pub inductives_scope : Setting → List InductivePredicate → NamesTree
 inductives_scope c ds = with_inductives c.decl (length (before_inductives c ds)) ds c.scope
 
 abbrev pub within_inductives : Setting → List InductivePredicate → Where

@@ -5,7 +5,7 @@ use Rattle.trees.specs.Tree.{Tree}
 use Rattle.tasks.specs.Task.{SymbolTree, ConstructorTree, AlgebraicTree, Constructs}
 use Rattle.tasks.specs.Valid.{own_type}
 use Rattle.tasks.specs.declared.signature.Signature.{Signature}
-use Rattle.scopes.specs.Names.{ScopeNames, with_entry}
+use Rattle.scopes.specs.Names.{NamesOf, ScopeNames, with_entry}
 use Rattle.scopes.specs.declared.Table.{Table}
 use Rattle.scopes.specs.declared.Table.TheVariants.{Types, Symbols}
 use Rattle.surface.specs.Lexeme.{Word}
@@ -17,7 +17,7 @@ use Rattle.surface.specs.Surface as surface
 use Rattle.name_resolution.specs.Abstract.{TypeExpressions, type_expressions, count_forms}
 use Rattle.name_resolution.specs.declared.NamingFault.{NamingFault}
 use Rattle.name_resolution.specs.Faults.{first_of}
-use Rattle.name_resolution.specs.Where.{Where}
+use Rattle.name_resolution.specs.Where.{Where, NamesTree}
 use Rattle.name_resolution.specs.variables.Seen.{SeenTree, forms_seen}
 use Rattle.open_types.specs.Patterns.{no_notes}
 use Rattle.open_types.specs.Pieces.{types_at}
@@ -73,20 +73,20 @@ numbering_from n [] = []
 numbering_from n (t ∷ ts) = n ∷ numbering_from (n + 1) ts
 
 -- ---- names
-abbrev pub with_constructors : ℕ → List AlgebraicConstructor → ScopeNames → ScopeNames
+abbrev pub with_constructors : {A : Type 0} → ℕ → List AlgebraicConstructor → NamesOf A → NamesOf A
 with_constructors n [] names = names
 with_constructors n (k ∷ ks) names =
     with_constructors (n + (count_forms k.fields + 1)) ks
     (with_entry Symbols k.called.name n true names)
 
 -- the types stand for the entries from i on, their constructors for those from n on
-abbrev pub with_types : ℕ → ℕ → List AlgebraicType → ScopeNames → ScopeNames
+abbrev pub with_types : {A : Type 0} → ℕ → ℕ → List AlgebraicType → NamesOf A → NamesOf A
 with_types i n [] names = names
 with_types i n (a ∷ ts) names =
     with_types (i + 1) (n + entry_count a.constructors) ts
     (with_constructors n a.constructors (with_entry Types a.called.name i true names))
 
-abbrev pub group_names : Setting → List AlgebraicType → ScopeNames
+abbrev pub group_names : Setting → List AlgebraicType → NamesTree
 group_names c ts = with_types (first_type c ts) (first_constructor c ts) ts c.scope
 
 -- ---- entries of the types
@@ -97,7 +97,7 @@ type_entries theory within (a ∷ ts) =
 
 -- what names mean where the names of the group are there
 abbrev pub inside_types : Setting → List AlgebraicType → Where
-inside_types c ts = over c.trees
+inside_types c ts = over
     (c.symbols ++ (tuples_wanting c (group_seen ts) ++ type_entries c.theory c.within ts))
     (group_names c ts) []
 
@@ -166,7 +166,7 @@ group_outcome c ts = record {
 }
 
 -- ---- the first fault of its names: of those that it makes, then of the types of its fields
-abbrev pub group_made : ScopeNames → List AlgebraicType → Option NamingFault
+abbrev pub group_made : {A : Type 0} → NamesOf A → List AlgebraicType → Option NamingFault
 group_made names ts = made_fault (declared_in names) [] (made_type_names ts)
 
 abbrev pub type_group_fault : Setting → List AlgebraicType → Option NamingFault

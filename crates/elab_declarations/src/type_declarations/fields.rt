@@ -4,7 +4,7 @@ ghost use Rattle.trees.specs.Tree.{Tree};
 ghost use Rattle.trees.specs.Node.{Grows};
 ghost use Rattle.tasks.specs.Meaning.{symbols_at, trees_at, con_at, cons_at, algebraics_at};
 ghost use Rattle.name_resolution.specs.Faults.{forms_fault};
-ghost use Rattle.name_resolution.specs.Naming.{where_at, Tells};
+ghost use Rattle.name_resolution.specs.Naming.{where_at, Tells, scope_at};
 ghost use Rattle.open_types.specs.Drafts.{HoldsType, WorldHeld};
 ghost use Rattle.open_types.specs.Pieces.{types_at};
 ghost use Rattle.elab_groups.specs.parts.Declarations.{word, words, constructors_fault, types_fault};
@@ -131,8 +131,8 @@ fn push_constructors(
 
 // What names mean over a signature and scopes with these type variables and no others.
 fn world_of<'a>(sig: &'a Signature, scope: &'a Scope, vars: &'a [Text]) -> World<'a>
-    ensures names { (s : List Tree) → where_at s result ≡ over s (symbols_at s sig.now.symbols)
-        scope.now vars.now }
+    ensures names { (s : List Tree) → where_at s result ≡ over (symbols_at s sig.now.symbols)
+        (scope_at s scope.now) vars.now }
     ensures closed { result.new_vars ≡ false }
     ensures held { (s : List Tree) → IsSignature s sig.now.symbols → HaveThings s scope.now
         → WorldHeld s result }
@@ -159,16 +159,16 @@ fn make_constructors(
     requires fits { number.old + entry_count (constructors_of source.now.cons) < 2 ^ 64 }
     ensures typed { IfOk result (All (ConTyped store.new)) }
     ensures cons { IfOk result (λ made. cons_at store.new made ≡ constructor_trees
-        (over store.old (symbols_at store.old sig.now.symbols) scope.now (words (map word
-        source.now.vars))) number.old (constructors_of source.now.cons)) }
+        (over (symbols_at store.old sig.now.symbols) (scope_at store.old scope.now)
+        (words (map word source.now.vars))) number.old (constructors_of source.now.cons)) }
     ensures number { OnOk result (number.new ≡ number.old + entry_count (constructors_of
         source.now.cons)) }
     ensures free { OnOk result (constructors_fault
-        (over store.old (symbols_at store.old sig.now.symbols) scope.now (words (map word
-        source.now.vars))) (constructors_of source.now.cons) ≡ None) }
+        (over (symbols_at store.old sig.now.symbols) (scope_at store.old scope.now)
+        (words (map word source.now.vars))) (constructors_of source.now.cons) ≡ None) }
     ensures err { IfErr result (λ fault. Tells (Err fault) (constructors_fault
-        (over store.old (symbols_at store.old sig.now.symbols) scope.now (words (map word
-        source.now.vars))) (constructors_of source.now.cons))) }
+        (over (symbols_at store.old sig.now.symbols) (scope_at store.old scope.now)
+        (words (map word source.now.vars))) (constructors_of source.now.cons))) }
     ensures grows { Grows store.old store.new }
 {
     let vars = texts_of(alloc, source.vars.as_slice())?;
@@ -204,11 +204,11 @@ pub fn push_types(
     ensures typed { OnOk result (All (AlgTyped store.new) made.new) }
     ensures types { OnOk result (algebraics_at store.new made.new ≡ algebraics_at store.old
         made.old ++ algebraic_trees
-        (over store.old (symbols_at store.old sig.now.symbols) scope.now []) symbol number.old
-        (algebraics_of types.now)) }
+        (over (symbols_at store.old sig.now.symbols) (scope_at store.old scope.now) [])
+        symbol number.old (algebraics_of types.now)) }
     ensures told { Tells result (types_fault
-        (over store.old (symbols_at store.old sig.now.symbols) scope.now []) (algebraics_of
-        types.now)) }
+        (over (symbols_at store.old sig.now.symbols) (scope_at store.old scope.now) [])
+        (algebraics_of types.now)) }
     ensures grows { Grows store.old store.new }
 {
     let Some((first, rest)) = types.split_first() else {

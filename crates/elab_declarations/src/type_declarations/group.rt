@@ -4,7 +4,7 @@ ghost use Rattle.trees.specs.Tree.{Tree};
 ghost use Rattle.trees.specs.Node.{Grows};
 ghost use Rattle.tasks.specs.Task.{Constructs};
 ghost use Rattle.tasks.specs.Meaning.{symbols_at, declarations_at, algebraics_at, DeclHeld};
-ghost use Rattle.name_resolution.specs.Naming.{Tells};
+ghost use Rattle.name_resolution.specs.Naming.{Tells, scope_at};
 ghost use Rattle.elab_groups.specs.parts.Declarations.{types_fault};
 ghost use Rattle.elab_groups.specs.parts.Entries.{wanting_tuples, IsSignature, IsExtended, AreScopes};
 ghost use Rattle.elab_groups.specs.parts.Outcomes.{over, setting, IsKept};
@@ -97,18 +97,16 @@ fn make_types(
     requires fits { number + group_count (algebraics_of types.now) < 2 ^ 64 }
     ensures typed { IfOk result (All (AlgTyped store.new)) }
     ensures types { IfOk result (λ made. algebraics_at store.new made ≡ algebraic_trees
-        (over store.old (symbols_at store.old sig.now.symbols) scope.now []) symbol number
-        (algebraics_of
-        types.now)) }
+        (over (symbols_at store.old sig.now.symbols) (scope_at store.old scope.now) [])
+        symbol number (algebraics_of types.now)) }
     ensures within { IfOk result (λ made. AreWithin (algebraics_of types.now)
         (algebraics_at store.new made)) }
     ensures free { OnOk result (types_fault
-        (over store.old (symbols_at store.old sig.now.symbols) scope.now [])
-        (algebraics_of types.now)
-        ≡ None) }
+        (over (symbols_at store.old sig.now.symbols) (scope_at store.old scope.now) [])
+        (algebraics_of types.now) ≡ None) }
     ensures err { IfErr result (λ fault. Tells (Err fault) (types_fault
-        (over store.old (symbols_at store.old sig.now.symbols) scope.now []) (algebraics_of
-        types.now))) }
+        (over (symbols_at store.old sig.now.symbols) (scope_at store.old scope.now) [])
+        (algebraics_of types.now))) }
     ensures grows { Grows store.old store.new }
 {
     let mut made = Seq::new(alloc);

@@ -32,7 +32,7 @@ returns-in-Ok-type_proposition-clause-ok c =
     let mine : c.as_slice-in-Ok-check_formula.result.now ≡ x.name = c.as_slice-in-Ok-check_formula.ensures ∙ (rw c.as_slice.ensures at c.in_ok-own.ensures) in
     let typed = subst (λ (y : Word). IsTypedProposition p s g c.declare.new.scope k y e s1 g1 made) mine c.in-Ok-type_proposition.ensures.ok in
     let done = subst (λ (ns : ScopeNames). IsTypedProposition p s g ns k x.name e s1 g1 made) scope typed in
-    subst (λ (ns : ScopeNames). IsElaborated (setting p s g names) (proposition_declaration k x e) g s1 g1 ns made) (sym scope) (elaborated p s g names k x e free right s1 g1 made done)
+    subst (λ (ns : ScopeNames). IsElaborated (setting p s g names) (proposition_declaration k x e) g s1 g1 ns made) (sym scope) (elaborated p s g names k x e free right s1 g1 made c.type_proposition.ensures.grows c.requires.scopes done)
 
 pub returns-in-Ok-type_proposition-clause-kept : goal.returns-in-Ok-type_proposition-clause-kept
 returns-in-Ok-type_proposition-clause-kept c =

@@ -4,7 +4,7 @@ use Rattle.tasks.specs.Task.{SymbolTree}
 use Rattle.tasks.specs.Meaning.{symbols_at}
 use Rattle.name_resolution.specs.Abstract.{expression_of}
 use Rattle.name_resolution.specs.Faults.{fault}
-use Rattle.name_resolution.specs.Naming.{where_at}
+use Rattle.name_resolution.specs.Naming.{where_at, scope_at}
 use Rattle.name_resolution.specs.Where.{Where}
 use Rattle.elab_groups.specs.parts.Entries.{wanting_tuples, IsExtended}
 use Rattle.elab_groups.specs.parts.Outcomes.{over}
@@ -25,8 +25,8 @@ solve_formula-requires-clause-resolved c =
     let vars = c.args.seen.now.vars in
     let more : List SymbolTree = wanting_tuples (symbols_at s g.symbols) c.args.seen.now.widths in
     let ext : IsExtended s g s1 g1 more = rw c.as_slice.ensures at c.in_ok-push_tuples.ensures.entries in
-    let is : where_at s1 c.world_over-world.result ≡ over s (symbols_at s g.symbols ++ more) names vars = c.world_over-world.ensures.names s1 ∙ (ap (over s1 (symbols_at s1 g1.symbols) names) c.as_slice-2.ensures ∙ over_extended s s1 c.push_tuples.ensures.grows g g1 more names c.requires.signature c.requires.scopes ext vars) in
-    ap (λ (v : Where). fault v false [] true e) (is ∙ ap (λ sn. over s (symbols_at s g.symbols ++ more) names sn.vars) c.requires.seen)
+    let is : where_at s1 c.world_over-world.result ≡ over (symbols_at s g.symbols ++ more) (scope_at s names) vars = c.world_over-world.ensures.names s1 ∙ (ap (over (symbols_at s1 g1.symbols) (scope_at s1 names)) c.as_slice-2.ensures ∙ over_extended s s1 c.push_tuples.ensures.grows g g1 more names c.requires.signature c.requires.scopes ext vars) in
+    ap (λ (v : Where). fault v false [] true e) (is ∙ ap (λ sn. over (symbols_at s g.symbols ++ more) (scope_at s names) sn.vars) c.requires.seen)
     ∙ formula_resolved s s1 c.push_tuples.ensures.grows g g1 more names c.requires.signature c.requires.scopes ext e c.requires.resolved
 
 pub returns-clause-entries : goal.returns-clause-entries
@@ -48,9 +48,9 @@ returns-clause-ok c =
     let more : List SymbolTree = wanting_tuples (symbols_at s g.symbols) c.args.seen.now.widths in
     let ext : IsExtended s g s1 g1 more = rw c.as_slice.ensures at c.in_ok-push_tuples.ensures.entries in
     let world = c.world_over-world.result in
-    let is : where_at s1 world ≡ over s (symbols_at s g.symbols ++ more) names vars = c.world_over-world.ensures.names s1 ∙ (ap (over s1 (symbols_at s1 g1.symbols) names) c.as_slice-2.ensures ∙ over_extended s s1 c.push_tuples.ensures.grows g g1 more names c.requires.signature c.requires.scopes ext vars) in
+    let is : where_at s1 world ≡ over (symbols_at s g.symbols ++ more) (scope_at s names) vars = c.world_over-world.ensures.names s1 ∙ (ap (over (symbols_at s1 g1.symbols) (scope_at s1 names)) c.as_slice-2.ensures ∙ over_extended s s1 c.push_tuples.ensures.grows g g1 more names c.requires.signature c.requires.scopes ext vars) in
     let n : length world.vars.now ≡ length vars = ap length (c.world_over-world.ensures.vars ∙ c.as_slice-2.ensures) in
-    IfOk-weaker c.solve_formula.result _ _ (λ it h. solved_over (where_at s1 world) (over s (symbols_at s g.symbols ++ more) names vars) (length world.vars.now) (length vars) (expression_of c.args.e.now) _ _ is n h) c.solve_formula.ensures.ok
+    IfOk-weaker c.solve_formula.result _ _ (λ it h. solved_over (where_at s1 world) (over (symbols_at s g.symbols ++ more) (scope_at s names) vars) (length world.vars.now) (length vars) (expression_of c.args.e.now) _ _ is n h) c.solve_formula.ensures.ok
 
 pub returns-clause-err : goal.returns-clause-err
 returns-clause-err c =
@@ -63,6 +63,6 @@ returns-clause-err c =
     let more : List SymbolTree = wanting_tuples (symbols_at s g.symbols) c.args.seen.now.widths in
     let ext : IsExtended s g s1 g1 more = rw c.as_slice.ensures at c.in_ok-push_tuples.ensures.entries in
     let world = c.world_over-world.result in
-    let is : where_at s1 world ≡ over s (symbols_at s g.symbols ++ more) names vars = c.world_over-world.ensures.names s1 ∙ (ap (over s1 (symbols_at s1 g1.symbols) names) c.as_slice-2.ensures ∙ over_extended s s1 c.push_tuples.ensures.grows g g1 more names c.requires.signature c.requires.scopes ext vars) in
+    let is : where_at s1 world ≡ over (symbols_at s g.symbols ++ more) (scope_at s names) vars = c.world_over-world.ensures.names s1 ∙ (ap (over (symbols_at s1 g1.symbols) (scope_at s1 names)) c.as_slice-2.ensures ∙ over_extended s s1 c.push_tuples.ensures.grows g g1 more names c.requires.signature c.requires.scopes ext vars) in
     let n : length world.vars.now ≡ length vars = ap length (c.world_over-world.ensures.vars ∙ c.as_slice-2.ensures) in
-    IfErr-weaker c.solve_formula.result _ _ (λ f h. fault_over (where_at s1 world) (over s (symbols_at s g.symbols ++ more) names vars) (length world.vars.now) (length vars) (expression_of c.args.e.now) f is n h) c.solve_formula.ensures.err
+    IfErr-weaker c.solve_formula.result _ _ (λ f h. fault_over (where_at s1 world) (over (symbols_at s g.symbols ++ more) (scope_at s names) vars) (length world.vars.now) (length vars) (expression_of c.args.e.now) f is n h) c.solve_formula.ensures.err

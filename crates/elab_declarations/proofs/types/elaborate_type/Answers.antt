@@ -5,12 +5,14 @@ use Rattle.tasks.specs.Meaning.{declarations_at}
 use Rattle.name_resolution.specs.scopes.declared.Table.TheVariants.{Types}
 use Rattle.name_resolution.specs.scopes.declared.Referent.TheVariants as stands
 use Rattle.name_resolution.specs.scopes.Names.{ScopeNames, with_name}
+use Rattle.name_resolution.specs.Naming.{scope_at}
 use Rattle.elab_groups.specs.open_types.Patterns.{no_notes}
 use Rattle.elab_groups.specs.parts.Declarations.{word, abstract_type, made_names, made_fault}
 use Rattle.elab_groups.specs.parts.Entries.{type_entry, IsExtended}
 use Rattle.elab_groups.specs.parts.Outcomes.{setting, declared_in, IsKept}
 use Rattle.elab_groups.proofs.parts.Refused.{made_refusal}
 use Rattle.elab_declarations.specs.Outcomes.{IsElaborated, IsRefusal}
+use Rattle.elab_declarations.proofs.Over.{told_at}
 use Rattle.elab_declarations.proofs.TypesMade.{type_elaborated, type_kept, types_held}
 use Rattle.elab_declarations.proofs.types.elaborate_type.Goals as goal
 
@@ -56,4 +58,4 @@ returns-in-Err-clause-err c =
     let x = word c.args.name.now in
     let vs = map word c.args.vars.now in
     subst (IsRefusal (setting p s g names) (abstract_type x vs)) (sym c.naming_fault.ensures)
-    (made_refusal p.decl 0 no_notes (made_fault (declared_in names) [] (made_names (abstract_type x vs))) None c.in-Err.fault c.in-Err.ensures.told)
+    (made_refusal p.decl 0 no_notes (made_fault (declared_in (scope_at s names)) [] (made_names (abstract_type x vs))) None c.in-Err.fault (told_at s names (made_names (abstract_type x vs)) c.in-Err.fault c.in-Err.ensures.told))

@@ -4,7 +4,7 @@ use Rattle.tasks.specs.trees.Facts.{TyVarsBelow}
 use Rattle.tasks.specs.Task.{SymbolTree}
 use Rattle.tasks.specs.Meaning.{symbols_at}
 use Rattle.name_resolution.specs.Abstract.{type_expression_of}
-use Rattle.name_resolution.specs.Naming.{where_at}
+use Rattle.name_resolution.specs.Naming.{where_at, scope_at}
 use Rattle.name_resolution.specs.Where.{Where}
 use Rattle.elab_groups.specs.name_resolution.variables.Seen.{SeenTree}
 use Rattle.elab_groups.specs.name_resolution.variables.Entered.{seen_at}
@@ -38,7 +38,7 @@ returns-clause-tree c =
     let more : List SymbolTree = wanting_tuples (symbols_at s g.symbols) (alias_seen f).widths in
     let q : seen_at c.enter_form.new.seen ≡ alias_seen f = rw (c.new.ensures, c.new-2.ensures) at c.in_ok-enter_form.ensures in
     let ext : IsExtended s g s1 g1 more = subst (λ (ws : List ℕ). IsExtended s g s1 g1 (wanting_tuples (symbols_at s g.symbols) ws)) (c.as_slice.ensures ∙ ap (λ (v : SeenTree). v.widths) q) c.in_ok-push_tuples.ensures.entries in
-    let is : where_at s1 c.world_over-world.result ≡ over s (symbols_at s g.symbols ++ more) names vars = c.world_over-world.ensures.names s1 ∙ over_extended s s1 c.push_tuples.ensures.grows g g1 more names c.requires.signature c.requires.scopes ext vars in
+    let is : where_at s1 c.world_over-world.result ≡ over (symbols_at s g.symbols ++ more) (scope_at s names) vars = c.world_over-world.ensures.names s1 ∙ over_extended s s1 c.push_tuples.ensures.grows g g1 more names c.requires.signature c.requires.scopes ext vars in
     IfOk-weaker c.type_of_form.result _ _ (λ id h. h ∙ ap (λ (v : Where). type_at v f) is) c.type_of_form.ensures.tree
 
 pub returns-clause-below : goal.returns-clause-below
@@ -53,5 +53,5 @@ returns-clause-below c =
     let more : List SymbolTree = wanting_tuples (symbols_at s g.symbols) (alias_seen f).widths in
     let q : seen_at c.enter_form.new.seen ≡ alias_seen f = rw (c.new.ensures, c.new-2.ensures) at c.in_ok-enter_form.ensures in
     let ext : IsExtended s g s1 g1 more = subst (λ (ws : List ℕ). IsExtended s g s1 g1 (wanting_tuples (symbols_at s g.symbols) ws)) (c.as_slice.ensures ∙ ap (λ (v : SeenTree). v.widths) q) c.in_ok-push_tuples.ensures.entries in
-    let is : where_at s1 c.world_over-world.result ≡ over s (symbols_at s g.symbols ++ more) names vars = c.world_over-world.ensures.names s1 ∙ over_extended s s1 c.push_tuples.ensures.grows g g1 more names c.requires.signature c.requires.scopes ext vars in
+    let is : where_at s1 c.world_over-world.result ≡ over (symbols_at s g.symbols ++ more) (scope_at s names) vars = c.world_over-world.ensures.names s1 ∙ over_extended s s1 c.push_tuples.ensures.grows g g1 more names c.requires.signature c.requires.scopes ext vars in
     IfOk-weaker c.type_of_form.result _ _ (λ id h right. subst (TyVarsBelow (length vars)) (sym (h ∙ ap (λ (v : Where). type_at v f) is)) (form_within s s1 c.push_tuples.ensures.grows g g1 more names c.requires.signature c.requires.scopes ext vars f right)) c.type_of_form.ensures.tree

@@ -2,7 +2,7 @@ use Rattle.std.proofs.Common.{◌≡◌, None, List, map, sym, ap, subst, ◌∙
 use Rattle.tasks.specs.Meaning.{symbols_at, cons_at}
 use Rattle.surface.specs.declared.declarations.ConTree.{ConTree as ConSource}
 use Rattle.name_resolution.specs.Abstract.{texts_of_names}
-use Rattle.name_resolution.specs.Naming.{where_at, Tells}
+use Rattle.name_resolution.specs.Naming.{where_at, Tells, scope_at}
 use Rattle.name_resolution.specs.Where.{Where}
 use Rattle.elab_groups.specs.parts.Declarations.{word, words, constructors_fault}
 use Rattle.elab_groups.specs.parts.Outcomes.{over}
@@ -16,7 +16,7 @@ returns-in_err-push_constructors-clause-err c =
     let f = c.in_err-push_constructors.field-0.0 in
     let ns = c.args.source.now.vars in
     let ks = constructors_of c.args.source.now.cons in
-    let there = over s (symbols_at s c.args.sig.now.symbols) c.args.scope.now in
+    let there = over (symbols_at s c.args.sig.now.symbols) (scope_at s c.args.scope.now) in
     let vars : c.as_slice-2.result.now ≡ words (map word ns) = c.as_slice-2.ensures.value ∙ (c.in_ok-vars.ensures ∙ (ap texts_of_names c.as_slice.ensures ∙ sym (words_texts ns))) in
     let is : where_at s c.world_of-world.result ≡ there (words (map word ns)) = c.world_of-world.ensures.names s ∙ ap there vars in
     let told = subst (λ (w : Where). Tells (Err f) (constructors_fault w (constructors_of c.as_slice-3.result.now))) is c.in_err-push_constructors.ensures.told in
@@ -29,7 +29,7 @@ returns-clause-cons c =
     let s1 = c.push_constructors.new.store in
     let n = c.args.number.now in
     let ns = c.args.source.now.vars in
-    let there = over s (symbols_at s c.args.sig.now.symbols) c.args.scope.now in
+    let there = over (symbols_at s c.args.sig.now.symbols) (scope_at s c.args.scope.now) in
     let vars : c.as_slice-2.result.now ≡ words (map word ns) = c.as_slice-2.ensures.value ∙ (c.in_ok-vars.ensures ∙ (ap texts_of_names c.as_slice.ensures ∙ sym (words_texts ns))) in
     let is : where_at s c.world_of-world.result ≡ there (words (map word ns)) = c.world_of-world.ensures.names s ∙ ap there vars in
     let cons : cons_at s1 c.push_constructors.new.made ≡ constructor_trees (where_at s c.world_of-world.result) n (constructors_of c.as_slice-3.result.now) = rw c.new-made.ensures at c.in_ok-push_constructors.ensures.cons in
@@ -39,7 +39,7 @@ pub returns-clause-free : goal.returns-clause-free
 returns-clause-free c =
     let s = c.args.store.now in
     let ns = c.args.source.now.vars in
-    let there = over s (symbols_at s c.args.sig.now.symbols) c.args.scope.now in
+    let there = over (symbols_at s c.args.sig.now.symbols) (scope_at s c.args.scope.now) in
     let vars : c.as_slice-2.result.now ≡ words (map word ns) = c.as_slice-2.ensures.value ∙ (c.in_ok-vars.ensures ∙ (ap texts_of_names c.as_slice.ensures ∙ sym (words_texts ns))) in
     let is : where_at s c.world_of-world.result ≡ there (words (map word ns)) = c.world_of-world.ensures.names s ∙ ap there vars in
     let none = subst (λ (w : Where). constructors_fault w (constructors_of c.as_slice-3.result.now) ≡ None) is c.in_ok-push_constructors.ensures.told in

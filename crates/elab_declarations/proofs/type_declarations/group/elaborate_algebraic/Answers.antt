@@ -3,11 +3,13 @@ use Rattle.trees.specs.Node.{Grows}
 use Rattle.trees.proofs.Nodes.{Grows_trans}
 use Rattle.tasks.specs.Meaning.{algebraics_at}
 use Rattle.open_types.specs.Patterns.{no_notes}
-use Rattle.elab_groups.specs.parts.Declarations.{types_fault}
+use Rattle.name_resolution.specs.Naming.{scope_at}
+use Rattle.elab_groups.specs.parts.Declarations.{made_type_names, types_fault}
 use Rattle.elab_groups.specs.parts.Outcomes.{setting}
 use Rattle.elab_groups.proofs.parts.Entering.{signature_grows}
 use Rattle.elab_groups.proofs.parts.Refused.{made_refusal}
 use Rattle.elab_declarations.specs.type_declarations.Algebraics.{algebraics_of, group_count, inside_types, group_made, IsTypesRefusal}
+use Rattle.elab_declarations.proofs.Over.{told_at}
 use Rattle.elab_declarations.proofs.type_declarations.Counted.{types_counted}
 use Rattle.elab_declarations.proofs.type_declarations.Made.{all_scopes, group_refused, group_elaborated, group_kept}
 use Rattle.elab_declarations.proofs.type_declarations.group.elaborate_algebraic.Goals as goal
@@ -51,7 +53,8 @@ returns-in_ok-elaborated-in-Ok-make_types-clause-ok c =
     let ys = algebraics_at s2 c.in-Ok-make_types.made in
     let it = c.in_ok-elaborated-in-Ok-make_types.ensures in
     let made = c.in_ok-elaborated-in-Ok-make_types.elaborated in
-    group_elaborated p s s1 grows g g1 names after ts symbol number c.requires.scopes c.in_ok-symbol.ensures.entries c.in_ok-symbol.ensures.first behind c.len-number.ensures c.in-Ok.ensures.scope s2 s3 more c.make_group.new.sig made ys c.in-Ok-make_types.ensures.types it.entries c.in-Ok.ensures.told c.in-Ok-make_types.ensures.free it.decls it.rigid it.matches
+    let all : Grows s s3 = Grows_trans s s1 s3 grows (Grows_trans s1 s2 s3 more c.make_group.ensures.grows) in
+    group_elaborated p s s1 grows g g1 names after ts symbol number c.requires.scopes c.in_ok-symbol.ensures.entries c.in_ok-symbol.ensures.first behind c.len-number.ensures c.in-Ok.ensures.scope s2 s3 more c.make_group.new.sig made ys c.in-Ok-make_types.ensures.types it.entries all c.in-Ok.ensures.told c.in-Ok-make_types.ensures.free it.decls it.rigid it.matches
 
 pub returns-in_ok-elaborated-in-Ok-make_types-clause-kept : goal.returns-in_ok-elaborated-in-Ok-make_types-clause-kept
 returns-in_ok-elaborated-in-Ok-make_types-clause-kept c =
@@ -100,4 +103,4 @@ returns-in-Err-clause-err c =
     let names = c.args.scope.now in
     let ts = algebraics_of c.args.types.now in
     subst (IsTypesRefusal (setting p s g names) ts) (sym c.naming_fault-in-Err.ensures)
-    (made_refusal p.decl 0 no_notes (group_made names ts) (types_fault (inside_types (setting p s g names) ts) ts) c.in-Err.fault c.in-Err.ensures.told)
+    (made_refusal p.decl 0 no_notes (group_made (scope_at s names) ts) (types_fault (inside_types (setting p s g names) ts) ts) c.in-Err.fault (told_at s names (made_type_names ts) c.in-Err.fault c.in-Err.ensures.told))

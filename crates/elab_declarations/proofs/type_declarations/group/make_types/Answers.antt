@@ -1,5 +1,6 @@
 use Rattle.std.proofs.Common.{◌≡◌, [], sym, subst}
 use Rattle.tasks.specs.Meaning.{symbols_at, algebraics_at}
+use Rattle.name_resolution.specs.Naming.{scope_at}
 use Rattle.elab_groups.specs.parts.Outcomes.{over}
 use Rattle.elab_declarations.specs.type_declarations.Algebraics.{algebraics_of, algebraic_trees}
 use Rattle.elab_declarations.specs.type_declarations.Held.{AreWithin}
@@ -13,6 +14,6 @@ returns-clause-within c =
     let is = c.args.sig.now.symbols in
     let names = c.args.scope.now in
     let ts = algebraics_of c.args.types.now in
-    let w = over s (symbols_at s is) names [] in
+    let w = over (symbols_at s is) (scope_at s names) [] in
     let trees : algebraics_at c.push_types.new.store c.push_types.new.made ≡ algebraic_trees w c.args.symbol c.args.number ts = rw c.new-made.ensures at c.in_ok-push_types.ensures.types in
     subst (AreWithin ts) (sym trees) (types_within w (placed_scoped s c.requires.scopes.0 names c.requires.scopes.1 is [] c.requires.signature) c.args.symbol c.args.number ts c.in_ok-push_types.ensures.told)

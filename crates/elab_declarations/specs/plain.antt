@@ -1,4 +1,0 @@
-pub mod Names
-pub mod Settings
-pub mod Outcomes
-pub mod Meant
