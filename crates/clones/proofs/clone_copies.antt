@@ -1,3 +1,2 @@
-pub mod Bare
-pub mod Moved
+pub mod Pushed
 pub mod Longer

@@ -1,5 +1,4 @@
 pub mod Looked
 pub mod Compared
 pub mod Growing
-pub mod Sided
 pub mod Told

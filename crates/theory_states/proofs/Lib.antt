@@ -1,3 +1,4 @@
 pub mod Growing
 pub mod Lists
+pub mod Moving
 pub mod Pushing

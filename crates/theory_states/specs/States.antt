@@ -4,10 +4,10 @@ use Rattle.std.specs.Prelude.{ℕ, nat_eq, Bool, List, [], ◌∷◌, ◌++◌, 
 use Rattle.std.specs.List.{find, flat_map}
 use Rattle.std.specs.Str.{bytes_eq}
 use Rattle.indexmap.specs.IndexSet.{insert_all}
-use Rattle.trees.specs.Tree.{Tree}
 use Rattle.tasks.specs.Task.{SymbolTree, DeclarationTree}
-use Rattle.scopes.specs.Names.{ScopeNames, empty_names}
-use Rattle.theory_states.specs.declared.moves.Move.{Move}
+use Rattle.scopes.specs.Names.{empty_names}
+use Rattle.elab_groups.specs.name_resolution.Where.{NamesTree}
+use Rattle.theory_states.specs.Moves.{MoveTree}
 use Rattle.theory_states.specs.goal_tasks.Theories.{GoalTree}
 use Rattle.theory_states.specs.declared.states.AxiomAt.{AxiomAt}
 
@@ -18,22 +18,21 @@ pub record KnownTree : Type 0 where
   pub visible : List ℕ
   pub axioms : List AxiomAt
   pub goals : List GoalTree
-  pub moves : List Move
+  pub moves : List MoveTree
 
 -- the theory that is open, with the names of its open scopes, each followed by a dot
 pub record OpenedTree : Type 0 where
   pub path : List ℕ
   pub within : List ℕ
-  pub scope : ScopeNames
+  pub scope : NamesTree
   pub visible : List ℕ
   pub axioms : List AxiomAt
   pub goals : List GoalTree
-  pub moves : List Move
+  pub moves : List MoveTree
 
--- a place in a source: the trees of the store, the signature, all declarations, each once, the
--- theories before, the open one, and the number of the next declaration
+-- a place in a source: the signature, all declarations, each once, the theories before, the open
+-- one, and the number of the next declaration
 pub record StateTree : Type 0 where
-  pub trees : List Tree
   pub symbols : List SymbolTree
   pub decls : List DeclarationTree
   pub known : List KnownTree

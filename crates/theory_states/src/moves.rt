@@ -4,26 +4,26 @@ ghost use Rattle.std.specs.Prelude.{◌≡◌, ◌++◌, OnOk};
 ghost use Rattle.std.specs.Option.{option_copied};
 ghost use Rattle.theory_states.specs.Moves.{left, moved, replayed, in_scope, brought, handed, name_or};
 
-use scopes::{Scope, Table, TypeName};
+use scopes::{Referent, Scope, Table};
 use std::alloc::AllocError;
 use surface::Link;
 use tasks::Text;
 
-/// A move in a scope.
+/// A move in a scope. Code has the number of an alias' type, definitions have the type itself.
 #[derive(Drop)]
-pub enum Move {
+pub enum Move<A> {
     /// A name is brought into a table.
-    Brings(Table, Text, TypeName),
+    Brings(Table, Text, Referent<A>),
     /// A scope is opened.
     Opens(Text),
     /// The innermost scope is left.
     Closes,
 }
 
-impl Clone for Move {
+impl Clone for Move<usize> {
     ghost is_clone = { λ a b. b ≡ a };
 
-    fn clone(&self) -> Result<Move, AllocError> {
+    fn clone(&self) -> Result<Move<usize>, AllocError> {
         match self {
             Move::Brings(table, name, thing) => Ok(Move::Brings(*table, name.clone()?, *thing)),
             Move::Opens(name) => Ok(Move::Opens(name.clone()?)),
@@ -42,7 +42,7 @@ pub fn leave(scope: &mut Scope)
 }
 
 // Makes a move, for names that are imported.
-fn make_move(scope: &mut Scope, step: &Move) -> Result<(), AllocError>
+fn make_move(scope: &mut Scope, step: &Move<usize>) -> Result<(), AllocError>
     ensures { OnOk result (scope.new ≡ moved step.now scope.old) }
 {
     match step {
@@ -56,7 +56,7 @@ fn make_move(scope: &mut Scope, step: &Move) -> Result<(), AllocError>
 }
 
 /// Makes moves in a scope, for names that are imported. Only want of memory refuses, after some of the moves.
-pub fn replay(scope: &mut Scope, moves: &[Move]) -> Result<(), AllocError>
+pub fn replay(scope: &mut Scope, moves: &[Move<usize>]) -> Result<(), AllocError>
     ensures { OnOk result (scope.new ≡ replayed moves.now scope.old) }
 {
     for step in moves {
@@ -66,7 +66,7 @@ pub fn replay(scope: &mut Scope, moves: &[Move]) -> Result<(), AllocError>
 }
 
 // A scope of this name with the names.
-fn replay_in_scope(scope: &mut Scope, name: &[u8], moves: &[Move]) -> Result<(), AllocError>
+fn replay_in_scope(scope: &mut Scope, name: &[u8], moves: &[Move<usize>]) -> Result<(), AllocError>
     ensures { OnOk result (scope.new ≡ in_scope name.now moves.now scope.old) }
 {
     scope.open_used_name(name)?;
@@ -91,7 +91,7 @@ pub fn bring_theory(
     link: Link,
     last: &[u8],
     alias: Option<&[u8]>,
-    moves: &[Move],
+    moves: &[Move<usize>],
 ) -> Result<(), AllocError>
     ensures { OnOk result (scope.new
         ≡ brought link last.now (option_copied alias.entry) moves.now scope.old) }
@@ -113,7 +113,11 @@ pub fn bring_theory(
 }
 
 /// Puts the names that are passed on after others. Only want of memory refuses.
-pub fn hand_on(link: Link, moves: &[Move], out: &mut Vec<Move>) -> Result<(), AllocError>
+pub fn hand_on(
+    link: Link,
+    moves: &[Move<usize>],
+    out: &mut Vec<Move<usize>>,
+) -> Result<(), AllocError>
     ensures { OnOk result (out.new.items ≡ out.old.items ++ handed link moves.now) }
 {
     match link {

@@ -25,7 +25,7 @@ pub struct AxiomAt {
 pub struct KnownTheory {
     pub theory: Theory,
     pub axioms: Seq<AxiomAt>,
-    pub moves: Seq<Move>,
+    pub moves: Seq<Move<usize>>,
 }
 
 /// The theories so far, over one signature and one list of declarations.
@@ -47,7 +47,7 @@ pub struct Opened {
     pub visible: IndexSet<usize>,
     pub goals: Seq<GoalAt>,
     pub axioms: Seq<AxiomAt>,
-    pub moves: Vec<Move>,
+    pub moves: Vec<Move<usize>>,
     /// The number of the next declaration.
     pub count: usize,
 }

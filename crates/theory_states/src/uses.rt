@@ -54,7 +54,7 @@ pub fn alias_text(alias: &Option<Name>) -> Option<&[u8]>
 /// passed on. Only want of memory refuses.
 pub fn bring_names(
     open: &mut Opened,
-    moves: &[Move],
+    moves: &[Move<usize>],
     link: Link,
     last: &[u8],
     alias: Option<&[u8]>,

@@ -1,12 +1,8 @@
 -- What the parts of a clone in code stand for.
-use Rattle.std.specs.Prelude.{nat_eq, List, []}
+use Rattle.std.specs.Prelude.{nat_eq, List}
 use Rattle.indexmap.specs.IndexMap.{get}
 use Rattle.tasks.specs.trees.Tree.{Tree}
 use Rattle.clones.specs.Meaning.{map_at}
-use Rattle.theory_states.specs.declared.states.Typed.{Typed}
-use Rattle.theory_states.specs.declared.states.Opened.{Opened}
-use Rattle.theory_states.specs.States.{StateTree}
-use Rattle.theory_states.specs.Meaning.{state_at}
 use Rattle.clones.specs.clone_elements.Meaning.{fates_at}
 use Rattle.clones.specs.declared.clone_copies.places.Job.{Job}
 use Rattle.clones.specs.clone_copies.Places.{Copying}
@@ -22,7 +18,3 @@ copying_at s x = record {
       map_at s x.morphism.now;
   within = x.within.now;
 }
-
--- a state without its trees
-abbrev pub bare_at : List Tree → Typed → Opened → StateTree
-bare_at s t o = record (state_at s t o) { trees = [] }

@@ -7,7 +7,7 @@ use Rattle.tasks.specs.Task.{SymbolTree, symbol_or, made_by}
 use Rattle.surface.specs.declared.declarations.PropKind.{PropKind}
 use Rattle.surface.specs.declared.declarations.PropKind.TheVariants as kind
 use Rattle.surface.specs.Declarations.{Element, type_element, symbol_element, prop_element, all_axioms}
-use Rattle.name_resolution.specs.scopes.Names.{ScopeNames}
+use Rattle.name_resolution.specs.Where.{NamesTree}
 use Rattle.surface.specs.Lexeme.{Word}
 use Rattle.clones.specs.Mapped.{Map}
 use Rattle.clones.specs.clone_elements.Left.{Origin, decl_or, symbol_at_place, element_key, place_by}
@@ -23,17 +23,17 @@ pub record SideTree : Type 0 where
 
 -- the sides of elements: the left ones by the places of a table, the right ones over the signature
 -- with the tuples of those before
-abbrev pub sides_made : (Word → Option ℕ) → List Tree → List SymbolTree → ScopeNames → List Element
+abbrev pub sides_made : (Word → Option ℕ) → List SymbolTree → NamesTree → List Element
     → List SideTree
-sides_made places s symbols names [] = []
-sides_made places s symbols names (e ∷ es) =
+sides_made places symbols names [] = []
+sides_made places symbols names (e ∷ es) =
     record {
       element = e;
       left = place_by places (element_key e);
       right =
-          right_made s symbols names e;
+          right_made symbols names e;
     }
-    ∷ sides_made places s (symbols ++ right_tuples symbols e) names es
+    ∷ sides_made places (symbols ++ right_tuples symbols e) names es
 
 -- ---- fates of declarations
 -- an element replaces a type or a symbol, or says what an axiom becomes

@@ -4,7 +4,8 @@ use Rattle.std.specs.Prelude.{ℕ, false, List, [], ◌∷◌, ◌++◌, map, le
 use Rattle.tasks.specs.trees.Tree.{Tree}
 use Rattle.tasks.specs.trees.Facts.{TyVarsBelow}
 use Rattle.tasks.specs.Task.{SymbolTree}
-use Rattle.name_resolution.specs.scopes.Names.{ScopeNames}
+use Rattle.name_resolution.specs.Where.{NamesTree}
+use Rattle.name_resolution.specs.scopes.Names.{NamesOf}
 use Rattle.surface.specs.Declarations.{Element, type_element, symbol_element, prop_element, all_axioms}
 use Rattle.surface.specs.Forms.{Called}
 use Rattle.name_resolution.specs.Abstract.{TypeExpression, texts_of_names, type_expression, text_of_own}
@@ -42,15 +43,15 @@ abbrev pub symbol_missing : ℕ → Option ℕ → Option NamingFault
 symbol_missing token None = Some (Unknown token)
 symbol_missing token (Some k) = None
 
-abbrev pub called_symbol : ScopeNames → Called → Option ℕ
+abbrev pub called_symbol : {A : Type 0} → NamesOf A → Called → Option ℕ
 called_symbol names c = symbol_named names c.scopes (text_of_own c.own)
 
-abbrev pub right_fault : List Tree → List SymbolTree → ScopeNames → Element → Option NamingFault
-right_fault s symbols names (type_element i c vs f) =
-    form_fault (over s symbols names (texts_of_names vs)) false (type_expression f)
-right_fault s symbols names (symbol_element i w c d) = symbol_missing d.at (called_symbol names d)
-right_fault s symbols names (prop_element i k c) = None
-right_fault s symbols names (all_axioms i) = None
+abbrev pub right_fault : List SymbolTree → NamesTree → Element → Option NamingFault
+right_fault symbols names (type_element i c vs f) =
+    form_fault (over symbols names (texts_of_names vs)) false (type_expression f)
+right_fault symbols names (symbol_element i w c d) = symbol_missing d.at (called_symbol names d)
+right_fault symbols names (prop_element i k c) = None
+right_fault symbols names (all_axioms i) = None
 
 -- ---- entries of the tuples of a type
 abbrev pub type_tuples : List SymbolTree → TypeExpression → List SymbolTree
@@ -63,14 +64,14 @@ right_tuples symbols (prop_element i k c) = []
 right_tuples symbols (all_axioms i) = []
 
 -- ---- what they stand for
-abbrev pub right_made : List Tree → List SymbolTree → ScopeNames → Element → RightTree
-right_made s symbols names (type_element i c vs f) =
-    type_right (type_at (over s (symbols ++ type_tuples symbols (type_expression f)) names
+abbrev pub right_made : List SymbolTree → NamesTree → Element → RightTree
+right_made symbols names (type_element i c vs f) =
+    type_right (type_at (over (symbols ++ type_tuples symbols (type_expression f)) names
     (texts_of_names vs)) (type_expression f))
-right_made s symbols names (symbol_element i w c d) =
+right_made symbols names (symbol_element i w c d) =
     symbol_right (unwrap_or (called_symbol names d) 0)
-right_made s symbols names (prop_element i k c) = no_right
-right_made s symbols names (all_axioms i) = no_right
+right_made symbols names (prop_element i k c) = no_right
+right_made symbols names (all_axioms i) = no_right
 
 -- ---- of all elements, each over the signature with the tuples of those before it
 abbrev pub rights_tuples : List SymbolTree → List Element → List SymbolTree
@@ -78,12 +79,11 @@ rights_tuples symbols [] = []
 rights_tuples symbols (e ∷ es) =
     right_tuples symbols e ++ rights_tuples (symbols ++ right_tuples symbols e) es
 
-abbrev pub rights_fault : List Tree → List SymbolTree → ScopeNames → List Element
-    → Option NamingFault
-rights_fault s symbols names [] = None
-rights_fault s symbols names (e ∷ es) =
-    first_of (right_fault s symbols names e)
-    (rights_fault s (symbols ++ right_tuples symbols e) names es)
+abbrev pub rights_fault : List SymbolTree → NamesTree → List Element → Option NamingFault
+rights_fault symbols names [] = None
+rights_fault symbols names (e ∷ es) =
+    first_of (right_fault symbols names e)
+    (rights_fault (symbols ++ right_tuples symbols e) names es)
 
 -- the type on the right of an element has its type variables alone
 abbrev pub IsWithin : Element → RightTree → Type 0

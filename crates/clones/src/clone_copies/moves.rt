@@ -1,14 +1,16 @@
 // The names that a clone passes on.
 // They depend on maps of symbols and on moves in scopes.
-ghost use Rattle.std.specs.Prelude.{◌≡◌, List, All, IfOk, OnOk};
+ghost use Rattle.std.specs.Prelude.{◌≡◌, List, map, All, IfOk, OnOk};
 ghost use Rattle.tasks.specs.trees.Tree.{Tree};
 ghost use Rattle.tasks.specs.trees.Node.{tree_at, Grows};
 ghost use Rattle.elab_groups.specs.scopes.declared.Referent.TheVariants.{Alias};
 ghost use Rattle.tasks.specs.Meaning.{symbols_at};
+ghost use Rattle.name_resolution.specs.Naming.{meaning_at};
 ghost use Rattle.clones.specs.Mapped.{mapped};
 ghost use Rattle.clones.specs.Meaning.{map_at, MapHeld, AreKnown};
-ghost use Rattle.open_types.specs.Drafts.{HoldsType};
-ghost use Rattle.clones.specs.clone_copies.Moves.{IsAliasOf, IsTypeMapped, IsThingMapped, IsMoveMapped, AreMovesMapped, IsThingHeld, MoveHeld};
+ghost use Rattle.open_types.specs.Drafts.{HoldsType, MeaningHeld};
+ghost use Rattle.theory_states.specs.Meaning.{move_at, MoveHeld};
+ghost use Rattle.clones.specs.clone_copies.Moves.{type_symbol_mapped, thing_mapped, move_mapped, moves_mapped};
 
 use crate::clone_elements::vars_of;
 use crate::{MappedTrees, SymbolMap, map_symbol, map_tree};
@@ -27,8 +29,10 @@ fn alias_of(vars: usize, ty: TermId) -> TypeName
 // What the name of a type symbol stands for in the copy.
 fn map_type_symbol(store: &Store, morphism: &SymbolMap, vars: usize, symbol: usize) -> TypeName
     requires { MapHeld store.now morphism.now }
-    ensures { IsTypeMapped store.now vars ((map_at store.now morphism.now).types symbol)
-        ((map_at store.now morphism.now).symbols symbol) result }
+    ensures is { meaning_at store.now result ≡ type_symbol_mapped vars
+        ((map_at store.now morphism.now).types symbol)
+        ((map_at store.now morphism.now).symbols symbol) }
+    ensures result_held { MeaningHeld store.now result }
 {
     match morphism.types.get(&symbol) {
         Some(ty) => alias_of(vars, *ty),
@@ -48,8 +52,9 @@ fn map_alias(
     requires map_held { MapHeld store.old morphism.now }
     requires known { AreKnown (map_at store.old morphism.now) store.old known.old }
     requires held { HoldsType store.old ty }
-    ensures is { IfOk result (IsAliasOf store.new vars (mapped (map_at store.old morphism.now)
-        (tree_at store.old ty))) }
+    ensures is { IfOk result (λ v. meaning_at store.new v ≡ Alias vars
+        (mapped (map_at store.old morphism.now) (tree_at store.old ty))) }
+    ensures result_held { IfOk result (MeaningHeld store.new) }
     ensures known { OnOk result (AreKnown (map_at store.old morphism.now) store.new known.new) }
     ensures grows { Grows store.old store.new }
 {
@@ -69,9 +74,11 @@ fn map_thing(
 ) -> Result<TypeName, AllocError>
     requires map_held { MapHeld store.old morphism.now }
     requires known { AreKnown (map_at store.old morphism.now) store.old known.old }
-    requires held { IsThingHeld store.old table thing }
-    ensures is { IfOk result (λ v. (s : List Tree) → IsThingMapped store.new
-        (symbols_at s sig.now.symbols) (map_at store.old morphism.now) table thing v) }
+    requires held { MeaningHeld store.old thing }
+    ensures is { IfOk result (λ v. (s : List Tree) → meaning_at store.new v ≡ thing_mapped
+        (symbols_at s sig.now.symbols) (map_at store.old morphism.now) table
+        (meaning_at store.old thing)) }
+    ensures result_held { IfOk result (MeaningHeld store.new) }
     ensures known { OnOk result (AreKnown (map_at store.old morphism.now) store.new known.new) }
     ensures grows { Grows store.old store.new }
 {
@@ -105,13 +112,15 @@ fn map_move(
     sig: &Signature,
     morphism: &SymbolMap,
     known: &mut MappedTrees,
-    step: &Move,
-) -> Result<Move, AllocError>
+    step: &Move<usize>,
+) -> Result<Move<usize>, AllocError>
     requires map_held { MapHeld store.old morphism.now }
     requires known { AreKnown (map_at store.old morphism.now) store.old known.old }
     requires held { MoveHeld store.old step.now }
-    ensures is { IfOk result (λ v. (s : List Tree) → IsMoveMapped store.new
-        (symbols_at s sig.now.symbols) (map_at store.old morphism.now) step.now v) }
+    ensures is { IfOk result (λ v. (s : List Tree) → move_at store.new v ≡ move_mapped
+        (symbols_at s sig.now.symbols) (map_at store.old morphism.now)
+        (move_at store.old step.now)) }
+    ensures result_held { IfOk result (MoveHeld store.new) }
     ensures known { OnOk result (AreKnown (map_at store.old morphism.now) store.new known.new) }
     ensures grows { Grows store.old store.new }
 {
@@ -136,13 +145,15 @@ pub fn map_moves(
     sig: &Signature,
     morphism: &SymbolMap,
     known: &mut MappedTrees,
-    moves: &[Move],
-) -> Result<Vec<Move>, AllocError>
+    moves: &[Move<usize>],
+) -> Result<Vec<Move<usize>>, AllocError>
     requires map_held { MapHeld store.old morphism.now }
     requires known { AreKnown (map_at store.old morphism.now) store.old known.old }
     requires held { All (MoveHeld store.old) moves.now }
-    ensures are { IfOk result (λ v. (s : List Tree) → AreMovesMapped store.new
-        (symbols_at s sig.now.symbols) (map_at store.old morphism.now) moves.now v.items) }
+    ensures are { IfOk result (λ v. (s : List Tree) → map (move_at store.new) v.items
+        ≡ moves_mapped (symbols_at s sig.now.symbols) (map_at store.old morphism.now)
+        (map (move_at store.old) moves.now)) }
+    ensures result_held { IfOk result (λ v. All (MoveHeld store.new) v.items) }
     ensures known { OnOk result (AreKnown (map_at store.old morphism.now) store.new known.new) }
     ensures grows { Grows store.old store.new }
 {

@@ -10,11 +10,11 @@ ghost use Rattle.tasks.specs.Meaning.{trees_at, declaration_at, DeclHeld};
 ghost use Rattle.clones.specs.Meaning.{map_at, MapHeld, AreKnown};
 ghost use Rattle.open_types.specs.Drafts.{HoldsType};
 ghost use Rattle.elab_groups.specs.parts.Entries.{IsSignature, IsExtended};
-ghost use Rattle.theory_states.specs.Meaning.{StateHeld};
+ghost use Rattle.theory_states.specs.Meaning.{state_at, StateHeld};
 ghost use Rattle.clones.specs.clone_elements.Plans.{kind_or};
 ghost use Rattle.clones.specs.clone_elements.Meaning.{fates_at};
 ghost use Rattle.clones.specs.clone_copies.Places.{next_numbers, rigid_types, with_copied_axiom, goal_with, with_copied_goal, with_kind, with_copy, with_own, with_place, with_places};
-ghost use Rattle.clones.specs.clone_copies.Meaning.{copying_at, bare_at};
+ghost use Rattle.clones.specs.clone_copies.Meaning.{copying_at};
 
 use crate::clone_copies::origins::{copy_names, is_own};
 use crate::clone_elements::{Fate, Plan, is_replaced};
@@ -110,8 +110,8 @@ fn push_axiom(
 ) -> Result<(), AllocError>
     requires held { StateHeld store.now typed.old open.old }
     requires copy_held { DeclHeld store.now copy }
-    ensures state { OnOk result (bare_at store.now typed.new open.new ≡ with_copied_axiom vars.now
-        (declaration_at store.now copy) (bare_at store.now typed.old open.old)) }
+    ensures state { OnOk result (state_at store.now typed.new open.new ≡ with_copied_axiom vars.now
+        (declaration_at store.now copy) (state_at store.now typed.old open.old)) }
     ensures held { OnOk result (StateHeld store.now typed.new open.new) }
 {
     let _ = store;
@@ -133,8 +133,8 @@ fn push_goal_of(
 ) -> Result<(), AllocError>
     requires held { StateHeld store.old typed.old open.old }
     requires formula_held { Holds store.old formula }
-    ensures state { OnOk result (bare_at store.new typed.new open.new ≡ goal_with vars.now name.now
-        (Says (tree_at store.old formula)) (bare_at store.old typed.old open.old)) }
+    ensures state { OnOk result (state_at store.new typed.new open.new ≡ goal_with vars.now name.now
+        (Says (tree_at store.old formula)) (state_at store.old typed.old open.old)) }
     ensures held { OnOk result (StateHeld store.new typed.new open.new) }
     ensures grows { Grows store.old store.new }
 {
@@ -164,8 +164,8 @@ fn push_goal(
 ) -> Result<(), AllocError>
     requires held { StateHeld store.old typed.old open.old }
     requires copy_held { DeclHeld store.old copy.now }
-    ensures state { OnOk result (bare_at store.new typed.new open.new ≡ with_copied_goal vars.now
-        (declaration_at store.old copy.now) (bare_at store.old typed.old open.old)) }
+    ensures state { OnOk result (state_at store.new typed.new open.new ≡ with_copied_goal vars.now
+        (declaration_at store.old copy.now) (state_at store.old typed.old open.old)) }
     ensures held { OnOk result (StateHeld store.new typed.new open.new) }
     ensures grows { Grows store.old store.new }
 {
@@ -198,8 +198,8 @@ fn push_kind(
 ) -> Result<(), AllocError>
     requires held { StateHeld store.old typed.old open.old }
     requires copy_held { DeclHeld store.old copy }
-    ensures state { OnOk result (bare_at store.new typed.new open.new ≡ with_kind kind vars.now
-        (declaration_at store.old copy) (bare_at store.old typed.old open.old)) }
+    ensures state { OnOk result (state_at store.new typed.new open.new ≡ with_kind kind vars.now
+        (declaration_at store.old copy) (state_at store.old typed.old open.old)) }
     ensures held { OnOk result (StateHeld store.new typed.new open.new) }
     ensures grows { Grows store.old store.new }
 {
@@ -249,9 +249,9 @@ fn push_copy(
 ) -> Result<(), AllocError>
     requires held { StateHeld store.old typed.old open.old }
     requires copy_held { DeclHeld store.old copy }
-    ensures state { OnOk result (bare_at store.new typed.new open.new ≡ with_copy
+    ensures state { OnOk result (state_at store.new typed.new open.new ≡ with_copy
         (copying_at store.old job.now) place ((copying_at store.old job.now).axioms place)
-        (declaration_at store.old copy) (bare_at store.old typed.old open.old)) }
+        (declaration_at store.old copy) (state_at store.old typed.old open.old)) }
     ensures held { OnOk result (StateHeld store.new typed.new open.new) }
     ensures grows { Grows store.old store.new }
 {
@@ -281,8 +281,8 @@ fn copy_own(
     requires within { place < length typed.old.decls }
     requires map_held { MapHeld store.old job.now.morphism.now }
     requires known { AreKnown (map_at store.old job.now.morphism.now) store.old trees.old }
-    ensures state { OnOk result (bare_at store.new typed.new open.new ≡ with_own
-        (copying_at store.old job.now) place (bare_at store.old typed.old open.old)) }
+    ensures state { OnOk result (state_at store.new typed.new open.new ≡ with_own
+        (copying_at store.old job.now) place (state_at store.old typed.old open.old)) }
     ensures held { OnOk result (StateHeld store.new typed.new open.new) }
     ensures known { OnOk result (AreKnown (map_at store.old job.now.morphism.now) store.new
         trees.new) }
@@ -318,8 +318,8 @@ fn copy_place(
     requires within { place < length typed.old.decls }
     requires map_held { MapHeld store.old job.now.morphism.now }
     requires known { AreKnown (map_at store.old job.now.morphism.now) store.old trees.old }
-    ensures state { OnOk result (bare_at store.new typed.new open.new ≡ with_place
-        (copying_at store.old job.now) place (bare_at store.old typed.old open.old)) }
+    ensures state { OnOk result (state_at store.new typed.new open.new ≡ with_place
+        (copying_at store.old job.now) place (state_at store.old typed.old open.old)) }
     ensures held { OnOk result (StateHeld store.new typed.new open.new) }
     ensures known { OnOk result (AreKnown (map_at store.old job.now.morphism.now) store.new
         trees.new) }
@@ -347,8 +347,8 @@ pub fn copy_places(
     requires within { All (λ k. k < length typed.old.decls) places.now }
     requires map_held { MapHeld store.old job.now.morphism.now }
     requires known { AreKnown (map_at store.old job.now.morphism.now) store.old trees.old }
-    ensures state { OnOk result (bare_at store.new typed.new open.new ≡ with_places
-        (copying_at store.old job.now) places.now (bare_at store.old typed.old open.old)) }
+    ensures state { OnOk result (state_at store.new typed.new open.new ≡ with_places
+        (copying_at store.old job.now) places.now (state_at store.old typed.old open.old)) }
     ensures held { OnOk result (StateHeld store.new typed.new open.new) }
     ensures known { OnOk result (AreKnown (map_at store.old job.now.morphism.now) store.new
         trees.new) }

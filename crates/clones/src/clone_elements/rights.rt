@@ -9,7 +9,7 @@ ghost use Rattle.surface.specs.Surface.{called_of};
 ghost use Rattle.surface.specs.SurfaceDeclarations.{element_of, element_by};
 ghost use Rattle.name_resolution.specs.Abstract.{type_expression_of, texts_of_names};
 ghost use Rattle.name_resolution.specs.Faults.{form_fault};
-ghost use Rattle.name_resolution.specs.Naming.{Tells};
+ghost use Rattle.name_resolution.specs.Naming.{Tells, scope_at};
 ghost use Rattle.open_types.specs.Pieces.{type_at};
 ghost use Rattle.open_types.specs.Drafts.{HoldsType};
 ghost use Rattle.elab_groups.specs.parts.Entries.{IsSignature, IsExtended, AreScopes};
@@ -70,7 +70,7 @@ fn check_type(
     ty: &TypeTree,
 ) -> Result<(), NamingFault>
     ensures { (s : List Tree) → Tells result (form_fault
-        (over s (symbols_at s sig.now.symbols) scope.now vars.now) false
+        (over (symbols_at s sig.now.symbols) (scope_at s scope.now) vars.now) false
         (type_expression_of ty.now)) }
 {
     let world = world_over(sig, scope, vars, false);
@@ -112,11 +112,11 @@ fn make_type(
         (type_tuples (symbols_at store.old sig.old.symbols) (type_expression_of ty.now))) }
     ensures held { IfOk result (HoldsType store.new) }
     ensures tree { IfOk result (λ id. tree_at store.new id ≡ type_at
-        (over store.old (symbols_at store.old sig.old.symbols ++ type_tuples
-        (symbols_at store.old sig.old.symbols) (type_expression_of ty.now)) scope.now vars.now)
-        (type_expression_of ty.now)) }
+        (over (symbols_at store.old sig.old.symbols ++ type_tuples
+        (symbols_at store.old sig.old.symbols) (type_expression_of ty.now))
+        (scope_at store.old scope.now) vars.now) (type_expression_of ty.now)) }
     ensures below { IfOk result (λ id. form_fault
-        (over store.old (symbols_at store.old sig.old.symbols) scope.now vars.now) false
+        (over (symbols_at store.old sig.old.symbols) (scope_at store.old scope.now) vars.now) false
         (type_expression_of ty.now) ≡ None → TyVarsBelow (length vars.now) (tree_at store.new id)) }
     ensures grows { Grows store.old store.new }
 {
@@ -140,18 +140,16 @@ fn right_type(
         (type_tuples (symbols_at store.old sig.old.symbols) (type_expression_of ty.now))) }
     ensures held { IfOk result (HoldsType store.new) }
     ensures tree { IfOk result (λ id. tree_at store.new id ≡ type_at
-        (over store.old (symbols_at store.old sig.old.symbols ++ type_tuples
-        (symbols_at store.old sig.old.symbols) (type_expression_of ty.now)) scope.now
-        (texts_of_names vars.now))
-        (type_expression_of ty.now)) }
+        (over (symbols_at store.old sig.old.symbols ++ type_tuples
+        (symbols_at store.old sig.old.symbols) (type_expression_of ty.now))
+        (scope_at store.old scope.now) (texts_of_names vars.now)) (type_expression_of ty.now)) }
     ensures below { IfOk result (λ id. TyVarsBelow (length vars.now) (tree_at store.new id)) }
-    ensures free { OnOk result (form_fault (over store.old
-        (symbols_at store.old sig.old.symbols) scope.now (texts_of_names vars.now)) false
-        (type_expression_of ty.now)
+    ensures free { OnOk result (form_fault (over (symbols_at store.old sig.old.symbols)
+        (scope_at store.old scope.now) (texts_of_names vars.now)) false (type_expression_of ty.now)
         ≡ None) }
-    ensures err { IfErr result (λ fault. Tells (Err fault) (form_fault (over store.old
-        (symbols_at store.old sig.old.symbols) scope.now (texts_of_names vars.now)) false
-        (type_expression_of ty.now))) }
+    ensures err { IfErr result (λ fault. Tells (Err fault) (form_fault
+        (over (symbols_at store.old sig.old.symbols) (scope_at store.old scope.now)
+        (texts_of_names vars.now)) false (type_expression_of ty.now))) }
     ensures grows { Grows store.old store.new }
 {
     let vars = texts_of(alloc, vars)?;
@@ -162,9 +160,10 @@ fn right_type(
 
 // The symbol on the right of an element.
 fn right_symbol(alloc: Global, scope: &Scope, name: &QName) -> Result<usize, NamingFault>
-    ensures found { IfOk result (λ k. called_symbol scope.now (called_of name.now) ≡ Some k) }
-    ensures err { IfErr result (λ fault. Tells (Err fault) (symbol_missing name.now.at
-        (called_symbol scope.now (called_of name.now)))) }
+    ensures found { IfOk result (λ k. (s : List Tree) → called_symbol (scope_at s scope.now)
+        (called_of name.now) ≡ Some k) }
+    ensures err { IfErr result (λ fault. (s : List Tree) → Tells (Err fault) (symbol_missing
+        name.now.at (called_symbol (scope_at s scope.now) (called_of name.now)))) }
 {
     let own = own_name(alloc, name.style, name.text.as_slice())?;
     match scope.look_at(Table::Symbols, name.scopes.as_slice(), own.as_slice()) {
@@ -186,14 +185,16 @@ pub fn right_side(
     ensures entries { OnOk result ((token : ℕ) → IsExtended store.old sig.old store.new sig.new
         (right_tuples (symbols_at store.old sig.old.symbols) (element_by node.now token))) }
     ensures held { IfOk result (RightHeld store.new) }
-    ensures made { IfOk result (λ it. (token : ℕ) → right_at store.new it ≡ right_made store.old
-        (symbols_at store.old sig.old.symbols) scope.now (element_by node.now token)) }
+    ensures made { IfOk result (λ it. (token : ℕ) → right_at store.new it ≡ right_made
+        (symbols_at store.old sig.old.symbols) (scope_at store.old scope.now)
+        (element_by node.now token)) }
     ensures within { IfOk result (λ it. (token : ℕ) → IsWithin (element_by node.now token)
         (right_at store.new it)) }
-    ensures free { OnOk result ((token : ℕ) → right_fault store.old
-        (symbols_at store.old sig.old.symbols) scope.now (element_by node.now token) ≡ None) }
-    ensures err { IfErr result (λ fault. (token : ℕ) → Tells (Err fault) (right_fault store.old
-        (symbols_at store.old sig.old.symbols) scope.now (element_by node.now token))) }
+    ensures free { OnOk result ((token : ℕ) → right_fault (symbols_at store.old sig.old.symbols)
+        (scope_at store.old scope.now) (element_by node.now token) ≡ None) }
+    ensures err { IfErr result (λ fault. (token : ℕ) → Tells (Err fault) (right_fault
+        (symbols_at store.old sig.old.symbols) (scope_at store.old scope.now)
+        (element_by node.now token))) }
     ensures grows { Grows store.old store.new }
 {
     match node {

@@ -5,7 +5,7 @@ ghost use Rattle.tasks.specs.trees.Tree.{Tree};
 ghost use Rattle.tasks.specs.trees.Node.{Grows};
 ghost use Rattle.tasks.specs.Meaning.{symbols_at};
 ghost use Rattle.surface.specs.SurfaceDeclarations.{element_of};
-ghost use Rattle.name_resolution.specs.Naming.{Tells};
+ghost use Rattle.name_resolution.specs.Naming.{Tells, scope_at};
 ghost use Rattle.elab_groups.specs.parts.Entries.{IsSignature, IsExtended, AreScopes};
 ghost use Rattle.clones.specs.clone_elements.Rights.{rights_fault, rights_tuples};
 ghost use Rattle.clones.specs.clone_elements.Plans.{sides_made};
@@ -37,10 +37,11 @@ fn push_sides<'a>(
         (symbols_at store.old sig.old.symbols) (map element_of elements.now))) }
     ensures held { OnOk result (All (SideHeld store.new) sides.new.items) }
     ensures sides { OnOk result (sides_at store.new sides.new.items
-        ≡ sides_at store.old sides.old.items ++ sides_made (place_at names.now) store.old
-        (symbols_at store.old sig.old.symbols) scope.now (map element_of elements.now)) }
-    ensures told { Tells result (rights_fault store.old (symbols_at store.old sig.old.symbols)
-        scope.now (map element_of elements.now)) }
+        ≡ sides_at store.old sides.old.items ++ sides_made (place_at names.now)
+        (symbols_at store.old sig.old.symbols) (scope_at store.old scope.now)
+        (map element_of elements.now)) }
+    ensures told { Tells result (rights_fault (symbols_at store.old sig.old.symbols)
+        (scope_at store.old scope.now) (map element_of elements.now)) }
     ensures grows { Grows store.old store.new }
 {
     let Some((first, rest)) = elements.split_first() else {
@@ -72,12 +73,13 @@ pub fn sides_of<'a>(
         (symbols_at store.old sig.old.symbols) (map element_of elements.now))) }
     ensures held { IfOk result (λ v. All (SideHeld store.new) v.items) }
     ensures sides { IfOk result (λ v. sides_at store.new v.items ≡ sides_made (place_at names.now)
-        store.old (symbols_at store.old sig.old.symbols) scope.now
+        (symbols_at store.old sig.old.symbols) (scope_at store.old scope.now)
         (map element_of elements.now)) }
-    ensures free { OnOk result (rights_fault store.old (symbols_at store.old sig.old.symbols)
-        scope.now (map element_of elements.now) ≡ None) }
-    ensures err { IfErr result (λ fault. Tells (Err fault) (rights_fault store.old
-        (symbols_at store.old sig.old.symbols) scope.now (map element_of elements.now))) }
+    ensures free { OnOk result (rights_fault (symbols_at store.old sig.old.symbols)
+        (scope_at store.old scope.now) (map element_of elements.now) ≡ None) }
+    ensures err { IfErr result (λ fault. Tells (Err fault) (rights_fault
+        (symbols_at store.old sig.old.symbols) (scope_at store.old scope.now)
+        (map element_of elements.now))) }
     ensures grows { Grows store.old store.new }
 {
     let mut sides = Vec::new(alloc);

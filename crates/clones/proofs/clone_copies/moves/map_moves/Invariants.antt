@@ -1,16 +1,10 @@
-use Rattle.std.proofs.Common.{◌≡◌, ℕ, ◌<◌, List, length, get_or}
+use Rattle.std.proofs.Common.{List, take}
 use Rattle.tasks.specs.trees.Tree.{Tree}
-use Rattle.tasks.specs.trees.Node.{Grows}
 use Rattle.tasks.specs.Meaning.{symbols_at}
-use Rattle.theory_states.specs.declared.moves.Move.{Move}
-use Rattle.clones.specs.Meaning.{map_at, AreKnown}
-use Rattle.clones.specs.clone_copies.Moves.{IsMoveMapped}
+use Rattle.theory_states.specs.Meaning.{move_at, MoveHeld}
+use Rattle.clones.specs.clone_copies.Moves.{move_mapped}
+use Rattle.clones.proofs.Loops.{Copied}
 use Rattle.clones.proofs.clone_copies.moves.map_moves.Given as goal
 
 abbrev pub invariant-loop-step : goal.invariant-loop-step
-invariant-loop-step l = record {
-  grows : Grows l.initial.store l.store;
-  known : AreKnown (map_at l.initial.store l.morphism) l.store l.known;
-  count : length l.out.items ≡ l.step-index;
-  each : (s : List Tree) (k : ℕ) (d : Move) → k < l.step-index → IsMoveMapped l.store (symbols_at s l.sig.symbols) (map_at l.initial.store l.morphism) (get_or l.moves k d) (get_or l.out.items k d);
-}
+invariant-loop-step l = (s : List Tree) → Copied move_at MoveHeld (move_mapped (symbols_at s l.sig.symbols)) l.morphism l.initial.store l.store l.known (take l.step-index l.moves) l.out.items

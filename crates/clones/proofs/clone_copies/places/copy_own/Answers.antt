@@ -6,20 +6,21 @@ use Rattle.tasks.specs.trees.Node.{Grows}
 use Rattle.tasks.specs.declared.declaration.Decl.{Decl}
 use Rattle.tasks.specs.Task.{DeclarationTree}
 use Rattle.tasks.specs.Meaning.{declaration_at, declarations_at}
-use Rattle.theory_states.proofs.Growing.{held_grows}
+use Rattle.theory_states.specs.Meaning.{state_at}
+use Rattle.theory_states.proofs.Growing.{state_stays, state_grows}
 use Rattle.clones.specs.Meaning.{map_at}
 use Rattle.clones.proofs.Steps.{known_later, ok_any}
 use Rattle.clones.specs.Copies.{declaration_copied}
 use Rattle.clones.specs.clone_elements.Left.{decl_or, no_declaration}
 use Rattle.clones.specs.clone_elements.Plans.{is_replaced}
 use Rattle.clones.specs.clone_copies.Places.{Copying, with_copy, copy_of}
-use Rattle.clones.specs.clone_copies.Meaning.{copying_at, bare_at}
-use Rattle.clones.proofs.clone_copies.Bare.{bare_grows, copying_stays}
+use Rattle.clones.specs.clone_copies.Meaning.{copying_at}
+use Rattle.clones.proofs.clone_copies.Pushed.{copying_stays}
 use Rattle.clones.proofs.clone_copies.places.copy_own.Goals as goal
 use Rattle.tasks.proofs.outside.Passed.{no_ok}
 
 pub push_copy-requires-clause-held : goal.push_copy-requires-clause-held
-push_copy-requires-clause-held c = held_grows c.args.store.now c.copy_decl.new.store c.copy_decl.ensures.grows c.args.typed.now c.args.open.now c.requires.held
+push_copy-requires-clause-held c = state_grows c.args.store.now c.copy_decl.new.store c.copy_decl.ensures.grows c.args.typed.now c.args.open.now c.requires.held
 
 pub returns-clause-state : goal.returns-clause-state
 returns-clause-state c =
@@ -33,16 +34,16 @@ returns-clause-state c =
     let open_ = c.args.open.now in
     let ds = typed.decls in
     let decl = c.index-as_slice-place.result in
-    let old = bare_at s typed open_ in
+    let old = state_at s typed open_ in
     let got : decl ≡ get_or ds k decl = c.index-as_slice-place.is ∙ ap (λ (z : List Decl). get_or z k decl) c.as_slice.ensures in
     let there : decl_or (declarations_at s ds) k ≡ declaration_at s decl = get_or-map (declaration_at s) ds k decl no_declaration c.requires.within ∙ ap (declaration_at s) (sym got) in
     let copied : declaration_at s1 c.in_ok-copy.copy ≡ copy_of x old k =
     c.in_ok-copy.ensures.tree ∙ (ap (λ (p : List ℕ). declaration_copied x.mapping p x.within (declaration_at s decl)) c.as_slice-2.ensures ∙ ap (declaration_copied x.mapping open_.path x.within) (sym there)) in
     let free : is_replaced (x.fates k) ≡ false = sym c.is_replaced.ensures ∙ c.if-is_replaced.false in
     on_ok_weaker c.push_copy.result (λ h. h
-    ∙ (ap (λ (y : Copying). with_copy y k (y.axioms k) (declaration_at s1 c.in_ok-copy.copy) (bare_at s1 typed open_)) (copying_stays s s1 w j c.requires.map_held)
-    ∙ (ap (λ (d : DeclarationTree). with_copy x k (x.axioms k) d (bare_at s1 typed open_)) copied
-    ∙ (ap (with_copy x k (x.axioms k) (copy_of x old k)) (bare_grows s s1 w typed open_ c.requires.held)
+    ∙ (ap (λ (y : Copying). with_copy y k (y.axioms k) (declaration_at s1 c.in_ok-copy.copy) (state_at s1 typed open_)) (copying_stays s s1 w j c.requires.map_held)
+    ∙ (ap (λ (d : DeclarationTree). with_copy x k (x.axioms k) d (state_at s1 typed open_)) copied
+    ∙ (ap (with_copy x k (x.axioms k) (copy_of x old k)) (state_stays s s1 w typed open_ c.requires.held)
     ∙ sym (ap (λ (b : Bool). cond b old (with_copy x k (x.axioms k) (copy_of x old k) old)) free))))) c.push_copy.ensures.state
 
 pub returns-clause-known : goal.returns-clause-known

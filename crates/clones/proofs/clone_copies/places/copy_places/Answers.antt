@@ -5,10 +5,11 @@ use Rattle.tasks.specs.trees.Node.{Grows}
 use Rattle.tasks.proofs.trees.Nodes.{Grows_trans}
 use Rattle.tasks.specs.Meaning.{declaration_at, declarations_at}
 use Rattle.theory_states.specs.States.{StateTree}
+use Rattle.theory_states.specs.Meaning.{state_at}
 use Rattle.clones.proofs.Steps.{map_held, known_on, known_back}
 use Rattle.clones.specs.clone_copies.Places.{Copying, with_place, with_places}
-use Rattle.clones.specs.clone_copies.Meaning.{copying_at, bare_at}
-use Rattle.clones.proofs.clone_copies.Bare.{copying_stays}
+use Rattle.clones.specs.clone_copies.Meaning.{copying_at}
+use Rattle.clones.proofs.clone_copies.Pushed.{copying_stays}
 use Rattle.clones.proofs.clone_copies.Longer.{place_longer}
 use Rattle.clones.proofs.clone_copies.places.copy_places.Goals as goal
 use Rattle.tasks.proofs.outside.Passed.{no_ok}
@@ -34,8 +35,8 @@ loop-place-preserved c =
     let k = get_or ks i 0 in
     let t1 = c.loop-place.typed in
     let t2 = c.copy_place.new.typed in
-    let old = bare_at s1 t1 c.loop-place.open in
-    let made : bare_at s2 t2 c.copy_place.new.open ≡ with_place x k old = c.in_ok-copy_place.ensures.state ∙ ap (λ (y : Copying). with_place y k old) (copying_stays s s1 w j c.requires.map_held) in
+    let old = state_at s1 t1 c.loop-place.open in
+    let made : state_at s2 t2 c.copy_place.new.open ≡ with_place x k old = c.in_ok-copy_place.ensures.state ∙ ap (λ (y : Copying). with_place y k old) (copying_stays s s1 w j c.requires.map_held) in
     let n1 : length (declarations_at s1 t1.decls) ≡ length t1.decls = length-map t1.decls (declaration_at s1) in
     let n2 : length (declarations_at s2 t2.decls) ≡ length t2.decls = length-map t2.decls (declaration_at s2) in
     let n : length (declarations_at s2 t2.decls) ≡ length (with_place x k old).decls = ap (λ (v : StateTree). length v.decls) made in

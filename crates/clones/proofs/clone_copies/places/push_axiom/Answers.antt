@@ -4,7 +4,7 @@ use Rattle.theory_states.specs.declared.states.AxiomAt.{AxiomAt}
 use Rattle.theory_states.specs.States.{StateTree, with_declaration}
 use Rattle.theory_states.specs.Meaning.{state_at}
 use Rattle.clones.specs.clone_copies.Places.{axiom_at}
-use Rattle.clones.proofs.clone_copies.Bare.{axiom_bare, axiom_held}
+use Rattle.clones.proofs.clone_copies.Pushed.{axiom_pushed, axiom_held}
 use Rattle.clones.proofs.clone_copies.places.push_axiom.Goals as goal
 use Rattle.tasks.proofs.outside.Passed.{no_ok}
 
@@ -23,7 +23,7 @@ returns-clause-state c =
     let e : state_at s y p ≡ with_declaration d (state_at s x o) = c.in_ok-place.ensures.state s in
     let old : p.axioms ≡ o.axioms = ap (λ (t : StateTree). t.opened.axioms) e in
     let it : axiom_at c.in_ok-place.place c.in_ok-vars.vars ≡ axiom_at (length x.decls) vars = ap (λ (k : ℕ). axiom_at k c.in_ok-vars.vars) c.in_ok-place.ensures.place ∙ ap (axiom_at (length x.decls)) c.in_ok-vars.ensures in
-    axiom_bare s x y o p d c.push.new.self vars e (c.in_ok-push.ensures.ok ∙ (ap (λ (as_ : List AxiomAt). as_ ++ axiom_at c.in_ok-place.place c.in_ok-vars.vars ∷ []) old ∙ ap (λ (a : AxiomAt). o.axioms ++ a ∷ []) it))
+    axiom_pushed s x y o p d c.push.new.self vars e (c.in_ok-push.ensures.ok ∙ (ap (λ (as_ : List AxiomAt). as_ ++ axiom_at c.in_ok-place.place c.in_ok-vars.vars ∷ []) old ∙ ap (λ (a : AxiomAt). o.axioms ++ a ∷ []) it))
 
 pub returns-clause-held : goal.returns-clause-held
 returns-clause-held c = axiom_held c.args.store.now c.push_decl.new.typed c.push_decl.new.open c.push.new.self (c.in_ok-place.ensures.held c.args.store.now c.requires.held c.requires.copy_held)

@@ -5,7 +5,7 @@ use Rattle.tasks.specs.trees.Binding.{inst_types}
 use Rattle.theory_states.specs.declared.goal_tasks.theories.GoalAt.{GoalAt}
 use Rattle.theory_states.specs.goal_tasks.Meaning.{goal_at}
 use Rattle.clones.specs.clone_copies.Places.{next_numbers, rigid_types, goal_of}
-use Rattle.clones.proofs.clone_copies.Bare.{goal_bare, goal_held}
+use Rattle.clones.proofs.clone_copies.Pushed.{goal_pushed, goal_held}
 use Rattle.clones.proofs.clone_copies.places.push_goal_of.Goals as goal
 use Rattle.tasks.proofs.outside.Passed.{no_ok}
 
@@ -23,7 +23,7 @@ returns-clause-state c =
     let prop : tree_at t c.in_ok-prop.prop ≡ inst_types e (rigid_types (next_numbers (length x.sig.symbols) vars)) = c.in_ok-prop.ensures.tree ∙ ap (λ (ks : List ℕ). inst_types e (rigid_types ks)) (c.as_slice.ensures.value ∙ numbers) in
     let rigid : c.from_vec-rigid.result ≡ next_numbers (length x.sig.symbols) vars = c.from_vec-rigid.ensures ∙ numbers in
     let is : goal_at t made ≡ goal_of name (length o.visible.keys) e (next_numbers (length x.sig.symbols) vars) = λ i. record { name = c.in_ok-name.ensures.cases i; before = c.len-before.ensures.len i; prop = prop i; rigid = rigid i } in
-    goal_bare s t c.at_rigid.ensures.grows x o c.requires.held c.push_rigid.new.sig vars c.in_ok-push_rigid.ensures.entries c.push.new.self made c.in_ok-push.ensures.ok name e is
+    goal_pushed s t c.at_rigid.ensures.grows x o c.requires.held c.push_rigid.new.sig vars c.in_ok-push_rigid.ensures.entries c.push.new.self made c.in_ok-push.ensures.ok name e is
 
 pub returns-clause-held : goal.returns-clause-held
 returns-clause-held c =

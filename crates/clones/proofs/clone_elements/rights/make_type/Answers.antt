@@ -5,7 +5,7 @@ use Rattle.tasks.specs.trees.Facts.{TyVarsBelow}
 use Rattle.tasks.specs.Task.{SymbolTree}
 use Rattle.tasks.specs.Meaning.{symbols_at}
 use Rattle.name_resolution.specs.Abstract.{type_expression_of}
-use Rattle.name_resolution.specs.Naming.{where_at}
+use Rattle.name_resolution.specs.Naming.{where_at, scope_at}
 use Rattle.name_resolution.specs.Where.{Where}
 use Rattle.open_types.specs.Pieces.{type_at}
 use Rattle.elab_groups.specs.parts.Outcomes.{over}
@@ -31,7 +31,7 @@ returns-clause-tree c =
     let vars = c.args.vars.now in
     let f = type_expression_of c.args.ty.now in
     let more : List SymbolTree = type_tuples (symbols_at s g.symbols) f in
-    let is : where_at s1 c.world_over-world.result ≡ over s (symbols_at s g.symbols ++ more) names vars =
+    let is : where_at s1 c.world_over-world.result ≡ over (symbols_at s g.symbols ++ more) (scope_at s names) vars =
     c.world_over-world.ensures.names s1 ∙ over_extended s s1 c.enter_tuples.ensures.grows g c.enter_tuples.new.sig more names c.requires.signature c.requires.scopes c.in_ok-enter_tuples.ensures.entries vars in
     IfOk-weaker c.type_of_form.result _ _ (λ id h. h ∙ ap (λ (v : Where). type_at v f) is) c.type_of_form.ensures.tree
 
@@ -46,7 +46,7 @@ returns-clause-below c =
     let f = type_expression_of c.args.ty.now in
     let more : List SymbolTree = type_tuples (symbols_at s g.symbols) f in
     let ext = c.in_ok-enter_tuples.ensures.entries in
-    let is : where_at s1 c.world_over-world.result ≡ over s (symbols_at s g.symbols ++ more) names vars = c.world_over-world.ensures.names s1 ∙ over_extended s s1 c.enter_tuples.ensures.grows g g1 more names c.requires.signature c.requires.scopes ext vars in
+    let is : where_at s1 c.world_over-world.result ≡ over (symbols_at s g.symbols ++ more) (scope_at s names) vars = c.world_over-world.ensures.names s1 ∙ over_extended s s1 c.enter_tuples.ensures.grows g g1 more names c.requires.signature c.requires.scopes ext vars in
     IfOk-weaker c.type_of_form.result _ _ (λ id h right. subst (TyVarsBelow (length vars)) (sym (h ∙ ap (λ (v : Where). type_at v f) is)) (form_within s s1 c.enter_tuples.ensures.grows g g1 more names c.requires.signature c.requires.scopes ext vars f right)) c.type_of_form.ensures.tree
 
 pub type_of_form-requires : goal.type_of_form-requires

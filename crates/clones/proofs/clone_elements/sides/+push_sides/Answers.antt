@@ -8,11 +8,12 @@ use Rattle.tasks.specs.Meaning.{symbols_at}
 use Rattle.surface.specs.Lexeme.{Word}
 use Rattle.surface.specs.Declarations.{Element}
 use Rattle.surface.specs.SurfaceDeclarations.{element_of}
-use Rattle.name_resolution.specs.Naming.{Tells}
+use Rattle.name_resolution.specs.Naming.{Tells, scope_at}
+use Rattle.name_resolution.specs.Where.{NamesTree}
 use Rattle.name_resolution.proofs.Told.{of_rest}
 use Rattle.elab_groups.proofs.parts.Entering.{extended_both}
 use Rattle.elab_groups.specs.parts.Entries.{IsExtended}
-use Rattle.elab_groups.proofs.parts.Overs.{some_entry}
+use Rattle.elab_groups.proofs.parts.Overs.{scope_stays}
 use Rattle.elab_groups.proofs.parts.Tupled.{scopes_extended}
 use Rattle.clones.specs.declared.clone_elements.plans.Side.{Side as CodeSide}
 use Rattle.clones.specs.clone_elements.Left.{place_by, element_key}
@@ -21,7 +22,6 @@ use Rattle.clones.specs.clone_elements.Plans.{SideTree, sides_made}
 use Rattle.clones.specs.clone_elements.Origins.{place_at}
 use Rattle.clones.specs.clone_elements.Meaning.{side_at, sides_at, SideHeld}
 use Rattle.clones.proofs.clone_elements.Growing.{sides_stay, sides_grow}
-use Rattle.clones.proofs.clone_elements.Sided.{sides_made_stay, rights_fault_stay}
 use Rattle.clones.proofs.clone_elements.sides.+push_sides.Goals as goal
 use Rattle.tasks.proofs.outside.Passed.{no_ok}
 
@@ -51,21 +51,22 @@ returns-clause-sides t c =
     let w = c.right_side.ensures.grows in
     let first = c.in-Some.first in
     let e = element_of first.now in
-    let names = c.args.scope.now in
+    let names = scope_at s c.args.scope.now in
     let places : Word → Option ℕ = place_at c.args.names.now in
     let symbols = symbols_at s c.args.sig.now.symbols in
     let es : List Element = map element_of c.in-Some.rest.now in
     let xs = c.args.sides.now.items in
     let ext = c.in_ok-right.ensures.entries first.now.at in
     let side : CodeSide = record { element = first; left = c.in_ok-left.left; right = c.in_ok-right.right } in
-    let made : SideTree = record { element = e; left = place_by places (element_key e); right = right_made s symbols names e } in
+    let made : SideTree = record { element = e; left = place_by places (element_key e); right = right_made symbols names e } in
     let is : side_at s1 side ≡ made = λ i. record { element = e; left = c.in_ok-left.ensures first.now.at i; right = c.in_ok-right.ensures.made first.now.at i } in
     let old : sides_at s1 c.push.new.self.items ≡ sides_at s xs ++ made ∷ [] =
     ap (sides_at s1) c.in_ok-push.ensures.items ∙ (map-append (side_at s1) xs (side ∷ []) ∙ (ap (λ (z : List SideTree). z ++ side_at s1 side ∷ []) (sides_stay s s1 w xs c.requires.held) ∙ ap (λ (z : SideTree). sides_at s xs ++ z ∷ []) is)) in
-    let later : sides_made places s1 (symbols_at s1 c.right_side.new.sig.symbols) names es ≡ sides_made places s (symbols ++ right_tuples symbols e) names es =
-    ap (λ (z : List SymbolTree). sides_made places s1 z names es) ext.symbols ∙ sides_made_stay s s1 w (length c.args.sig.now.symbols) names c.requires.scopes (some_entry s c.args.sig.now.symbols c.requires.signature) places (symbols ++ right_tuples symbols e) es in
-    let more = sides_made places s (symbols ++ right_tuples symbols e) names es in
-    rw c.in-Some.ensures.cases.0 (on_ok_weaker c.push_sides.result (λ h. h ∙ (ap (λ (z : List SideTree). sides_at s1 c.push.new.self.items ++ z) later ∙ (ap (λ (z : List SideTree). z ++ more) old ∙ append_assoc (sides_at s xs) (made ∷ []) more))) c.push_sides.ensures.sides)
+    let more : List SymbolTree = symbols ++ right_tuples symbols e in
+    let later : sides_made places (symbols_at s1 c.right_side.new.sig.symbols) (scope_at s1 c.args.scope.now) es ≡ sides_made places more names es =
+    ap (λ (z : List SymbolTree). sides_made places z (scope_at s1 c.args.scope.now) es) ext.symbols ∙ ap (λ (ns : NamesTree). sides_made places more ns es) (scope_stays s s1 w (length c.args.sig.now.symbols) c.args.scope.now c.requires.scopes) in
+    let after = sides_made places more names es in
+    rw c.in-Some.ensures.cases.0 (on_ok_weaker c.push_sides.result (λ h. h ∙ (ap (λ (z : List SideTree). sides_at s1 c.push.new.self.items ++ z) later ∙ (ap (λ (z : List SideTree). z ++ after) old ∙ append_assoc (sides_at s xs) (made ∷ []) after))) c.push_sides.ensures.sides)
 
 pub returns-clause-told : goal.returns-clause-told
 returns-clause-told t c =
@@ -73,14 +74,15 @@ returns-clause-told t c =
     let s1 = c.right_side.new.store in
     let first = c.in-Some.first in
     let e = element_of first.now in
-    let names = c.args.scope.now in
+    let names = scope_at s c.args.scope.now in
     let symbols = symbols_at s c.args.sig.now.symbols in
     let es : List Element = map element_of c.in-Some.rest.now in
     let ext = c.in_ok-right.ensures.entries first.now.at in
-    let free : right_fault s symbols names e ≡ None = c.in_ok-right.ensures.free first.now.at in
-    let later : rights_fault s1 (symbols_at s1 c.right_side.new.sig.symbols) names es ≡ rights_fault s (symbols ++ right_tuples symbols e) names es =
-    ap (λ (z : List SymbolTree). rights_fault s1 z names es) ext.symbols ∙ rights_fault_stay s s1 c.right_side.ensures.grows (length c.args.sig.now.symbols) names c.requires.scopes (some_entry s c.args.sig.now.symbols c.requires.signature) (symbols ++ right_tuples symbols e) es in
-    rw c.in-Some.ensures.cases.0 (of_rest c.push_sides.result (right_fault s symbols names e) (rights_fault s (symbols ++ right_tuples symbols e) names es) free (subst (Tells c.push_sides.result) later c.push_sides.ensures.told))
+    let more : List SymbolTree = symbols ++ right_tuples symbols e in
+    let free : right_fault symbols names e ≡ None = c.in_ok-right.ensures.free first.now.at in
+    let later : rights_fault (symbols_at s1 c.right_side.new.sig.symbols) (scope_at s1 c.args.scope.now) es ≡ rights_fault more names es =
+    ap (λ (z : List SymbolTree). rights_fault z (scope_at s1 c.args.scope.now) es) ext.symbols ∙ ap (λ (ns : NamesTree). rights_fault more ns es) (scope_stays s s1 c.right_side.ensures.grows (length c.args.sig.now.symbols) c.args.scope.now c.requires.scopes) in
+    rw c.in-Some.ensures.cases.0 (of_rest c.push_sides.result (right_fault symbols names e) (rights_fault more names es) free (subst (Tells c.push_sides.result) later c.push_sides.ensures.told))
 
 pub returns-in_default-clause-grows : goal.returns-in_default-clause-grows
 returns-in_default-clause-grows t c = Grows_refl c.args.store.now
