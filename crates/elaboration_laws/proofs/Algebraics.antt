@@ -7,12 +7,12 @@ use Rattle.elab_groups.specs.tasks.Task.{SymbolTree, symbol_or, ConstructorTree,
 use Rattle.elab_groups.specs.tasks.Vocabulary.{Vocabulary, is_empty}
 use Rattle.elab_groups.specs.tasks.Typing.{IsTypeSymbol}
 use Rattle.elab_groups.specs.tasks.Valid.{IsTypeIn, own_type, AreProjections, IsConstructorOf, IsAlgebraic}
-use Rattle.elab_groups.specs.scopes.Names.{ScopeNames, ScopeEntry}
+use Rattle.elab_groups.specs.scopes.Names.{EntryOf}
 use Rattle.elab_groups.specs.scopes.declared.Table.TheVariants.{Types, Symbols}
 use Rattle.elab_groups.specs.scopes.declared.Referent.TheVariants as stands
 use Rattle.elab_groups.specs.surface.Lexeme.{Word}
-use Rattle.elab_groups.specs.name_resolution.Abstract.{TypeExpressions, no_types, more_types, count_forms}
-use Rattle.elab_groups.specs.name_resolution.Where.{Where}
+use Rattle.elab_groups.specs.name_resolution.Abstract.{count_forms}
+use Rattle.elab_groups.specs.name_resolution.Where.{Where, NamesTree}
 use Rattle.elab_groups.specs.open_types.Pieces.{types_at}
 use Rattle.elab_groups.specs.parts.Declarations.{AlgebraicConstructor as ConstructorOf, AlgebraicType, words, with_vars}
 use Rattle.std.specs.Str.{bytes_eq}
@@ -141,32 +141,31 @@ module _ (theory within : Word) (named : is_empty theory ≡ false) where
         }) (groups_valid w ts (i + 1) (n + entry_count a.constructors) g.1 e.1)
 
     -- ---- names
-    module _ (s : List Tree) where
-      constructors_scoped : (vars : ℕ) (t : Tree) (w : Where) (ks : List ConstructorOf) (n : ℕ) (names : ScopeNames) → EntriesAt base all n (constructors_entries theory within vars t ks (constructor_trees w n ks)) → AreTypedScopes v s names → AreTypedScopes v s (with_constructors n ks names)
-      constructors_scoped vars t w [] n names h k = k
-      constructors_scoped vars t w (c ∷ ks) n names h k =
-          let e = first_entries vars n t w c ks h in
-          constructors_scoped vars t w ks (n + (count_forms c.fields + 1)) _ e.1 (scopes_more (IsTypedThing v s) names Symbols c.called.name (stands.Entry n) true (symbol_there (within ++ c.called.name) vars n t (types_at w c.fields) e.0) k)
+    constructors_scoped : (vars : ℕ) (t : Tree) (w : Where) (ks : List ConstructorOf) (n : ℕ) (names : NamesTree) → EntriesAt base all n (constructors_entries theory within vars t ks (constructor_trees w n ks)) → AreTypedScopes v names → AreTypedScopes v (with_constructors n ks names)
+    constructors_scoped vars t w [] n names h k = k
+    constructors_scoped vars t w (c ∷ ks) n names h k =
+        let e = first_entries vars n t w c ks h in
+        constructors_scoped vars t w ks (n + (count_forms c.fields + 1)) _ e.1 (scopes_more (IsTypedThing v) names Symbols c.called.name (stands.Entry n) true (symbol_there (within ++ c.called.name) vars n t (types_at w c.fields) e.0) k)
 
-      pub types_scoped : (w : Where) (ts : List AlgebraicType) (i n : ℕ) (names : ScopeNames) → EntriesAt base all i (type_entries theory within ts) → EntriesAt base all n (group_entries theory within ts (algebraic_trees w i n ts)) → AreTypedScopes v s names → AreTypedScopes v s (with_types i n ts names)
-      types_scoped w [] i n names g h k = k
-      types_scoped w (a ∷ ts) i n names g h k =
-          let e = group_split w a ts i n h in
-          let one = scopes_more (IsTypedThing v s) names Types a.called.name (stands.Entry i) true (type_there (within ++ a.called.name) (length a.vars) i g.0) k in
-          types_scoped w ts (i + 1) (n + entry_count a.constructors) _ g.1 e.1 (constructors_scoped (length a.vars) (own_type i (length a.vars)) (with_vars w (words a.vars)) a.constructors n _ e.0 one)
+    pub types_scoped : (w : Where) (ts : List AlgebraicType) (i n : ℕ) (names : NamesTree) → EntriesAt base all i (type_entries theory within ts) → EntriesAt base all n (group_entries theory within ts (algebraic_trees w i n ts)) → AreTypedScopes v names → AreTypedScopes v (with_types i n ts names)
+    types_scoped w [] i n names g h k = k
+    types_scoped w (a ∷ ts) i n names g h k =
+        let e = group_split w a ts i n h in
+        let one = scopes_more (IsTypedThing v) names Types a.called.name (stands.Entry i) true (type_there (within ++ a.called.name) (length a.vars) i g.0) k in
+        types_scoped w ts (i + 1) (n + entry_count a.constructors) _ g.1 e.1 (constructors_scoped (length a.vars) (own_type i (length a.vars)) (with_vars w (words a.vars)) a.constructors n _ e.0 one)
 
-      -- of types alone
-      abbrev pub TypesOn : ScopeNames → Type 0
-      TypesOn names = All (λ (es : List ScopeEntry). All (λ (e : ScopeEntry). OnTypes v s e.table e.thing) es) names.entries
+    -- of types alone
+    abbrev pub TypesOn : NamesTree → Type 0
+    TypesOn names = All (λ (es : List (EntryOf Tree)). All (λ (e : EntryOf Tree). OnTypes v e.table e.thing) es) names.entries
 
-      constructors_on : (ks : List ConstructorOf) (n : ℕ) (names : ScopeNames) → TypesOn names → TypesOn (with_constructors n ks names)
-      constructors_on [] n names k = k
-      constructors_on (c ∷ ks) n names k = constructors_on ks (n + (count_forms c.fields + 1)) _ (scopes_more (OnTypes v s) names Symbols c.called.name (stands.Entry n) true tt k)
+    constructors_on : (ks : List ConstructorOf) (n : ℕ) (names : NamesTree) → TypesOn names → TypesOn (with_constructors n ks names)
+    constructors_on [] n names k = k
+    constructors_on (c ∷ ks) n names k = constructors_on ks (n + (count_forms c.fields + 1)) _ (scopes_more (OnTypes v) names Symbols c.called.name (stands.Entry n) true tt k)
 
-      pub types_on : (ts : List AlgebraicType) (i n : ℕ) (names : ScopeNames) → EntriesAt base all i (type_entries theory within ts) → TypesOn names → TypesOn (with_types i n ts names)
-      types_on [] i n names g k = k
-      types_on (a ∷ ts) i n names g k =
-          types_on ts (i + 1) (n + entry_count a.constructors) _ g.1 (constructors_on a.constructors n _ (scopes_more (OnTypes v s) names Types a.called.name (stands.Entry i) true (type_there (within ++ a.called.name) (length a.vars) i g.0) k))
+    pub types_on : (ts : List AlgebraicType) (i n : ℕ) (names : NamesTree) → EntriesAt base all i (type_entries theory within ts) → TypesOn names → TypesOn (with_types i n ts names)
+    types_on [] i n names g k = k
+    types_on (a ∷ ts) i n names g k =
+        types_on ts (i + 1) (n + entry_count a.constructors) _ g.1 (constructors_on a.constructors n _ (scopes_more (OnTypes v) names Types a.called.name (stands.Entry i) true (type_there (within ++ a.called.name) (length a.vars) i g.0) k))
 
   -- ---- entries of types over a signature that has the types
   module _ (v : Vocabulary) where

@@ -1,20 +1,20 @@
 -- A signature with `int` alone and a scope without names are typed.
-use Rattle.std.proofs.Common.{◌≡◌, ℕ, zero, suc, true, false, List, [], ◌∷◌, length, slice_get, All, Some, IsTrue, refl, subst}
+use Rattle.std.proofs.Common.{◌≡◌, ℕ, zero, suc, true, false, [], ◌∷◌, length, slice_get, Some, IsTrue, refl, subst}
 use Rattle.std.proofs.lemmas.List.Elements.{All-nil, All-cons}
 use Rattle.elab_groups.specs.trees.Facts.{TyVarsBelow}
-use Rattle.elab_groups.proofs.trees.Nodes.{Grows_refl}
 use Rattle.elab_groups.specs.tasks.declared.signature.SymbolKind.TheVariants.{Constructor}
 use Rattle.elab_groups.specs.tasks.Task.{SymbolTree, int_symbol}
 use Rattle.elab_groups.specs.tasks.Vocabulary.{Vocabulary, is_empty}
 use Rattle.elab_groups.specs.tasks.Valid.{IsTypeIn}
-use Rattle.elab_groups.specs.scopes.Names.{ScopeEntry, empty_names}
+use Rattle.elab_groups.specs.scopes.Names.{empty_names}
 use Rattle.elab_groups.specs.parts.Outcomes.{Setting}
 use Rattle.elab_groups.specs.open_types.Scoped.{IsScopedEntry}
 use Rattle.std.specs.Str.{bytes_eq}
 use Rattle.elab_groups.specs.parts.Entries.{builtin, is_tuple}
 use Rattle.elaboration_laws.specs.Signature.{with_entries}
+use Rattle.elaboration_laws.proofs.Scopes.{no_names}
 use Rattle.elaboration_laws.proofs.Extended.{agrees_part, signature_agrees, scopes_part}
-use Rattle.elaboration_laws.specs.Scopes.{AgreeBelow, IsTypedEntry, IsTypedSignature, IsTypedThing}
+use Rattle.elaboration_laws.specs.Scopes.{AgreeBelow, IsTypedEntry, IsTypedSignature}
 use Rattle.elaboration_laws.specs.Valid.{IsTypedSetting}
 
 module _ (base : Vocabulary) (may : IsTrue (base.usable 0)) where
@@ -48,7 +48,7 @@ module _ (base : Vocabulary) (may : IsTrue (base.usable 0)) where
     theory = q;
     source = z;
     signature = rw p int_typed;
-    scopes = rw (p, r) (All-cons (λ (es : List ScopeEntry). All (λ (e : ScopeEntry). IsTypedThing v c.trees e.table e.thing) es) [] [] (All-nil (λ (e : ScopeEntry). IsTypedThing v c.trees e.table e.thing)) (All-nil (λ (es : List ScopeEntry). All (λ (e : ScopeEntry). IsTypedThing v c.trees e.table e.thing) es)));
+    scopes = rw (p, r) (no_names v);
   }
 
 -- over a vocabulary that may name the same entries
@@ -57,5 +57,5 @@ agrees v w c a h = record {
   theory = h.theory;
   source = h.source;
   signature = signature_agrees v w c.symbols a h.signature;
-  scopes = scopes_part (with_entries v c.symbols) (with_entries w c.symbols) (agrees_part v w c.symbols a) c.trees c.trees (Grows_refl c.trees) c.scope h.scopes;
+  scopes = scopes_part (with_entries v c.symbols) (with_entries w c.symbols) (agrees_part v w c.symbols a) c.scope h.scopes;
 }

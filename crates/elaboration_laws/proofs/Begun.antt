@@ -4,7 +4,6 @@ use Rattle.std.specs.List.{Contains}
 use Rattle.std.specs.Str.{bytes_eq}
 use Rattle.std.specs.Fmt.{decimal}
 use Rattle.std.proofs.lemmas.List.Elements.{All-nil, All-cons, All-append, All-contains, Contains-get_or, Contains-append_left, Contains-append_right}
-use Rattle.elab_groups.specs.trees.Tree.{Tree}
 use Rattle.elab_groups.specs.trees.Facts.{TyVarsBelow}
 use Rattle.elab_groups.specs.tasks.declared.signature.SymbolKind.{SymbolKind}
 use Rattle.elab_groups.specs.tasks.declared.signature.SymbolKind.TheVariants.{Constructor}
@@ -15,10 +14,10 @@ use Rattle.elab_groups.specs.tasks.Typing.{IsTypeSymbol}
 use Rattle.elab_groups.specs.tasks.Valid.{own_type}
 use Rattle.elab_groups.specs.open_types.Scoped.{IsScopedEntry}
 use Rattle.elab_groups.specs.parts.Entries.{builtin, is_tuple, type_entry}
-use Rattle.elaboration_laws.specs.Scopes.{is_projection_kind, IsTypedEntry, IsTypedSignature, IsTypedThing}
+use Rattle.elaboration_laws.specs.Scopes.{is_projection_kind, IsTypedEntry, IsTypedSignature}
+use Rattle.elaboration_laws.proofs.Scopes.{no_names}
 use Rattle.elaboration_laws.proofs.Words.{self_word}
 use Rattle.elaboration_laws.proofs.Tuples.{variables_in, own_in, type_entry_typed, constructor_typed}
-use Rattle.elab_groups.specs.scopes.Names.{ScopeEntry}
 use Rattle.elaboration_laws.specs.Moves.{IsTypedMove}
 use Rattle.elaboration_laws.specs.Lists.{is_built, after}
 use Rattle.theory_states.specs.goal_tasks.Meaning.{IsTupleAt}
@@ -121,16 +120,16 @@ module _ (symbols : List SymbolTree) (built : IsBuiltRight symbols) where
   }
 
 -- ---- a theory begins
-module _ (s : List Tree) (symbols : List SymbolTree) (decls : List DeclarationTree) (built : IsBuiltRight symbols) (scoped : All IsScopedEntry symbols) (path : List ℕ) where
+module _ (symbols : List SymbolTree) (decls : List DeclarationTree) (built : IsBuiltRight symbols) (scoped : All IsScopedEntry symbols) (path : List ℕ) where
   nothing_whole : IsWhole decls []
   nothing_whole = λ j k d e q r c z. absurd (none_here k c)
 
-  empty_sound : IsSoundTheory s symbols symbols decls path [] [] [] []
+  empty_sound : IsSoundTheory symbols symbols decls path [] [] [] []
   empty_sound = record {
     sound = none_sound symbols built;
     others = none_sound symbols built;
     signature = built_typed symbols built scoped;
-    typed_moves = All-nil (IsTypedMove (after symbols [] []) s);
+    typed_moves = All-nil (IsTypedMove (after symbols [] []));
     sound_goals = All-nil (IsSoundAmong symbols []);
     sound_axioms = All-nil (IsSoundAxiom decls);
     below = All-nil (λ (k : ℕ). k < length decls);
@@ -138,12 +137,12 @@ module _ (s : List Tree) (symbols : List SymbolTree) (decls : List DeclarationTr
     whole = nothing_whole;
   }
 
-  begun_sound : is_empty path ≡ false → bytes_eq path builtin ≡ false → ((d : DeclarationTree) → Contains decls d → d.theory ≢ path) → IsSoundOpened s symbols decls (opened_empty path)
+  begun_sound : is_empty path ≡ false → bytes_eq path builtin ≡ false → ((d : DeclarationTree) → Contains decls d → d.theory ≢ path) → IsSoundOpened symbols decls (opened_empty path)
   begun_sound named source new = record {
     named = named;
     source = source;
     theory = empty_sound;
-    scopes = All-cons (λ (es : List ScopeEntry). All (λ (e : ScopeEntry). IsTypedThing (after symbols [] []) s e.table e.thing) es) [] [] (All-nil (λ (e : ScopeEntry). IsTypedThing (after symbols [] []) s e.table e.thing)) (All-nil (λ (es : List ScopeEntry). All (λ (e : ScopeEntry). IsTypedThing (after symbols [] []) s e.table e.thing) es));
+    scopes = no_names (after symbols [] []);
     own = λ k d q e. absurd (new d (slice_in decls k d q) e);
   }
 
@@ -157,11 +156,11 @@ new_path (t ∷ ts) path q c = of (bytes_eq t.path path) refl q (cases_of t.path
     of false z r (inl e) f = let u : bytes_eq t.path path ≡ true = ap (bytes_eq t.path) (sym e) ∙ self_word t.path in let w : true ≡ false = sym u ∙ z in cc
     of false z r (inr d) f = f r d
 
-pub begins : (s : List Tree) (symbols : List SymbolTree) (decls : List DeclarationTree) (known : List KnownTree) (path : List ℕ) (number : ℕ) → AreSoundTheories s symbols decls known
+pub begins : (symbols : List SymbolTree) (decls : List DeclarationTree) (known : List KnownTree) (path : List ℕ) (number : ℕ) → AreSoundTheories symbols decls known
     → is_empty path ≡ false → bytes_eq path builtin ≡ false → known_named known path ≡ None
-    → IsSoundState (record { trees = s; symbols = symbols; decls = decls; known = known; opened = opened_empty path; number = number })
-begins s symbols decls known path number h named source new = record {
-  opened = begun_sound s symbols decls h.built h.scoped path named source strange;
+    → IsSoundState (record { symbols = symbols; decls = decls; known = known; opened = opened_empty path; number = number })
+begins symbols decls known path number h named source new = record {
+  opened = begun_sound symbols decls h.built h.scoped path named source strange;
   known = h.known;
   apart = λ i t l. λ j e m. strange (get_or (at_places decls (get_or known i t).visible) j e) (from_known (get_or known i t) (get_or (at_places decls (get_or known i t).visible) j e) (Contains-get_or (at_places decls (get_or known i t).visible) j e m));
   of = λ k d l. later path (get_or decls k d).theory (paths known) (h.of k d l);
@@ -178,12 +177,12 @@ paths_last : (ts : List KnownTree) (t : KnownTree) → paths (ts ++ t ∷ []) �
 paths_last [] t = refl
 paths_last (x ∷ ts) t = ap (λ (ps : List (List ℕ)). x.path ∷ ps) (paths_last ts t)
 
-pub ends : (c : StateTree) → IsSoundState c → AreSoundTheories c.trees c.symbols c.decls (c.known ++ known_as c.opened ∷ [])
+pub ends : (c : StateTree) → IsSoundState c → AreSoundTheories c.symbols c.decls (c.known ++ known_as c.opened ∷ [])
 ends c h = record {
   built = h.opened.theory.sound.built;
   scoped = h.opened.theory.signature.scoped;
-  known = All-append (IsSoundKnown c.trees c.symbols c.decls) c.known (known_as c.opened ∷ []) h.known
-      (All-cons (IsSoundKnown c.trees c.symbols c.decls) (known_as c.opened) [] (record { earlier = c.symbols; later = []; symbols = sym (append-nil c.symbols); theory = h.opened.theory }) (All-nil (IsSoundKnown c.trees c.symbols c.decls)));
+  known = All-append (IsSoundKnown c.symbols c.decls) c.known (known_as c.opened ∷ []) h.known
+      (All-cons (IsSoundKnown c.symbols c.decls) (known_as c.opened) [] (record { earlier = c.symbols; later = []; symbols = sym (append-nil c.symbols); theory = h.opened.theory }) (All-nil (IsSoundKnown c.symbols c.decls)));
   of = λ k d l. place (get_or c.decls k d).theory (cases_of c.opened.path (get_or c.decls k d).theory (paths c.known) (h.of k d l));
 }
   where
@@ -191,11 +190,11 @@ ends c h = record {
     place t (inl e) = subst (λ (ps : List (List ℕ)). Contains ps t) (sym (paths_last c.known (known_as c.opened))) (Contains-append_right (paths c.known) (c.opened.path ∷ []) t (0, omega arith, e))
     place t (inr i) = subst (λ (ps : List (List ℕ)). Contains ps t) (sym (paths_last c.known (known_as c.opened))) (Contains-append_left (paths c.known) (c.opened.path ∷ []) t i)
 
-pub nothing_sound : (s : List Tree) → AreSoundTheories s (int_symbol ∷ []) [] []
-nothing_sound s = record {
+pub nothing_sound : AreSoundTheories (int_symbol ∷ []) [] []
+nothing_sound = record {
   built = begins_right;
   scoped = All-cons IsScopedEntry int_symbol [] int_scoped (All-nil IsScopedEntry);
-  known = All-nil (IsSoundKnown s (int_symbol ∷ []) []);
+  known = All-nil (IsSoundKnown (int_symbol ∷ []) []);
   of = All-nil (λ (d : DeclarationTree). Contains [] d.theory);
 }
   where

@@ -14,11 +14,10 @@ use Rattle.elab_groups.proofs.tasks.Closing.{typed_sorted}
 use Rattle.elab_groups.specs.open_types.unify_types.Assigned.{Variable, assign}
 use Rattle.elab_groups.specs.open_types.unify_types.Pairs.{IsKind, SolvesAll}
 use Rattle.elab_groups.proofs.open_types.unify_types.Assigning.{assign-rigid, assign-unknown}
-use Rattle.elab_groups.specs.scopes.Names.{ScopeNames}
 use Rattle.elab_groups.specs.surface.Lexeme.{Word}
 use Rattle.elab_groups.specs.name_resolution.Abstract.{Expression}
 use Rattle.elab_groups.specs.name_resolution.Faults.{fault}
-use Rattle.elab_groups.specs.name_resolution.Where.{Where}
+use Rattle.elab_groups.specs.name_resolution.Where.{Where, NamesTree}
 use Rattle.elab_groups.specs.name_resolution.variables.Seen.{SeenTree, has_width, type_seen}
 use Rattle.elab_groups.specs.open_types.Patterns.{LocalTree}
 use Rattle.elab_groups.specs.open_types.Pieces.{piece, unknown_after, names}
@@ -216,19 +215,19 @@ typed_as v xs types o r e n q z x own =
     record { typed = record { typed = y.0.0; sort = y.1.0; type = y.1.1; parameters = y.0.1 }; variables = own }
 
 -- ---- where the entries and names of a group are there
-module _ (base : Vocabulary) (s : List Tree) (whole : List SymbolTree) (typed : IsTypedSignature base whole) (names' : ScopeNames) (scopes : AreTypedScopes (with_entries base whole) s names') (all_seen : SeenTree)
+module _ (base : Vocabulary) (whole : List SymbolTree) (typed : IsTypedSignature base whole) (names' : NamesTree) (scopes : AreTypedScopes (with_entries base whole) names') (all_seen : SeenTree)
     (tuples : (n : ℕ) → has_width n all_seen.widths ≡ true → is_some (tuple_in whole n) ≡ true) where
   abbrev pub inner : List Word → Where
-  inner vars = over s whole names' vars
+  inner vars = over whole names' vars
 
   abbrev v : Vocabulary
   v = with_entries base whole
 
   good : (vars : List Word) → IsWellFormed base (inner vars)
-  good vars = over_well_formed base whole typed s names' scopes vars
+  good vars = over_well_formed base whole typed names' scopes vars
 
   scoped : (vars : List Word) → IsScoped (inner vars)
-  scoped vars = over_scoped base s whole names' vars typed (good vars)
+  scoped vars = over_scoped base whole names' vars typed (good vars)
 
   widths : (vars : List Word) (n : ℕ) → has_width n all_seen.widths ≡ true → HasTuple base (inner vars) n
   widths vars n z = tuple_of base whole typed n (tuples n z)

@@ -7,8 +7,7 @@ use Rattle.elab_groups.specs.tasks.Task.{SymbolTree, DeclarationTree, made_by}
 use Rattle.elab_groups.specs.tasks.Vocabulary.{is_empty}
 use Rattle.clones.specs.Mapped.{Map}
 use Rattle.elab_groups.specs.surface.declared.declarations.Link.{Link}
-use Rattle.theory_states.specs.declared.moves.Move.{Move}
-use Rattle.theory_states.specs.Moves.{handed}
+use Rattle.theory_states.specs.Moves.{MoveTree, handed}
 use Rattle.elab_groups.specs.open_types.Scoped.{IsScopedEntry}
 use Rattle.elab_groups.specs.parts.Entries.{builtin}
 use Rattle.elaboration_laws.specs.Scopes.{IsSubvocabulary, IsTypedSignature, AreTypedScopes}
@@ -43,8 +42,8 @@ use Rattle.elaboration_laws.proofs.StateOthers.{others_made, made_right_of}
 filtered_in : (p : DeclarationTree → Bool) (ds : List DeclarationTree) (d : DeclarationTree) → Contains (filter p ds) d → Contains ds d
 filtered_in p ds d c = All-contains (Contains ds) (filter p ds) d (All-filter p (Contains ds) ds (λ i e l. Contains-get_or ds i e l)) c
 
-module _ (c c' : StateTree) (t : KnownTree) (tuples more : List SymbolTree) (new : List DeclarationTree) (m : Map) (within : List ℕ) (ss : List CopyStep) (axioms : List AxiomAt) (goals : List GoalTree) (link : Link) (last : List ℕ) (alias : Option (List ℕ)) (moves : List Move)
-    (h : IsSoundState c) (known : IsSoundKnown c.trees c.symbols c.decls t) (apart : IsApart c.decls c.opened.path t)
+module _ (c c' : StateTree) (t : KnownTree) (tuples more : List SymbolTree) (new : List DeclarationTree) (m : Map) (within : List ℕ) (ss : List CopyStep) (axioms : List AxiomAt) (goals : List GoalTree) (link : Link) (last : List ℕ) (alias : Option (List ℕ)) (moves : List MoveTree)
+    (h : IsSoundState c) (known : IsSoundKnown c.symbols c.decls t) (apart : IsApart c.decls c.opened.path t)
     (a : IsAfterClone c c' t tuples more new m within ss axioms goals link last alias moves) (s : IsSoundClone c c' tuples more m within ss axioms goals moves) where
   abbrev p : List ℕ
   p = c.opened.path
@@ -201,15 +200,15 @@ module _ (c c' : StateTree) (t : KnownTree) (tuples more : List SymbolTree) (new
           old j k d e (old_of j d n q) (old_of k e (λ y. n (u ∙ y)) r) v u (a.places.from k v)
 
   -- ---- the state
-  theory_next : IsSoundTheory c'.trees c'.symbols c'.symbols c'.decls c'.opened.path c'.opened.visible c'.opened.axioms c'.opened.goals c'.opened.moves
+  theory_next : IsSoundTheory c'.symbols c'.symbols c'.decls c'.opened.path c'.opened.visible c'.opened.axioms c'.opened.goals c'.opened.moves
   theory_next = record {
     sound = over_next AreSound cloning.sound;
     others = subst (λ (i : List ℕ). AreSound c'.symbols (others i (visible_now c'))) (sym a.path) (over_next (λ (zs : List SymbolTree) (ds : List DeclarationTree). AreSound zs (others p ds)) others_now);
     signature = over_next (λ (zs : List SymbolTree) (ds : List DeclarationTree). IsTypedSignature (after zs [] ds) zs) signature_now;
-    typed_moves = subst (AreTypedMoves (after c'.symbols [] (visible_now c')) c'.trees) (sym a.moves_are)
-        (All-append (IsTypedMove (after c'.symbols [] (visible_now c')) c'.trees) c.opened.moves (handed link moves)
-        (moves_more (after c.symbols [] first) (after c'.symbols [] (visible_now c')) part_next c.trees c'.trees a.trees c.opened.moves h.opened.theory.typed_moves)
-        (handed_typed (after c'.symbols [] (visible_now c')) c'.trees link moves s.typed_moves));
+    typed_moves = subst (AreTypedMoves (after c'.symbols [] (visible_now c'))) (sym a.moves_are)
+        (All-append (IsTypedMove (after c'.symbols [] (visible_now c'))) c.opened.moves (handed link moves)
+        (moves_more (after c.symbols [] first) (after c'.symbols [] (visible_now c')) part_next c.opened.moves h.opened.theory.typed_moves)
+        (handed_typed (after c'.symbols [] (visible_now c')) link moves s.typed_moves));
     sound_goals = subst (All (IsSoundAmong c'.symbols (visible_now c'))) (sym a.goals_are)
         (All-append (IsSoundAmong c'.symbols (visible_now c')) c.opened.goals goals (λ i g l. goal_next (get_or c.opened.goals i g) (h.opened.theory.sound_goals i g l)) s.sound_goals);
     sound_axioms = subst (All (IsSoundAxiom c'.decls)) (sym a.axioms_are)
@@ -220,14 +219,14 @@ module _ (c c' : StateTree) (t : KnownTree) (tuples more : List SymbolTree) (new
     whole = whole_next;
   }
 
-  opened_next : IsSoundOpened c'.trees c'.symbols c'.decls c'.opened
+  opened_next : IsSoundOpened c'.symbols c'.decls c'.opened
   opened_next = record {
     named = ap is_empty a.path ∙ h.opened.named;
     source = ap (λ (i : List ℕ). bytes_eq i builtin) a.path ∙ h.opened.source;
     theory = theory_next;
-    scopes = subst (AreTypedScopes (after c'.symbols [] (visible_now c')) c'.trees) (sym a.scope_is)
-        (brought_typed (after c'.symbols [] (visible_now c')) c'.trees link last alias moves c.opened.scope s.typed_moves
-        (scopes_part (after c.symbols [] first) (after c'.symbols [] (visible_now c')) part_next c.trees c'.trees a.trees c.opened.scope h.opened.scopes));
+    scopes = subst (AreTypedScopes (after c'.symbols [] (visible_now c'))) (sym a.scope_is)
+        (brought_typed (after c'.symbols [] (visible_now c')) link last alias moves c.opened.scope s.typed_moves
+        (scopes_part (after c.symbols [] first) (after c'.symbols [] (visible_now c')) part_next c.opened.scope h.opened.scopes));
     own = λ k d q e. own_next k d q (e ∙ a.path);
   }
 
@@ -240,14 +239,14 @@ module _ (c c' : StateTree) (t : KnownTree) (tuples more : List SymbolTree) (new
   pub state_cloned : IsSoundState c'
   state_cloned = record {
     opened = opened_next;
-    known = subst (λ (zs : List SymbolTree). All (IsSoundKnown c'.trees zs c'.decls) c'.known) (sym symbols_are)
-        (subst (λ (ds : List DeclarationTree). All (IsSoundKnown c'.trees (c.symbols ++ (tuples ++ more)) ds) c'.known) (sym a.decls)
-        (subst (All (IsSoundKnown c'.trees (c.symbols ++ (tuples ++ more)) (c.decls ++ new))) (sym a.known)
-        (λ i x l. known_further c.trees c'.trees a.trees c.symbols (tuples ++ more) built_later c.decls new p a.of (get_or c.known i x) (h.apart i x l) (h.known i x l))));
+    known = subst (λ (zs : List SymbolTree). All (IsSoundKnown zs c'.decls) c'.known) (sym symbols_are)
+        (subst (λ (ds : List DeclarationTree). All (IsSoundKnown (c.symbols ++ (tuples ++ more)) ds) c'.known) (sym a.decls)
+        (subst (All (IsSoundKnown (c.symbols ++ (tuples ++ more)) (c.decls ++ new))) (sym a.known)
+        (λ i x l. known_further c.symbols (tuples ++ more) built_later c.decls new p a.of (get_or c.known i x) (h.apart i x l) (h.known i x l))));
     apart = subst (λ (i : List ℕ). All (IsApart c'.decls i) c'.known) (sym a.path)
         (subst (λ (ds : List DeclarationTree). All (IsApart ds p) c'.known) (sym a.decls)
         (subst (All (IsApart (c.decls ++ new) p)) (sym a.known)
-        (λ i x l. apart_further c.trees c'.trees a.trees c.symbols (tuples ++ more) built_later c.decls new p a.of (get_or c.known i x) (h.apart i x l) (h.known i x l))));
+        (λ i x l. apart_further c.symbols (tuples ++ more) built_later c.decls new p a.of (get_or c.known i x) (h.apart i x l) (h.known i x l))));
     of = subst (λ (i : List ℕ). AreOf (i ∷ paths c'.known) c'.decls) (sym a.path)
         (subst (λ (ts : List KnownTree). AreOf (p ∷ paths ts) c'.decls) (sym a.known)
         (subst (AreOf (p ∷ paths c.known)) (sym a.decls)

@@ -1,16 +1,14 @@
 -- What names of a theory that is cloned stand for, under the map of the clone.
 use Rattle.std.proofs.Common.{◌≡◌, ◌≢◌, ℕ, ◌<◌, not, false, zero, suc, List, [], ◌∷◌, length, slice_get, Option, Some, None, IsSomeAnd, IsTrue, refl, sym, ap, subst, arith}
 use Rattle.elab_groups.specs.trees.Tree.{Tree}
-use Rattle.elab_groups.specs.trees.Node.{tree_at, Holds}
 use Rattle.elab_groups.specs.tasks.declared.signature.SymbolKind.TheVariants.{Kind}
 use Rattle.elab_groups.specs.tasks.Task.{SymbolTree, symbol_or, int_symbol}
 use Rattle.elab_groups.specs.tasks.Vocabulary.{Vocabulary, passes, is_empty, of_signature}
 use Rattle.elab_groups.specs.tasks.Typing.{IsTypeSymbol}
 use Rattle.elab_groups.specs.tasks.Valid.{IsTypeIn}
-use Rattle.clones.specs.Mapped.{Map, mapped}
-use Rattle.elaboration_laws.specs.Scopes.{IsTypeNumber, IsSymbolNumber, IsAliased}
+use Rattle.clones.specs.Mapped.{Map}
+use Rattle.elaboration_laws.specs.Scopes.{IsTypeNumber, IsSymbolNumber}
 use Rattle.elaboration_laws.specs.Morphisms.{TypeBecomes, MapsTypes}
-use Rattle.elaboration_laws.proofs.CopiedTypes.{type_in_mapped}
 use Rattle.std.proofs.lemmas.Option.{slice_get-get_or as some_at}
 
 pub slice_there : (es : List SymbolTree) (k : ℕ) (P : SymbolTree → Type 0) → IsSomeAnd (slice_get es k) P → (k < length es) × P (symbol_or es k)
@@ -31,11 +29,8 @@ module _ (v w : Vocabulary) (m : Map) (becomes : MapsTypes v w m) (k : ℕ) (h :
       let r = slice_there w.symbols (m.symbols k) (λ e. (e.kind ≡ Kind) × ((symbol_or v.symbols k).vars ≡ e.vars)) t.1 in
       record { there = r.0; usable = t.0; kind = r.1.0 }
 
-  pub type_replaced : (s : List Tree) (ty : ℕ) (e : Tree) → m.types k ≡ Some e → Holds s (record { 0 = ty }) → tree_at s (record { 0 = ty }) ≡ e → IsAliased w s (symbol_or v.symbols k).vars ty
-  type_replaced s ty e q held is = record { held = held; type = subst (IsTypeIn w (symbol_or v.symbols k).vars) (sym is) (type_here (Some e) q) }
-
-pub alias_mapped : (v w : Vocabulary) (m : Map) (s t : List Tree) (vars ty made : ℕ) → MapsTypes v w m → Holds t (record { 0 = made }) → tree_at t (record { 0 = made }) ≡ mapped m (tree_at s (record { 0 = ty })) → IsAliased v s vars ty → IsAliased w t vars made
-alias_mapped v w m s t vars ty made becomes held is h = record { held = held; type = subst (IsTypeIn w vars) (sym is) (type_in_mapped v w m becomes vars (tree_at s (record { 0 = ty })) h.type) }
+  pub type_replaced : (e : Tree) → m.types k ≡ Some e → IsTypeIn w (symbol_or v.symbols k).vars e
+  type_replaced e q = type_here (Some e) q
 
 pub symbol_there : (xs : List SymbolTree) (k : ℕ) → k < length xs → is_empty (symbol_or xs k).theory ≡ false → (symbol_or xs k).kind ≢ Kind → IsSymbolNumber (of_signature xs) k
 symbol_there xs k l stands kind = record {

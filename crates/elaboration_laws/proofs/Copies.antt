@@ -1,15 +1,13 @@
 -- The entries of the copies of a clone are typed, where an entry without a theory is that of a type variable.
-use Rattle.std.proofs.Common.{◌≡◌, ◌⊎◌, inl, inr, ℕ, Bool, true, false, zero, suc, List, [], ◌∷◌, ◌++◌, map, get_or, slice_get, All, Option, Some, None, IsSomeAnd, IsTrue, refl, sym, ap, subst, ◌∙◌}
-use Rattle.std.specs.Option.{option_map}
+use Rattle.std.proofs.Common.{◌≡◌, ◌⊎◌, inl, inr, ℕ, Bool, true, false, zero, suc, List, [], ◌∷◌, ◌++◌, map, get_or, slice_get, All, Some, None, IsTrue, refl, sym, ap, subst, ◌∙◌}
 use Rattle.std.proofs.lemmas.List.Elements.{All-nil, All-cons, All-head, All-tail, All-append}
-use Rattle.elab_groups.specs.trees.Tree.{Tree}
 use Rattle.elab_groups.specs.tasks.Task.{SymbolTree, int_symbol, symbol_or}
 use Rattle.elab_groups.specs.tasks.Rigid.{rigid_symbol}
 use Rattle.elab_groups.specs.tasks.Vocabulary.{Vocabulary, of_signature, is_empty}
 use Rattle.elab_groups.specs.tasks.Valid.{IsTypeIn}
 use Rattle.elab_groups.specs.surface.Lexeme.{Word}
 use Rattle.elab_groups.specs.surface.Declarations.{Element, type_element, symbol_element, prop_element, all_axioms}
-use Rattle.clones.specs.Mapped.{Map, mapped}
+use Rattle.clones.specs.Mapped.{Map}
 use Rattle.clones.specs.Copies.{entry_copied}
 use Rattle.elab_groups.specs.parts.Entries.{builtin, wanting_tuples}
 use Rattle.elab_groups.specs.name_resolution.Abstract.{type_expression}
@@ -121,5 +119,5 @@ module _ (c : Setting) (t : Origin) (es : List Element) (theory within : Word) (
       let ks = kept t (fates_of (left_sides_at c t es)) in
       All-append IsPlacedEntry all (map (λ k. entry_copied m theory within (symbol_or all k)) ks) tupled_placed (copies_placed m theory within all n ks)
 
-  pub all_copies_typed : IsTypedSetting (of_signature c.symbols) c → rights_fault c.trees c.symbols c.scope es ≡ None → is_empty theory ≡ false → All (IsTypedEntry (of_signature (with_copies c t es theory within))) (copies_made c t es theory within)
+  pub all_copies_typed : IsTypedSetting (of_signature c.symbols) c → rights_fault c.symbols c.scope es ≡ None → is_empty theory ≡ false → All (IsTypedEntry (of_signature (with_copies c t es theory within))) (copies_made c t es theory within)
   all_copies_typed h q n = entries_typed c t es theory within (all_typed es c h q) tupled_placed (maps_types c t es theory within h q n)

@@ -25,7 +25,7 @@ module _ {X : Type 0} (P : X → Type 0) where
   back [] ys h = h
   back (x ∷ xs) ys h = back xs ys (All-tail P x (xs ++ ys) h)
 
-  unmap : {Y : Type 0} (f : Y → X) (ys : List Y) → All P (map f ys) → All (λ (y : Y). P (f y)) ys
+  pub unmap : {Y : Type 0} (f : Y → X) (ys : List Y) → All P (map f ys) → All (λ (y : Y). P (f y)) ys
   unmap {Y} f [] h = All-nil (λ (y : Y). P (f y))
   unmap {Y} f (y ∷ ys) h = All-cons (λ (z : Y). P (f z)) y ys (All-head P (f y) (map f ys) h) (unmap f ys (All-tail P (f y) (map f ys) h))
 

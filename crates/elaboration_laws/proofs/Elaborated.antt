@@ -1,9 +1,9 @@
 -- What `elaborate` gives is valid.
-use Rattle.std.proofs.Common.{◌≡◌, ℕ, length, List, [], ◌∷◌, ◌++◌, map, All, Option, Some, None, IfSome, refl, ap, subst, suc, arith}
+use Rattle.std.proofs.Common.{◌≡◌, ℕ, length, List, [], ◌∷◌, ◌++◌, map, All, Option, Some, None, IfSome, refl, sym, ap, subst, suc, arith}
 use Rattle.std.proofs.lemmas.List.Elements.{All-nil, All-cons}
 use Rattle.elab_groups.specs.trees.Tree.{Tree}
 use Rattle.elab_groups.specs.trees.declared.TermId.{TermId}
-use Rattle.elab_groups.specs.trees.Node.{Grows, Holds, tree_at}
+use Rattle.elab_groups.specs.trees.Node.{Holds, tree_at}
 use Rattle.elab_groups.specs.trees.Sorts.{WellSorted}
 use Rattle.elab_groups.specs.trees.Facts.{IndicesFit}
 use Rattle.elab_groups.proofs.trees.Sizes.{sorted_fits}
@@ -26,7 +26,7 @@ use Rattle.elab_declarations.specs.elab_groups.Bodies.{AreDefined, AllHaveBodies
 use Rattle.elab_declarations.specs.Outcomes.{IsOutcome, used_fault, IsElaborated}
 use Rattle.elab_groups.specs.tasks.Vocabulary.{Vocabulary}
 use Rattle.elaboration_laws.specs.Signature.{with_entries}
-use Rattle.elaboration_laws.specs.Scopes.{NamesNew}
+use Rattle.elaboration_laws.specs.Scopes.{NamesNew, AreTypedScopes}
 use Rattle.elaboration_laws.specs.Typed.{ArePatterns}
 use Rattle.elaboration_laws.specs.Valid.{IsTypedSetting, BodyFits, DeclsFit, HaveNoFault, MayNameRigid, IsValidOutcome, IsValidElaborated}
 use Rattle.elaboration_laws.proofs.Types.{type_valid, alias_valid}
@@ -83,24 +83,26 @@ from_source _ = tt
 is_source : (d : source.SyntaxDeclaration) (x : Declaration) → declaration d ≡ Some x → IsSource x
 is_source d x q = let P : Option Declaration → Type 0 = λ o. IfSome o IsSource in subst P q (from_source d)
 
-module _ (base : Vocabulary) (c : Setting) (h : IsTypedSetting base c) (s : List Tree) (r : Grows c.trees s) where
-  outcome_valid : (d : Declaration) (o : Outcome) → used_fault c d ≡ None → IsSource d → IsOutcome c s d o → DeclsFit o.decls → HaveNoFault (c.symbols ++ o.symbols) o.decls → NamesNew base (length c.symbols) (c.symbols ++ o.symbols) → MayNameRigid base d o.rigid → IsValidOutcome base c s o
-  outcome_valid (abstract_type x vs) o q w e fits passes news may = rw e (type_valid base c h s r x _ (rw e at news))
-  outcome_valid (alias x vs f) o q w e fits passes news may = alias_valid base c h s r x vs f o q e news
-  outcome_valid (proposition_declaration k x e) o q w p fits passes news may = proposition_valid base c h s r k x e o q p news fits may
-  outcome_valid (algebraic ts) o q w e fits passes news may = rw e (group_valid base c h s r ts q (rw e at news))
-  outcome_valid (member_group ms) o q w e fits passes news may = members_valid base c h s r ms q o e news w fits
-  outcome_valid (inductive ds) o q w e fits passes news may = inductives_valid base c h s r ds q o e news fits passes
+module _ (base : Vocabulary) (c : Setting) (h : IsTypedSetting base c) where
+  outcome_valid : (d : Declaration) (o : Outcome) → used_fault c d ≡ None → IsSource d → IsOutcome c d o → DeclsFit o.decls → HaveNoFault (c.symbols ++ o.symbols) o.decls → NamesNew base (length c.symbols) (c.symbols ++ o.symbols) → MayNameRigid base d o.rigid → IsValidOutcome base c o
+  outcome_valid (abstract_type x vs) o q w e fits passes news may = rw e (type_valid base c h x _ (rw e at news))
+  outcome_valid (alias x vs f) o q w e fits passes news may = rw e (alias_valid base c h x vs f q (rw e at news))
+  outcome_valid (proposition_declaration k x e) o q w p fits passes news may = proposition_valid base c h k x e o q p news fits may
+  outcome_valid (algebraic ts) o q w e fits passes news may = rw e (group_valid base c h ts q (rw e at news))
+  outcome_valid (member_group ms) o q w e fits passes news may = members_valid base c h ms q o e news w fits
+  outcome_valid (inductive ds) o q w e fits passes news may = inductives_valid base c h ds q o e news fits passes
 
-  pub elaborated_valid : (d : source.SyntaxDeclaration) (x : Declaration) (g g' : Signature) (names : ScopeNames) (made : Elaborated) → declaration d ≡ Some x → IsElaborated c x g s g' names made → ((id : TermId) → Holds s id → WellSorted (tree_at s id)) → All (DeclHeld s) made.decls
+  pub elaborated_valid : (d : source.SyntaxDeclaration) (x : Declaration) (g : Signature) (s : List Tree) (g' : Signature) (names : ScopeNames) (made : Elaborated) → declaration d ≡ Some x → IsElaborated c x g s g' names made → ((id : TermId) → Holds s id → WellSorted (tree_at s id)) → All (DeclHeld s) made.decls
       → HaveNoFault (symbols_at s g'.symbols) (declarations_at s made.decls) → NamesNew base (length c.symbols) (symbols_at s g'.symbols) → MayNameRigid base x made.rigid → IsValidElaborated base s g' names made
-  elaborated_valid d x g g' names made w e sorted held passes news may =
+  elaborated_valid d x g s g' names made w e sorted held passes news may =
       let fits = declarations_fit s sorted made.decls held in
       let q = none_both (made_fault (declared_in c.scope) [] (made_names x)) (used_fault c x) e.named in
       let y = outcome_valid x e.outcome q.1 (is_source d x w) e.is (rw e.decls at fits) (rw (e.symbols_are, e.decls) at passes) (rw e.symbols_are at news) (rw e.rigid at may) in
+      let v = with_entries base (symbols_at s g'.symbols) in
+      let scopes : AreTypedScopes v e.outcome.scope = rw e.symbols_are y.scopes in
       record {
         signature = rw e.symbols_are y.signature;
-        scopes = rw (e.symbols_are, e.scope) y.scopes;
+        scopes = subst (AreTypedScopes v) (sym e.scope) scopes;
         decls = rw (e.symbols_are, e.decls) y.decls;
       }
 
@@ -108,16 +110,16 @@ module _ (base : Vocabulary) (c : Setting) (h : IsTypedSetting base c) (s : List
   no_patterns : (v : Vocabulary) (ms : List (ℕ × List Tree)) → ms ≡ [] → All (λ (m : ℕ × List Tree). ArePatterns v m.1) ms
   no_patterns v ms q = rw q (All-nil (λ (m : ℕ × List Tree). ArePatterns v m.1))
 
-  outcome_patterns : (d : Declaration) (o : Outcome) → used_fault c d ≡ None → IsOutcome c s d o → NamesNew base (length c.symbols) (c.symbols ++ o.symbols) → All (λ (m : ℕ × List Tree). ArePatterns (with_entries base (c.symbols ++ o.symbols)) m.1) o.matches
+  outcome_patterns : (d : Declaration) (o : Outcome) → used_fault c d ≡ None → IsOutcome c d o → NamesNew base (length c.symbols) (c.symbols ++ o.symbols) → All (λ (m : ℕ × List Tree). ArePatterns (with_entries base (c.symbols ++ o.symbols)) m.1) o.matches
   outcome_patterns (abstract_type x vs) o q e news = no_patterns _ o.matches (ap (λ (i : Outcome). i.matches) e)
-  outcome_patterns (alias x vs f) o q e news = no_patterns _ o.matches e.matches
-  outcome_patterns (proposition_declaration k x e) o q p news = proposition_patterns base c h s r k x e o q p news
+  outcome_patterns (alias x vs f) o q e news = no_patterns _ o.matches (ap (λ (i : Outcome). i.matches) e)
+  outcome_patterns (proposition_declaration k x e) o q p news = proposition_patterns base c h k x e o q p news
   outcome_patterns (algebraic ts) o q e news = no_patterns _ o.matches (ap (λ (i : Outcome). i.matches) e)
-  outcome_patterns (member_group ms) o q e news = members_patterns base c h s r ms q o e news
-  outcome_patterns (inductive ds) o q e news = inductives_patterns base c h s r ds q o e news
+  outcome_patterns (member_group ms) o q e news = members_patterns base c h ms q o e news
+  outcome_patterns (inductive ds) o q e news = inductives_patterns base c h ds q o e news
 
-  pub elaborated_patterns : (x : Declaration) (g g' : Signature) (names : ScopeNames) (made : Elaborated) → IsElaborated c x g s g' names made → NamesNew base (length c.symbols) (symbols_at s g'.symbols)
+  pub elaborated_patterns : (x : Declaration) (g : Signature) (s : List Tree) (g' : Signature) (names : ScopeNames) (made : Elaborated) → IsElaborated c x g s g' names made → NamesNew base (length c.symbols) (symbols_at s g'.symbols)
       → All (λ (m : ℕ × List Tree). ArePatterns (with_entries base (symbols_at s g'.symbols)) m.1) (map (match_at s) made.matches)
-  elaborated_patterns x g g' names made e news =
+  elaborated_patterns x g s g' names made e news =
       let q = none_both (made_fault (declared_in c.scope) [] (made_names x)) (used_fault c x) e.named in
       rw (e.symbols_are, e.matches) (outcome_patterns x e.outcome q.1 e.is (rw e.symbols_are at news))

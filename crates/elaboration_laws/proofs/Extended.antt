@@ -3,24 +3,22 @@ use Rattle.std.proofs.Common.{◌≡◌, ℕ, ◌-◌, ◌<◌, ◌≤◌, ◌==
 use Rattle.std.specs.Str.{bytes_eq}
 use Rattle.std.proofs.lemmas.List.Elements.{All-append}
 use Rattle.elab_groups.specs.trees.Tree.{Tree, Leaf, One, Two, Three, Head, HTyRigid, HTyApp, HPred, HFun, HPatCon}
-use Rattle.elab_groups.specs.trees.Node.{Grows}
-use Rattle.elab_groups.proofs.trees.Nodes.{tree_at-grows}
 use Rattle.elab_groups.specs.tasks.Task.{SymbolTree, symbol_or, int_symbol}
 use Rattle.elab_groups.specs.tasks.declared.signature.SymbolKind.{SymbolKind}
 use Rattle.elab_groups.specs.tasks.declared.signature.SymbolKind.TheVariants.{Constructor}
 use Rattle.elab_groups.specs.tasks.Vocabulary.{Vocabulary, is_constructor_kind}
 use Rattle.elab_groups.specs.tasks.Typing.{entry, LeafTyped, OneTyped, TwoTyped, ThreeTyped, TypedUnder, bound_types}
 use Rattle.elab_groups.specs.tasks.Valid.{IsTypeIn, HasTypes}
-use Rattle.elab_groups.specs.scopes.Names.{ScopeNames, number_of, TypeName}
 use Rattle.elab_groups.specs.scopes.declared.Table.{Table}
 use Rattle.elab_groups.specs.scopes.declared.Table.TheVariants.{Types, Symbols, Propositions, Scopes}
 use Rattle.elab_groups.specs.scopes.declared.Referent.TheVariants as stands
+use Rattle.elab_groups.specs.name_resolution.Where.{MeaningTree, NamesTree}
 use Rattle.elab_groups.specs.open_types.Scoped.{IsScopedEntry}
 use Rattle.elab_groups.specs.parts.Entries.{builtin, is_tuple}
 use Rattle.elaboration_laws.specs.Signature.{with_entries}
 use Rattle.elaboration_laws.proofs.Words.{same_word}
 use Rattle.elaboration_laws.proofs.Signed.{entry_scoped}
-use Rattle.elaboration_laws.specs.Scopes.{is_projection_kind, is_nameable, NamesNew, IsSubvocabulary, AgreeBelow, IsTypedEntry, IsTypedSignature, IsTypeNumber, IsSymbolNumber, IsAliased, IsTypedThing, AreTypedScopes}
+use Rattle.elaboration_laws.specs.Scopes.{is_projection_kind, is_nameable, NamesNew, IsSubvocabulary, AgreeBelow, IsTypedEntry, IsTypedSignature, IsTypeNumber, IsSymbolNumber, IsTypedThing, AreTypedScopes}
 use Rattle.elaboration_laws.proofs.Declarations.{below as slice_below}
 use Rattle.elab_groups.proofs.plain_laws.Bools.{and_both as both_true}
 use Rattle.std.proofs.lemmas.Option.{slice_get-get_or as some_at}
@@ -173,7 +171,7 @@ module _ (v w : Vocabulary) (symbols : List SymbolTree) (a : AgreeBelow v w (len
       back k e q u = along (w.usable k) (v.usable k) (sym (a.usable k (slice_below symbols k e q))) u
 
 -- ---- scopes
-module _ (v w : Vocabulary) (part : IsSubvocabulary v w) (s s' : List Tree) (g : Grows s s') where
+module _ (v w : Vocabulary) (part : IsSubvocabulary v w) where
   found : (k : ℕ) → k < length v.symbols → (k < length w.symbols) × (symbol_or w.symbols k ≡ symbol_or v.symbols k)
   found k l =
       let q = part.entries k (symbol_or v.symbols k) (some_at v.symbols k int_symbol l) in
@@ -193,21 +191,16 @@ module _ (v w : Vocabulary) (part : IsSubvocabulary v w) (s s' : List Tree) (g :
   symbol_number_more : (k : ℕ) → IsSymbolNumber v k → IsSymbolNumber w k
   symbol_number_more k h = let z = found k h.there in record { there = z.0; usable = usable_more k h.there h.usable; kind = λ e. h.kind (sym (ap (λ (x : SymbolTree). x.kind) z.1) ∙ e) }
 
-  aliased_more : (vars ty : ℕ) → IsAliased v s vars ty → IsAliased w s' vars ty
-  aliased_more vars ty h = record {
-    held = omega (arith, h.held, g.longer);
-    type = rw (tree_at-grows s s' (record { 0 = ty }) g h.held) (type_more v w part vars _ h.type);
-  }
-
-  thing_more : (table : Table) (t : TypeName) → IsTypedThing v s table t → IsTypedThing w s' table t
+  pub thing_more : (table : Table) (t : MeaningTree) → IsTypedThing v table t → IsTypedThing w table t
   thing_more Types (stands.Entry k) h = type_number_more k h
-  thing_more Types (stands.Alias vars ty) h = aliased_more vars ty h
-  thing_more Symbols t h = symbol_number_more (number_of t) h
-  thing_more Propositions t h = tt
-  thing_more Scopes t h = tt
+  thing_more Types (stands.Alias vars t) h = type_more v w part vars t h
+  thing_more Symbols (stands.Entry k) h = symbol_number_more k h
+  thing_more Symbols (stands.Alias vars t) h = absurd h
+  thing_more Propositions t h = h
+  thing_more Scopes t h = h
 
-  pub scopes_part : (names : ScopeNames) → AreTypedScopes v s names → AreTypedScopes w s' names
+  pub scopes_part : (names : NamesTree) → AreTypedScopes v names → AreTypedScopes w names
   scopes_part names h = λ k es i. λ j e x. thing_more (get_or (get_or names.entries k es) j e).table (get_or (get_or names.entries k es) j e).thing (h k es i j e x)
 
-pub scopes_extended : (base : Vocabulary) (s s' : List Tree) → Grows s s' → (xs ys : List SymbolTree) (names : ScopeNames) → AreTypedScopes (with_entries base xs) s names → AreTypedScopes (with_entries base (xs ++ ys)) s' names
-scopes_extended base s s' g xs ys names h = scopes_part (with_entries base xs) (with_entries base (xs ++ ys)) (entries_part base xs ys) s s' g names h
+pub scopes_extended : (base : Vocabulary) (xs ys : List SymbolTree) (names : NamesTree) → AreTypedScopes (with_entries base xs) names → AreTypedScopes (with_entries base (xs ++ ys)) names
+scopes_extended base xs ys names h = scopes_part (with_entries base xs) (with_entries base (xs ++ ys)) (entries_part base xs ys) names h

@@ -4,13 +4,11 @@ use Rattle.std.specs.List.{Contains, range_with_len}
 use Rattle.std.specs.Option.{option_to_list}
 use Rattle.std.specs.Str.{bytes_eq}
 use Rattle.std.proofs.lemmas.List.Elements.{All-append, All-contains, All-head, All-tail, Contains-get_or, Contains-append_left, Contains-append_right, Contains-append_cases}
-use Rattle.elab_groups.specs.trees.Tree.{Tree}
-use Rattle.elab_groups.specs.trees.Node.{Grows}
 use Rattle.elab_groups.specs.tasks.Task.{SymbolTree, DeclarationTree}
 use Rattle.elab_groups.specs.tasks.Vocabulary.{Vocabulary, is_empty}
 use Rattle.elab_groups.specs.parts.Entries.{builtin}
 use Rattle.theory_states.specs.goal_tasks.Theories.{GoalTree}
-use Rattle.theory_states.specs.declared.moves.Move.{Move}
+use Rattle.theory_states.specs.Moves.{MoveTree}
 use Rattle.elaboration_laws.specs.Scopes.{IsSubvocabulary, IsTypedSignature, AreTypedScopes}
 use Rattle.elaboration_laws.proofs.Words.{same_word, self_word}
 use Rattle.elaboration_laws.specs.Moves.{IsTypedMove, AreTypedMoves}
@@ -27,7 +25,7 @@ use Rattle.theory_states.specs.States.{KnownTree, OpenedTree, StateTree, at_plac
 use Rattle.elaboration_laws.specs.Whole.{IsWhole}
 use Rattle.elaboration_laws.specs.Sound.{others, IsSoundAmong, IsSoundAxiom, IsSoundTheory, IsSoundKnown, IsApart, IsSoundOpened, paths, AreOf, IsSoundState, IsAfter, IsSoundAddition}
 use Rattle.elaboration_laws.proofs.Places.{none_here, cases_of, there, further, at_both, in_places, slice_in, places_grown}
-use Rattle.elaboration_laws.proofs.Used.{is_part_itself, among_more, others_more}
+use Rattle.elaboration_laws.proofs.Used.{among_more, others_more}
 
 -- ---- declarations after others
 below : (xs : List DeclarationTree) (k : ℕ) (d : DeclarationTree) → slice_get xs k ≡ Some d → k < length xs
@@ -76,7 +74,7 @@ axiom_more decls new a h = record {
 }
 
 -- ---- a theory before, as more is known
-module _ (s s' : List Tree) (g : Grows s s') (all more : List SymbolTree) (built : IsBuiltRight (all ++ more)) (decls new : List DeclarationTree) (path : List ℕ) (of : All (λ (d : DeclarationTree). d.theory ≡ path) new) where
+module _ (all more : List SymbolTree) (built : IsBuiltRight (all ++ more)) (decls new : List DeclarationTree) (path : List ℕ) (of : All (λ (d : DeclarationTree). d.theory ≡ path) new) where
   new_theory : (i : ℕ) (d : DeclarationTree) → slice_get new i ≡ Some d → d.theory ≡ path
   new_theory i d q = by new i d q of
     where
@@ -85,7 +83,7 @@ module _ (s s' : List Tree) (g : Grows s s') (all more : List SymbolTree) (built
       by (x ∷ ds) zero d q h = let e : x ≡ d = cc in ap (λ (z : DeclarationTree). z.theory) (sym e) ∙ All-head (λ (z : DeclarationTree). z.theory ≡ path) x ds h
       by (x ∷ ds) (suc i) d q h = by ds i d q (All-tail (λ (z : DeclarationTree). z.theory ≡ path) x ds h)
 
-  module _ (t : KnownTree) (apart : IsApart decls path t) (xs : List SymbolTree) (h : IsSoundTheory s all xs decls t.path t.visible t.axioms t.goals t.moves) where
+  module _ (t : KnownTree) (apart : IsApart decls path t) (xs : List SymbolTree) (h : IsSoundTheory all xs decls t.path t.visible t.axioms t.goals t.moves) where
     same : at_places (decls ++ new) t.visible ≡ at_places decls t.visible
     same = places_grown decls new t.visible h.below
 
@@ -102,13 +100,12 @@ module _ (s s' : List Tree) (g : Grows s s') (all more : List SymbolTree) (built
         by j k d e (inl q) r c u = h.whole j k d e q r c u
         by j k d e (inr z) r c u = absurd (All-contains (λ (x : DeclarationTree). x.theory ≢ path) (at_places decls t.visible) e apart (in_places decls t.visible k e c r) (sym u ∙ new_theory z.0 d z.2))
 
-    known_theory : IsSoundTheory s' (all ++ more) xs (decls ++ new) t.path t.visible t.axioms t.goals t.moves
+    known_theory : IsSoundTheory (all ++ more) xs (decls ++ new) t.path t.visible t.axioms t.goals t.moves
     known_theory = record {
       sound = subst (AreSound xs) (sym same) h.sound;
       others = subst (λ (ds : List DeclarationTree). AreSound xs (others t.path ds)) (sym same) h.others;
       signature = subst (λ (ds : List DeclarationTree). IsTypedSignature (after xs [] ds) xs) (sym same) h.signature;
-      typed_moves = subst (λ (ds : List DeclarationTree). AreTypedMoves (after xs [] ds) s' t.moves) (sym same)
-          (moves_more (after xs [] (at_places decls t.visible)) (after xs [] (at_places decls t.visible)) (is_part_itself (after xs [] (at_places decls t.visible))) s s' g t.moves h.typed_moves);
+      typed_moves = subst (λ (ds : List DeclarationTree). AreTypedMoves (after xs [] ds) t.moves) (sym same) h.typed_moves;
       sound_goals = λ i x l. subst (λ (ds : List DeclarationTree). IsSoundAmong (all ++ more) ds (get_or t.goals i x)) (sym same) (goal_more (get_or t.goals i x) (h.sound_goals i x l));
       sound_axioms = λ i a l. axiom_more decls new (get_or t.axioms i a) (h.sound_axioms i a l);
       below = λ i d l. let b = h.below i d l in let n = length-append decls new in omega (arith, b, n);
@@ -122,7 +119,7 @@ module _ (s s' : List Tree) (g : Grows s s') (all more : List SymbolTree) (built
     still_apart : IsApart (decls ++ new) path t
     still_apart = subst (All (λ (d : DeclarationTree). d.theory ≢ path)) (sym same) apart
 
-  pub known_further : (t : KnownTree) → IsApart decls path t → IsSoundKnown s all decls t → IsSoundKnown s' (all ++ more) (decls ++ new) t
+  pub known_further : (t : KnownTree) → IsApart decls path t → IsSoundKnown all decls t → IsSoundKnown (all ++ more) (decls ++ new) t
   known_further t apart h = record {
     earlier = h.earlier;
     later = h.later ++ more;
@@ -130,7 +127,7 @@ module _ (s s' : List Tree) (g : Grows s s') (all more : List SymbolTree) (built
     theory = known_theory t apart h.earlier h.theory;
   }
 
-  pub apart_further : (t : KnownTree) → IsApart decls path t → IsSoundKnown s all decls t → IsApart (decls ++ new) path t
+  pub apart_further : (t : KnownTree) → IsApart decls path t → IsSoundKnown all decls t → IsApart (decls ++ new) path t
   apart_further t apart h = still_apart t apart h.earlier h.theory
 
 -- ---- the open theory
@@ -142,7 +139,7 @@ part_then u v w a b = record {
   matched = λ k e q h. b.matched k e (a.entries k e q) (a.matched k e q h);
 }
 
-module _ (s s' : List Tree) (g : Grows s s') (all more : List SymbolTree) (decls new : List DeclarationTree) (o o' : OpenedTree) (h : IsSoundOpened s all decls o) (of : All (λ (d : DeclarationTree). d.theory ≡ o.path) new)
+module _ (all more : List SymbolTree) (decls new : List DeclarationTree) (o o' : OpenedTree) (h : IsSoundOpened all decls o) (of : All (λ (d : DeclarationTree). d.theory ≡ o.path) new)
     (path : o'.path ≡ o.path) (visible : o'.visible ≡ o.visible ++ range_with_len (length decls) (length new)) where
   abbrev ds : List DeclarationTree
   ds = at_places decls o.visible
@@ -196,9 +193,9 @@ module _ (s s' : List Tree) (g : Grows s s') (all more : List SymbolTree) (decls
   once_now = distinct_both o.visible places (pairs_distinct o.visible h.theory.once) (range_distinct (length decls) (length new))
       (λ k c d. let a = All-contains (λ (i : ℕ). i < length decls) o.visible k h.theory.below c in let b = range_contains (length decls) (length new) k d in omega arith)
 
-  module _ (axioms : List AxiomAt) (goals : List GoalTree) (moves : List Move) (axioms_are : o'.axioms ≡ o.axioms ++ axioms) (assumed : All (IsSoundAxiom (decls ++ new)) axioms) (goals_are : o'.goals ≡ o.goals ++ goals) (moves_are : o'.moves ≡ o.moves ++ moves)
-      (sound : AreSound (all ++ more) both) (signature : IsTypedSignature (after (all ++ more) [] both) (all ++ more)) (scopes : AreTypedScopes (after (all ++ more) [] both) s' o'.scope)
-      (typed : AreTypedMoves (after (all ++ more) [] both) s' moves) (said : All (IsSoundAmong (all ++ more) both) goals) where
+  module _ (axioms : List AxiomAt) (goals : List GoalTree) (moves : List MoveTree) (axioms_are : o'.axioms ≡ o.axioms ++ axioms) (assumed : All (IsSoundAxiom (decls ++ new)) axioms) (goals_are : o'.goals ≡ o.goals ++ goals) (moves_are : o'.moves ≡ o.moves ++ moves)
+      (sound : AreSound (all ++ more) both) (signature : IsTypedSignature (after (all ++ more) [] both) (all ++ more)) (scopes : AreTypedScopes (after (all ++ more) [] both) o'.scope)
+      (typed : AreTypedMoves (after (all ++ more) [] both) moves) (said : All (IsSoundAmong (all ++ more) both) goals) where
     part : IsSubvocabulary (after all [] ds) (after (all ++ more) [] both)
     part = part_then (after all [] ds) (after (all ++ more) [] ds) (after (all ++ more) [] both) (more_part all more [] ds) (list_part (all ++ more) [] ds new)
 
@@ -210,14 +207,14 @@ module _ (s s' : List Tree) (g : Grows s s') (all more : List SymbolTree) (decls
         subst (λ (p : List ℕ). AreSound (all ++ more) (others p both)) (sym path)
         (subst (AreSound (all ++ more)) (sym (others_more o.path ds new of)) (sound_more all more (others o.path ds) h.theory.others sound.built))
 
-    theory_now : IsSoundTheory s' (all ++ more) (all ++ more) (decls ++ new) o'.path o'.visible o'.axioms o'.goals o'.moves
+    theory_now : IsSoundTheory (all ++ more) (all ++ more) (decls ++ new) o'.path o'.visible o'.axioms o'.goals o'.moves
     theory_now = record {
       sound = subst (AreSound (all ++ more)) (sym now) sound;
       others = subst (λ (zs : List DeclarationTree). AreSound (all ++ more) (others o'.path zs)) (sym now) other_sound;
       signature = subst (λ (zs : List DeclarationTree). IsTypedSignature (after (all ++ more) [] zs) (all ++ more)) (sym now) signature;
-      typed_moves = subst (λ (zs : List DeclarationTree). AreTypedMoves (after (all ++ more) [] zs) s' o'.moves) (sym now)
-          (subst (AreTypedMoves (after (all ++ more) [] both) s') (sym moves_are)
-          (All-append (IsTypedMove (after (all ++ more) [] both) s') o.moves moves (moves_more (after all [] ds) (after (all ++ more) [] both) part s s' g o.moves h.theory.typed_moves) typed));
+      typed_moves = subst (λ (zs : List DeclarationTree). AreTypedMoves (after (all ++ more) [] zs) o'.moves) (sym now)
+          (subst (AreTypedMoves (after (all ++ more) [] both)) (sym moves_are)
+          (All-append (IsTypedMove (after (all ++ more) [] both)) o.moves moves (moves_more (after all [] ds) (after (all ++ more) [] both) part o.moves h.theory.typed_moves) typed));
       sound_goals = subst (λ (zs : List DeclarationTree). All (IsSoundAmong (all ++ more) zs) o'.goals) (sym now)
           (subst (All (IsSoundAmong (all ++ more) both)) (sym goals_are)
           (All-append (IsSoundAmong (all ++ more) both) o.goals goals (λ i x l. goal_still (get_or o.goals i x) (h.theory.sound_goals i x l)) said));
@@ -227,28 +224,28 @@ module _ (s s' : List Tree) (g : Grows s s') (all more : List SymbolTree) (decls
       whole = subst (IsWhole (decls ++ new)) (sym visible) whole_now;
     }
 
-    pub opened_further : IsSoundOpened s' (all ++ more) (decls ++ new) o'
+    pub opened_further : IsSoundOpened (all ++ more) (decls ++ new) o'
     opened_further = record {
       named = ap is_empty path ∙ h.named;
       source = ap (λ (p : List ℕ). bytes_eq p builtin) path ∙ h.source;
       theory = theory_now;
-      scopes = subst (λ (zs : List DeclarationTree). AreTypedScopes (after (all ++ more) [] zs) s' o'.scope) (sym now) scopes;
+      scopes = subst (λ (zs : List DeclarationTree). AreTypedScopes (after (all ++ more) [] zs) o'.scope) (sym now) scopes;
       own = λ k d q e. subst (λ (ks : List ℕ). Contains ks k) (sym visible) (own_now k d q (e ∙ path));
     }
 
 -- ---- a state
-pub state_further : (c c' : StateTree) (more : List SymbolTree) (new : List DeclarationTree) (axioms : List AxiomAt) (goals : List GoalTree) (moves : List Move) → IsSoundState c → IsAfter c c' more new axioms goals moves → IsSoundAddition c c' new axioms goals moves → IsSoundState c'
+pub state_further : (c c' : StateTree) (more : List SymbolTree) (new : List DeclarationTree) (axioms : List AxiomAt) (goals : List GoalTree) (moves : List MoveTree) → IsSoundState c → IsAfter c c' more new axioms goals moves → IsSoundAddition c c' new axioms goals moves → IsSoundState c'
 state_further c c' more new axioms goals moves h a add = record {
-  opened = subst (λ (es : List SymbolTree). IsSoundOpened c'.trees es c'.decls c'.opened) (sym a.symbols)
-      (subst (λ (zs : List DeclarationTree). IsSoundOpened c'.trees (c.symbols ++ more) zs c'.opened) (sym a.decls) opened);
-  known = subst (λ (es : List SymbolTree). All (IsSoundKnown c'.trees es c'.decls) c'.known) (sym a.symbols)
-      (subst (λ (zs : List DeclarationTree). All (IsSoundKnown c'.trees (c.symbols ++ more) zs) c'.known) (sym a.decls)
-      (subst (All (IsSoundKnown c'.trees (c.symbols ++ more) (c.decls ++ new))) (sym a.known)
-      (λ i t l. known_further c.trees c'.trees a.trees c.symbols more built c.decls new c.opened.path a.of (get_or c.known i t) (h.apart i t l) (h.known i t l))));
+  opened = subst (λ (es : List SymbolTree). IsSoundOpened es c'.decls c'.opened) (sym a.symbols)
+      (subst (λ (zs : List DeclarationTree). IsSoundOpened (c.symbols ++ more) zs c'.opened) (sym a.decls) opened);
+  known = subst (λ (es : List SymbolTree). All (IsSoundKnown es c'.decls) c'.known) (sym a.symbols)
+      (subst (λ (zs : List DeclarationTree). All (IsSoundKnown (c.symbols ++ more) zs) c'.known) (sym a.decls)
+      (subst (All (IsSoundKnown (c.symbols ++ more) (c.decls ++ new))) (sym a.known)
+      (λ i t l. known_further c.symbols more built c.decls new c.opened.path a.of (get_or c.known i t) (h.apart i t l) (h.known i t l))));
   apart = subst (λ (p : List ℕ). All (IsApart c'.decls p) c'.known) (sym a.path)
       (subst (λ (zs : List DeclarationTree). All (IsApart zs c.opened.path) c'.known) (sym a.decls)
       (subst (All (IsApart (c.decls ++ new) c.opened.path)) (sym a.known)
-      (λ i t l. apart_further c.trees c'.trees a.trees c.symbols more built c.decls new c.opened.path a.of (get_or c.known i t) (h.apart i t l) (h.known i t l))));
+      (λ i t l. apart_further c.symbols more built c.decls new c.opened.path a.of (get_or c.known i t) (h.apart i t l) (h.known i t l))));
   of = subst (λ (p : List ℕ). AreOf (p ∷ paths c'.known) c'.decls) (sym a.path)
       (subst (λ (ts : List KnownTree). AreOf (c.opened.path ∷ paths ts) c'.decls) (sym a.known)
       (subst (AreOf (c.opened.path ∷ paths c.known)) (sym a.decls)
@@ -258,10 +255,10 @@ state_further c c' more new axioms goals moves h a add = record {
     built : IsBuiltRight (c.symbols ++ more)
     built = subst IsBuiltRight a.symbols add.sound.built
 
-    opened : IsSoundOpened c'.trees (c.symbols ++ more) (c.decls ++ new) c'.opened
-    opened = opened_further c.trees c'.trees a.trees c.symbols more c.decls new c.opened c'.opened h.opened a.of a.path a.visible axioms goals moves a.axioms_are (subst (λ (zs : List DeclarationTree). All (IsSoundAxiom zs) axioms) a.decls add.sound_axioms) a.goals_are a.moves_are
+    opened : IsSoundOpened (c.symbols ++ more) (c.decls ++ new) c'.opened
+    opened = opened_further c.symbols more c.decls new c.opened c'.opened h.opened a.of a.path a.visible axioms goals moves a.axioms_are (subst (λ (zs : List DeclarationTree). All (IsSoundAxiom zs) axioms) a.decls add.sound_axioms) a.goals_are a.moves_are
         (subst (λ (es : List SymbolTree). AreSound es (visible_now c ++ new)) a.symbols add.sound)
         (subst (λ (es : List SymbolTree). IsTypedSignature (after es [] (visible_now c ++ new)) es) a.symbols add.signature)
-        (subst (λ (es : List SymbolTree). AreTypedScopes (after es [] (visible_now c ++ new)) c'.trees c'.opened.scope) a.symbols add.scopes)
-        (subst (λ (es : List SymbolTree). AreTypedMoves (after es [] (visible_now c ++ new)) c'.trees moves) a.symbols add.typed_moves)
+        (subst (λ (es : List SymbolTree). AreTypedScopes (after es [] (visible_now c ++ new)) c'.opened.scope) a.symbols add.scopes)
+        (subst (λ (es : List SymbolTree). AreTypedMoves (after es [] (visible_now c ++ new)) moves) a.symbols add.typed_moves)
         (subst (λ (es : List SymbolTree). All (IsSoundAmong es (visible_now c ++ new)) goals) a.symbols add.sound_goals)

@@ -1,14 +1,13 @@
 -- A goal after declarations is valid over what they make and its own type variables.
-use Rattle.std.proofs.Common.{◌≡◌, inl, inr, ℕ, ◌+◌, ◌<◌, ◌==◌, suc, false, List, [], ◌∷◌, ◌++◌, map, length, get_or, slice_get, All, Some, None, IsTrue, refl, sym, ap, subst, ◌∙◌, arith, length-append, append_assoc}
+use Rattle.std.proofs.Common.{◌≡◌, inl, inr, ℕ, ◌+◌, ◌<◌, ◌==◌, false, List, [], ◌∷◌, ◌++◌, map, length, get_or, All, Some, None, IsTrue, refl, sym, ap, subst, ◌∙◌, arith, length-append, append_assoc}
 use Rattle.std.specs.Option.{option_or}
 use Rattle.std.specs.List.{list_any, Contains}
 use Rattle.std.proofs.lemmas.Bool.Decides.{nat_tests}
 use Rattle.std.proofs.lemmas.List.Elements.{All-nil, All-cons}
 use Rattle.elab_groups.specs.trees.Tree.{Tree}
 use Rattle.elab_groups.specs.trees.declared.TermId.{TermId}
-use Rattle.elab_groups.specs.trees.Node.{Grows, Holds, tree_at}
+use Rattle.elab_groups.specs.trees.Node.{Holds, tree_at}
 use Rattle.elab_groups.specs.trees.Sorts.{WellSorted}
-use Rattle.elab_groups.proofs.trees.Nodes.{Grows_refl}
 use Rattle.elab_groups.specs.tasks.declared.signature.Signature.{Signature}
 use Rattle.elab_groups.specs.tasks.Rigid.{rigid_symbol}
 use Rattle.elab_groups.specs.tasks.Task.{SymbolTree, DeclarationTree, made}
@@ -16,6 +15,8 @@ use Rattle.elab_groups.specs.tasks.Meaning.{symbols_at, declarations_at, DeclHel
 use Rattle.elab_groups.specs.tasks.Roles.{maker}
 use Rattle.elab_groups.proofs.tasks.Declared.{contains_step, any_iff, maker_made}
 use Rattle.elab_groups.specs.scopes.Names.{ScopeNames}
+use Rattle.elab_groups.specs.name_resolution.Naming.{scope_at}
+use Rattle.elab_groups.specs.name_resolution.Where.{NamesTree}
 use Rattle.elab_groups.specs.surface.Lexeme.{Word}
 use Rattle.elab_groups.specs.surface.declared.declarations.PropKind.TheVariants as kind
 use Rattle.elab_groups.specs.surface.Declarations as source
@@ -73,10 +74,10 @@ module _ (symbols : List SymbolTree) (own : List ℕ) (ds new : List Declaration
     matched = λ k l. let q = maker_same k in cc;
   }
 
-pub next_goal : (c : Setting) (ds : List DeclarationTree) (d : source.SyntaxDeclaration) (x : TokenName) (y : Expression) (g : Signature) (s : List Tree) (g' : Signature) (names : ScopeNames) (it : Elaborated) → IsTypedSetting (after c.symbols [] ds) c → MakesBelow (length c.symbols) ds → Grows c.trees s
+pub next_goal : (c : Setting) (ds : List DeclarationTree) (d : source.SyntaxDeclaration) (x : TokenName) (y : Expression) (g : Signature) (s : List Tree) (g' : Signature) (names : ScopeNames) (it : Elaborated) → IsTypedSetting (after c.symbols [] ds) c → MakesBelow (length c.symbols) ds
     → declaration d ≡ Some (proposition_declaration kind.Goal x y) → IsElaborated c (proposition_declaration kind.Goal x y) g s g' names it → ((id : TermId) → Holds s id → WellSorted (tree_at s id)) → All (DeclHeld s) it.decls → HaveNoFault (symbols_at s g'.symbols) (declarations_at s it.decls)
-    → IsNextGoal s (symbols_at s g'.symbols) names ds it.rigid (declarations_at s it.decls)
-next_goal c ds d x y g s g' names it h below r q e sorted held passes =
+    → IsNextGoal (symbols_at s g'.symbols) (scope_at s names) ds it.rigid (declarations_at s it.decls)
+next_goal c ds d x y g s g' names it h below q e sorted held passes =
     let goal = proposition_declaration kind.Goal x y in
     let n = length c.symbols in
     let all = symbols_at s g'.symbols in
@@ -89,21 +90,21 @@ next_goal c ds d x y g s g' names it h below r q e sorted held passes =
     let far : (k : ℕ) → k < n → list_any (λ j. j == k) own ≡ false = λ k l. let z = far_numbers (length first) k vs (omega (arith, l, length-append c.symbols tuples)) in rw (e.rigid, p.rigid) z in
     let v = after all own (ds ++ new) in
     let none : made new ≡ [] = ap made e.decls ∙ ap made p.decls in
-    let valid' : IsValidElaborated v s g' names it = elaborated_valid v c (setting c ds goal g s g' names it h below r tt e own far) s r d goal g g' names it q e sorted held passes (news c ds goal g s g' names it h below r tt e own) (all_among own own (λ k z. z)) in
+    let valid' : IsValidElaborated v s g' names it = elaborated_valid v c (setting c ds goal g s g' names it h below tt e own far) d goal g s g' names it q e sorted held passes (news c ds goal g s g' names it h below tt e own) (all_among own own (λ k z. z)) in
     let v0 = after all [] (ds ++ new) in
     let named = none_both (made_fault (declared_in c.scope) [] (made_names goal)) (used_fault c goal) e.named in
-    let typed : IsTypedOutcome v0 c s e.outcome = proposition_typed v0 c (setting c ds goal g s g' names it h below r tt e [] (λ k l. refl)) s r kind.Goal x y e.outcome named.1 p (subst (λ (es : List SymbolTree). NamesNew v0 n es) e.symbols_are (news c ds goal g s g' names it h below r tt e [])) in
+    let typed : IsTypedOutcome v0 c e.outcome = proposition_typed v0 c (setting c ds goal g s g' names it h below tt e [] (λ k l. refl)) kind.Goal x y e.outcome named.1 p (subst (λ (es : List SymbolTree). NamesNew v0 n es) e.symbols_are (news c ds goal g s g' names it h below tt e [])) in
     let signature' : IsTypedSignature v0 all = subst (λ (es : List SymbolTree). IsTypedSignature v0 es) (sym e.symbols_are) typed.signature in
-    let scopes' : AreTypedScopes (with_entries v0 all) s names =
-    subst (λ (es : List SymbolTree). AreTypedScopes (with_entries v0 es) s names) (sym e.symbols_are) (subst (λ (m : ScopeNames). AreTypedScopes (with_entries v0 (c.symbols ++ e.outcome.symbols)) s m) (sym e.scope) typed.scopes) in
+    let scopes' : AreTypedScopes (with_entries v0 all) (scope_at s names) =
+    subst (λ (es : List SymbolTree). AreTypedScopes (with_entries v0 es) (scope_at s names)) (sym e.symbols_are) (subst (λ (m : NamesTree). AreTypedScopes (with_entries v0 (c.symbols ++ e.outcome.symbols)) m) (sym e.scope) typed.scopes) in
     let part = agrees_part v (after all own ds) all (nothing_more all own ds new none) in
     let part0 = agrees_part v0 (after all [] ds) all (nothing_more all [] ds new none) in
-    let long = longer c ds goal g s g' names it h below r tt e in
+    let long = longer c ds goal g s g' names it h below tt e in
     let entries : All (IsRigidAt all) own =
     rw (e.rigid, p.rigid) (subst (λ (es : List SymbolTree). All (IsRigidAt es) (entry_numbers (length first) vs)) (append_assoc c.symbols tuples (map rigid_symbol vs) ∙ ap (λ (es : List SymbolTree). c.symbols ++ es) (sym p.symbols) ∙ sym e.symbols_are) (rigid_entries first vs (length first) refl)) in
     record {
       signature = signature_agrees v0 (after all [] ds) all (nothing_more all [] ds new none) signature';
-      scopes = scopes_part (with_entries v0 all) (with_entries (after all [] ds) all) part0 s s (Grows_refl s) names scopes';
+      scopes = scopes_part (with_entries v0 all) (with_entries (after all [] ds) all) part0 (scope_at s names) scopes';
       valid = λ i a l. declaration_stays (with_entries v all) (with_entries (after all own ds) all) part (get_or new i a) (valid'.decls i a l);
       makes = λ i k l. let z : get_or (made ds) i k < n = below i k l in omega (arith, z, long);
       rigid = entries;

@@ -3,8 +3,6 @@ use Rattle.std.proofs.Common.{◌≡◌, ℕ, ◌+◌, ◌≤◌, suc, true, fal
 use Rattle.std.proofs.lemmas.List.Elements.{All-nil, All-cons}
 use Rattle.std.proofs.Math.ListN.{length-map}
 use Rattle.elab_groups.specs.trees.Tree.{Tree}
-use Rattle.elab_groups.specs.trees.Node.{Grows}
-use Rattle.elab_groups.proofs.trees.Nodes.{Grows_refl}
 use Rattle.elab_groups.specs.tasks.Task.{SymbolTree}
 use Rattle.elab_groups.specs.tasks.Vocabulary.{Vocabulary, is_empty}
 use Rattle.elab_groups.specs.tasks.Typing.{IsTypeSymbol}
@@ -101,8 +99,8 @@ module _ (base : Vocabulary) (w : Where) (sig : IsTypedSignature base w.symbols)
         let symbol : IsTypeSymbol (with_entries base all) i (length a.vars) = (h.0.named.usable (rw named refl), rw h.0.at (refl, refl)) in
         ((subst (λ (x : Vocabulary). IsTypeSymbol x i (length a.vars)) (sym e) symbol, cons_in theory within named a a.constructors n s (λ m z. g m (types_grow ts t m z)) p.0), group_in theory within all e named ts (i + 1) (n + entry_count a.constructors) t h.1 g p.1)
 
-module _ (base : Vocabulary) (c : Setting) (h : IsTypedSetting base c) (s : List Tree) (g : Grows c.trees s) where
-  pub group_valid : (ts : List AlgebraicType) → types_fault (group.inside_types c ts) ts ≡ None → NamesNew base (length c.symbols) (c.symbols ++ (group_outcome c ts).symbols) → IsValidOutcome base c s (group_outcome c ts)
+module _ (base : Vocabulary) (c : Setting) (h : IsTypedSetting base c) where
+  pub group_valid : (ts : List AlgebraicType) → types_fault (group.inside_types c ts) ts ≡ None → NamesNew base (length c.symbols) (c.symbols ++ (group_outcome c ts).symbols) → IsValidOutcome base c (group_outcome c ts)
   group_valid ts q all_news =
       let seen = group_seen ts in
       let tuples = tuples_wanting c seen in
@@ -128,9 +126,9 @@ module _ (base : Vocabulary) (c : Setting) (h : IsTypedSetting base c) (s : List
       let whole_types : front ++ (T ++ []) ≡ S = ap (λ (es : List SymbolTree). front ++ es) nil ∙ assoc in
       let at_types : EntriesAt base S i T = subst (λ (all : List SymbolTree). EntriesAt base all i T) whole_types
       (entries_at base m T front [] i refl past (subst (λ (all : List SymbolTree). NamesNew base m all) (sym whole_types) (news_front base m S G news_all))) in
-      let scopes : AreTypedScopes v c.trees c.scope = scopes_extended base c.trees c.trees (Grows_refl c.trees) c.symbols (tuples ++ T) c.scope h.scopes in
-      let on : TypesOn c.theory c.within h.theory base h.source S sig c.trees (group_names c ts) = types_on c.theory c.within h.theory base h.source S sig c.trees ts i n c.scope at_types (types_alone v c.trees c.scope scopes) in
-      let meant = types_meant base S sig c.trees (group_names c ts) on in
+      let scopes : AreTypedScopes v c.scope = scopes_extended base c.symbols (tuples ++ T) c.scope h.scopes in
+      let on : TypesOn c.theory c.within h.theory base h.source S sig (group_names c ts) = types_on c.theory c.within h.theory base h.source S sig ts i n c.scope at_types (types_alone v c.scope scopes) in
+      let meant = types_meant base S sig (group_names c ts) on in
       let widths : (k : ℕ) → has_width k seen.widths ≡ true → HasTuple base w k = λ k z. tuple_of base S sig k (subst (λ (es : List SymbolTree). has_tuple k 0 es ≡ true) assoc (tuple_front k 0 front T (tuples_there c.symbols seen.widths k z))) in
       let whole_is : front ++ (T ++ G) ≡ A = sym (append_assoc front T G) ∙ ap (λ (es : List SymbolTree). es ++ G) assoc in
       let types_here : EntriesAt base A i T = subst (λ (all : List SymbolTree). EntriesAt base all i T) whole_is
@@ -144,8 +142,8 @@ module _ (base : Vocabulary) (c : Setting) (h : IsTypedSetting base c) (s : List
       let whole_last : S ++ (G ++ []) ≡ A = ap (λ (es : List SymbolTree). S ++ es) last in
       let cons_here : EntriesAt base A n G = subst (λ (all : List SymbolTree). EntriesAt base all n G) whole_last
       (entries_at base m G S [] n count (omega (arith, count, past_types)) (subst (λ (all : List SymbolTree). NamesNew base m all) (sym whole_last) news_all)) in
-      let old : AreTypedScopes u s c.scope = subst (λ (es : List SymbolTree). AreTypedScopes (with_entries base es) s c.scope) (sym split) (scopes_extended base c.trees s g c.symbols (tuples ++ (T ++ G)) c.scope h.scopes) in
-      let new : AreTypedScopes u s (group_names c ts) = types_scoped c.theory c.within h.theory base h.source A whole s w ts i n c.scope types_here cons_here old in
+      let old : AreTypedScopes u c.scope = scopes_extended base S G c.scope scopes in
+      let new : AreTypedScopes u (group_names c ts) = types_scoped c.theory c.within h.theory base h.source A whole w ts i n c.scope types_here cons_here old in
       let valid : All (IsAlgebraic u) (group_trees c ts) = groups_valid c.theory c.within h.theory base h.source A whole w ts i n types_here cons_here in
       let decls : All (IsValidDecl u) (group_outcome c ts).decls = All-cons (IsValidDecl u) _ [] valid (All-nil (IsValidDecl u)) in
-      record { signature = subst (IsTypedSignature base) split whole; scopes = subst (λ (es : List SymbolTree). AreTypedScopes (with_entries base es) s (group_names c ts)) split new; decls = subst (λ (es : List SymbolTree). All (IsValidDecl (with_entries base es)) (group_outcome c ts).decls) split decls }
+      record { signature = subst (IsTypedSignature base) split whole; scopes = subst (λ (es : List SymbolTree). AreTypedScopes (with_entries base es) (group_names c ts)) split new; decls = subst (λ (es : List SymbolTree). All (IsValidDecl (with_entries base es)) (group_outcome c ts).decls) split decls }

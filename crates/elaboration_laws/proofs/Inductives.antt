@@ -3,19 +3,18 @@ use Rattle.std.proofs.Common.{◌≡◌, ℕ, ◌+◌, suc, true, false, List, [
 use Rattle.std.specs.List.{AllByRecursion}
 use Rattle.std.proofs.lemmas.List.Elements.{All-nil, All-cons, recursion_from_All}
 use Rattle.elab_groups.specs.trees.Tree.{Tree}
-use Rattle.elab_groups.specs.trees.Node.{Grows}
 use Rattle.elab_groups.specs.trees.Facts.{IndicesFit}
-use Rattle.elab_groups.proofs.trees.Nodes.{Grows_refl}
 use Rattle.elab_groups.specs.tasks.Clauses.{IsClauseOf}
 use Rattle.elab_groups.specs.tasks.Equations.{cells, type_variables}
 use Rattle.elab_groups.specs.tasks.Task.{SymbolTree, symbol_or, InductiveTree, Induces, DeclarationTree}
 use Rattle.elab_groups.specs.tasks.Vocabulary.{Vocabulary, is_empty}
 use Rattle.elab_groups.specs.tasks.Valid.{IsTypeIn, IsFormulaOver, IsInductive, IsValidDecl}
-use Rattle.elab_groups.specs.scopes.Names.{ScopeNames, with_name}
+use Rattle.elab_groups.specs.scopes.Names.{with_name}
 use Rattle.elab_groups.specs.scopes.declared.Table.TheVariants.{Symbols, Propositions}
 use Rattle.elab_groups.specs.scopes.declared.Referent.TheVariants as stands
 use Rattle.elab_groups.specs.surface.Lexeme.{Word}
 use Rattle.elab_groups.specs.name_resolution.Naming.{type_named}
+use Rattle.elab_groups.specs.name_resolution.Where.{NamesTree}
 use Rattle.elab_groups.specs.name_resolution.variables.Seen.{SeenTree, seen}
 use Rattle.elab_groups.specs.parts.Declarations.{TokenName, InductiveClause, InductivePredicate, GroupMember, params_seen, signature_variables}
 use Rattle.elab_groups.specs.parts.Elaborated.{unseen}
@@ -111,20 +110,20 @@ module _ (theory within : Word) (named : is_empty theory ≡ false) (base : Voca
   v' = with_entries base all
 
   -- their names, and those of their clauses
-  clauses_scoped : (s : List Tree) (n : ℕ) (cs : List InductiveClause) (names : ScopeNames) → AreTypedScopes v' s names → AreTypedScopes v' s (with_clauses n cs names)
-  clauses_scoped s n [] names x = x
-  clauses_scoped s n (c ∷ cs) names x = clauses_scoped s n cs (with_name Propositions c.called.name (stands.Entry n) true names) (scopes_more (IsTypedThing v' s) names Propositions c.called.name (stands.Entry n) true tt x)
+  clauses_scoped : (n : ℕ) (cs : List InductiveClause) (names : NamesTree) → AreTypedScopes v' names → AreTypedScopes v' (with_clauses n cs names)
+  clauses_scoped n [] names x = x
+  clauses_scoped n (c ∷ cs) names x = clauses_scoped n cs (with_name Propositions c.called.name (stands.Entry n) true names) (scopes_more (IsTypedThing v') names Propositions c.called.name (stands.Entry n) true tt x)
 
-  predicates_scoped : (s : List Tree) (n : ℕ) (ds : List InductivePredicate) (gs : List SignatureTree) (k : ℕ) (names : ScopeNames) → length gs ≡ length ds → EntriesAt base all k (signed_entries theory within (as_members ds) gs) → AreTypedScopes v' s names
-      → AreTypedScopes v' s (with_inductives n k ds names)
-  predicates_scoped s n [] gs k names l h x = x
-  predicates_scoped s n (d ∷ ds) [] k names l h x = absurd (cc)
-  predicates_scoped s n (d ∷ ds) (g ∷ gs) k names l h x =
+  predicates_scoped : (n : ℕ) (ds : List InductivePredicate) (gs : List SignatureTree) (k : ℕ) (names : NamesTree) → length gs ≡ length ds → EntriesAt base all k (signed_entries theory within (as_members ds) gs) → AreTypedScopes v' names
+      → AreTypedScopes v' (with_inductives n k ds names)
+  predicates_scoped n [] gs k names l h x = x
+  predicates_scoped n (d ∷ ds) [] k names l h x = absurd (cc)
+  predicates_scoped n (d ∷ ds) (g ∷ gs) k names l h x =
       let rest = signed_entries theory within (as_members ds) gs in
       let next : EntriesAt base all (suc k) rest = subst (λ (i : ℕ). EntriesAt base all i rest) (let q : k + 1 ≡ suc k = omega arith in q) h.1 in
       let own = with_name Symbols d.called.name (stands.Entry k) true names in
-      predicates_scoped s n ds gs (suc k) (with_clauses n d.clauses own) (omega (arith, l)) next
-      (clauses_scoped s n d.clauses own (scopes_more (IsTypedThing v' s) names Symbols d.called.name (stands.Entry k) true (number_of_member theory within named base all typed (as_member d) g k h.0) x))
+      predicates_scoped n ds gs (suc k) (with_clauses n d.clauses own) (omega (arith, l)) next
+      (clauses_scoped n d.clauses own (scopes_more (IsTypedThing v') names Symbols d.called.name (stands.Entry k) true (number_of_member theory within named base all typed (as_member d) g k h.0) x))
 
   -- the predicates of a group, whose clauses pass the checks
   predicates_valid : (group : List ℕ) (ds : List InductivePredicate) (gs : List SignatureTree) (bs : List Tree) (k : ℕ) → length gs ≡ length ds → EntriesAt base all k (signed_entries theory within (as_members ds) gs) → AreBodied v' (clause_signatures ds) bs
@@ -159,14 +158,14 @@ count_members [] = refl
 count_members (d ∷ ds) = ap suc (count_members ds)
 
 -- ---- a group where it is
-module _ (base : Vocabulary) (c : Setting) (h : IsTypedSetting base c) (s : List Tree) (g : Grows c.trees s) (ds : List InductivePredicate) (q : inductives_used c ds ≡ None) where
+module _ (base : Vocabulary) (c : Setting) (h : IsTypedSetting base c) (ds : List InductivePredicate) (q : inductives_used c ds ≡ None) where
   abbrev all_seen : SeenTree
   all_seen = inductives_seen unseen ds
 
   abbrev ms : List GroupMember
   ms = as_members ds
 
-  abbrev names' : ScopeNames
+  abbrev names' : NamesTree
   names' = with_inductives c.decl (length (inside base c h all_seen)) ds c.scope
 
   same_types : (qs : List Word) (x : Word) → type_named names' qs x ≡ type_named c.scope qs x
@@ -194,8 +193,8 @@ module _ (base : Vocabulary) (c : Setting) (h : IsTypedSetting base c) (s : List
     here : EntriesAt base A (length (inside base c h all_seen)) (own_entries base c h ms all_seen names' same_types)
     here = entries_here base c h ms all_seen names' same_types news sees right
 
-    scopes : (t : List Tree) → Grows c.trees t → AreTypedScopes (with_entries base A) t names'
-    scopes t r = predicates_scoped c.theory c.within h.theory base A typed t c.decl ds gs (length (inside base c h all_seen)) c.scope count here (old_scopes base c h ms all_seen names' same_types news sees right t r)
+    scopes : AreTypedScopes (with_entries base A) names'
+    scopes = predicates_scoped c.theory c.within h.theory base A typed c.decl ds gs (length (inside base c h all_seen)) c.scope count here (old_scopes base c h ms all_seen names' same_types news sees right)
 
     decls_valid : (ks : List InductivePredicate) (hs : List SignatureTree) (bs : List Tree) (k : ℕ) → length hs ≡ length ks → EntriesAt base A k (signed_entries c.theory c.within (as_members ks) hs) → AreBodied (with_entries base A) (clause_signatures ks) bs
         → DeclsFit (inductive_decls c.theory c.within ks k bs) → HaveNoFault A (inductive_decls c.theory c.within ks k bs) → All (IsValidDecl (with_entries base A)) (inductive_decls c.theory c.within ks k bs)
@@ -216,14 +215,14 @@ module _ (base : Vocabulary) (c : Setting) (h : IsTypedSetting base c) (s : List
     news : NamesNew base (length c.symbols) A
     news = subst (λ (es : List SymbolTree). NamesNew base (length c.symbols) es) split all_news
 
-    pub inductives_valid : DeclsFit o.decls → HaveNoFault (c.symbols ++ o.symbols) o.decls → IsValidOutcome base c s o
+    pub inductives_valid : DeclsFit o.decls → HaveNoFault (c.symbols ++ o.symbols) o.decls → IsValidOutcome base c o
     inductives_valid fits passes =
         let v = with_entries base A in
         let w = inner base c h ms all_seen names' same_types [] in
         let bodied : AreBodied v (clause_signatures ds) it.clauses =
-        bodies_valid base c.trees A (typed news) names' (scopes news c.trees (Grows_refl c.trees)) all_seen (seen_tuples base c h ms all_seen names' same_types news sees right) (formula_members ds) (clause_signatures ds) it.clauses o.matches (formulas_defined ds) (formulas_signed v ds) (formulas_resolved w ds q)
+        bodies_valid base A (typed news) names' (scopes news) all_seen (seen_tuples base c h ms all_seen names' same_types news sees right) (formula_members ds) (clause_signatures ds) it.clauses o.matches (formulas_defined ds) (formulas_signed v ds) (formulas_resolved w ds q)
         (formulas_seen all_seen ds unseen (λ n z. z)) it.solved in
-        let scopes' : AreTypedScopes v s o.scope = rw it.scope (scopes news s g) in
+        let scopes' : AreTypedScopes v o.scope = rw it.scope (scopes news) in
         let passes' : HaveNoFault A o.decls = subst (λ (es : List SymbolTree). HaveNoFault es o.decls) split passes in
         let decls : All (IsValidDecl v) o.decls = rw it.decls (decls_valid news ds gs it.clauses (length (inside base c h all_seen)) count (here news) bodied (rw it.decls at fits) (rw it.decls at passes')) in
         let z = split in
@@ -235,5 +234,5 @@ module _ (base : Vocabulary) (c : Setting) (h : IsTypedSetting base c) (s : List
         let v = with_entries base A in
         let w = inner base c h ms all_seen names' same_types [] in
         let z = split in
-        rw z (bodies_patterns base c.trees A (typed news) names' (scopes news c.trees (Grows_refl c.trees)) all_seen (seen_tuples base c h ms all_seen names' same_types news sees right) (formula_members ds) (clause_signatures ds) it.clauses o.matches (formulas_signed v ds) (formulas_resolved w ds q)
+        rw z (bodies_patterns base A (typed news) names' (scopes news) all_seen (seen_tuples base c h ms all_seen names' same_types news sees right) (formula_members ds) (clause_signatures ds) it.clauses o.matches (formulas_signed v ds) (formulas_resolved w ds q)
         (formulas_seen all_seen ds unseen (λ n z. z)) it.solved)

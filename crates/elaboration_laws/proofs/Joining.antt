@@ -1,14 +1,14 @@
 -- A declaration of another theory is in a clone as it is among those of other theories alone.
-use Rattle.std.proofs.Common.{◌≡◌, ◌⊎◌, inl, inr, ℕ, ◌&&◌, zero, suc, cond, Bool, true, false, List, [], ◌∷◌, ◌++◌, get_or, slice_get, Contains, Option, Some, None, IsSomeAnd, IsTrue, refl, sym, ap, subst, ◌∙◌, arith, append-nil}
+use Rattle.std.proofs.Common.{◌≡◌, ◌⊎◌, inl, inr, ℕ, ◌&&◌, zero, suc, true, false, List, [], ◌∷◌, ◌++◌, get_or, slice_get, Contains, Option, Some, None, IsSomeAnd, IsTrue, refl, sym, ap, subst, ◌∙◌, arith, append-nil}
 use Rattle.std.specs.Option.{is_some}
-use Rattle.std.proofs.lemmas.List.Elements.{All-contains, All-contains_itself, Contains-get_or, Contains-append_left, Contains-append_right, Contains-append_cases}
+use Rattle.std.proofs.lemmas.List.Elements.{All-contains, Contains-get_or, Contains-append_left, Contains-append_right, Contains-append_cases}
 use Rattle.elab_groups.specs.tasks.declared.signature.SymbolKind.TheVariants.{Kind, Constructor}
 use Rattle.elab_groups.specs.tasks.Task.{SymbolTree, symbol_or, int_symbol, DeclarationTree, made, made_by}
-use Rattle.elab_groups.specs.tasks.Roles.{is_constructor, is_made_by, maker, role_in, role_by}
+use Rattle.elab_groups.specs.tasks.Roles.{is_constructor, maker, role_in, role_by}
 use Rattle.elab_groups.specs.tasks.Vocabulary.{Vocabulary, passes, is_constructor_kind}
 use Rattle.elab_groups.specs.tasks.Typing.{IsTypeSymbol}
 use Rattle.elab_groups.specs.tasks.Valid.{IsValidDecl}
-use Rattle.elab_groups.proofs.tasks.Declared.{none_in, any_iff, made_maker}
+use Rattle.elab_groups.proofs.tasks.Declared.{made_maker}
 use Rattle.clones.specs.Mapped.{Map}
 use Rattle.elaboration_laws.specs.Scopes.{IsSubvocabulary}
 use Rattle.elaboration_laws.specs.Lists.{is_built, after}
@@ -18,13 +18,12 @@ use Rattle.elaboration_laws.specs.Tasks.{IsOwnSymbol, IsOfTheory, AreSound}
 use Rattle.elaboration_laws.proofs.Distinct.{IsDistinct, pairs_distinct, distinct_both}
 use Rattle.elaboration_laws.proofs.TupleDecls.{made_both}
 use Rattle.elaboration_laws.proofs.Grown.{more_part, sound_more}
-use Rattle.elaboration_laws.proofs.TaskSound.{each_made, maker_all}
 use Rattle.elaboration_laws.specs.Cloning.{IsImage, IsCloning, IsFixed, KeepsBuilt}
 use Rattle.elaboration_laws.proofs.Vocabularies.{usable_cases, made_below, typed_list}
 use Rattle.elaboration_laws.proofs.Copied.{distinct_middle}
 use Rattle.elaboration_laws.proofs.Taken.{cloning_left, cloning_taken}
 use Rattle.elaboration_laws.proofs.Others.{stays_type, stays_symbol, stays_pattern}
-use Rattle.elaboration_laws.proofs.Joined.{distinct_apart as apart_from, distinct_last as distinct_rest, into_made, maker_found, maker_is}
+use Rattle.elaboration_laws.proofs.Joined.{into_made, maker_found, maker_is}
 use Rattle.std.proofs.lemmas.Option.{slice_get-get_or as some_at}
 use Rattle.elaboration_laws.proofs.Names.{or_right as right_of}
 

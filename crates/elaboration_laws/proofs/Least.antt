@@ -13,7 +13,8 @@ use Rattle.elab_groups.specs.name_resolution.Abstract.{TypeExpression, TypeExpre
 use Rattle.elab_groups.specs.name_resolution.declared.NamingFault.{NamingFault}
 use Rattle.elab_groups.specs.name_resolution.declared.NamingFault.TheVariants.{Unknown, Duplicate, WrongKind, Arity}
 use Rattle.elab_groups.specs.name_resolution.Faults.{first_of, fault_if, meaning_fault, form_fault, forms_fault, type_fault, differ, is_predicate, is_variable, symbol_fault, local_fault, name_fault, binders_fault, bound_names, pattern_names, pattern_fault, patterns_fault, constructor_fault, same_names, later_fault, alternatives_fault, alternatives_names, has_alternative, is_formula_trigger, fault, faults, triggers_fault, branches_fault}
-use Rattle.elab_groups.specs.name_resolution.Where.{Where, MeaningTree, Stands, Abbreviates, place_of}
+use Rattle.elab_groups.specs.name_resolution.Where.{Where, MeaningTree, place_of}
+use Rattle.elab_groups.specs.scopes.declared.Referent.TheVariants as stands
 use Rattle.elaboration_laws.specs.Checked.{token_of_fault, IsLeastFailing, FormFails, FormsFail, TypeFails, BindersFail, PatternFails, PatternsFail, LaterFail, AlternativesFail, NamesFail, AllNamesFail, TriggersFail, BranchesFail}
 
 -- ---- tokens
@@ -110,8 +111,8 @@ if_token i false f e g q = absurd (cc (q))
 
 meaning_token : (w : Where) (i n : ℕ) (m : Option MeaningTree) (g : NamingFault) → meaning_fault w i n m ≡ Some g → token_of_fault g ≡ i
 meaning_token w i n None g q = ap token_of_fault (sym (same_fault (Unknown i) g q))
-meaning_token w i n (Some (Stands k)) g q = if_token i (not ((symbol_or w.symbols k).vars == n)) (Arity i) refl g q
-meaning_token w i n (Some (Abbreviates vars t)) g q = if_token i (not (vars == n)) (Arity i) refl g q
+meaning_token w i n (Some (stands.Entry k)) g q = if_token i (not ((symbol_or w.symbols k).vars == n)) (Arity i) refl g q
+meaning_token w i n (Some (stands.Alias vars t)) g q = if_token i (not (vars == n)) (Arity i) refl g q
 
 name_token : (w : Where) (ls : List Word) (due : Bool) (i : ℕ) (qs : List Word) (x : Word) (n : ℕ) (g : NamingFault) → name_fault w ls due i qs x n ≡ Some g → token_of_fault g ≡ i
 name_token w ls due i qs x n g q = of (is_variable qs x ls) (w.names qs x) q

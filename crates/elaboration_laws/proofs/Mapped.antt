@@ -80,15 +80,15 @@ module _ (c : Setting) (t : Origin) where
   abbrev places : Word → Option ℕ
   places = λ x. last_place c.symbols t x None t.own
 
-  side_other : (symbols : List SymbolTree) (e : Element) → All (IsOtherSide c.symbols t) (sides_made places c.trees symbols c.scope (e ∷ []))
+  side_other : (symbols : List SymbolTree) (e : Element) → All (IsOtherSide c.symbols t) (sides_made places symbols c.scope (e ∷ []))
   side_other symbols (type_element i d vs f) = All-cons (IsOtherSide c.symbols t) _ [] tt (All-nil (IsOtherSide c.symbols t))
   side_other symbols (symbol_element i w d e) = All-cons (IsOtherSide c.symbols t) _ [] (named_other c.symbols w (called_text d) t) (All-nil (IsOtherSide c.symbols t))
   side_other symbols (prop_element i k d) = All-cons (IsOtherSide c.symbols t) _ [] tt (All-nil (IsOtherSide c.symbols t))
   side_other symbols (all_axioms i) = All-cons (IsOtherSide c.symbols t) _ [] tt (All-nil (IsOtherSide c.symbols t))
 
-  sides_other : (es : List Element) (symbols : List SymbolTree) → All (IsOtherSide c.symbols t) (sides_made places c.trees symbols c.scope es)
+  sides_other : (es : List Element) (symbols : List SymbolTree) → All (IsOtherSide c.symbols t) (sides_made places symbols c.scope es)
   sides_other [] symbols = All-nil (IsOtherSide c.symbols t)
-  sides_other (e ∷ es) symbols = All-cons (IsOtherSide c.symbols t) _ (sides_made places c.trees (symbols ++ right_tuples symbols e) c.scope es) (All-head (IsOtherSide c.symbols t) _ [] (side_other symbols e)) (sides_other es (symbols ++ right_tuples symbols e))
+  sides_other (e ∷ es) symbols = All-cons (IsOtherSide c.symbols t) _ (sides_made places (symbols ++ right_tuples symbols e) c.scope es) (All-head (IsOtherSide c.symbols t) _ [] (side_other symbols e)) (sides_other es (symbols ++ right_tuples symbols e))
 
 module _ (symbols : List SymbolTree) (t : Origin) where
   pair_other : (left : Option ℕ) (r : RightTree) (p : ℕ × ℕ) → ReplacesOther symbols t left r → Contains (symbol_for t left r) p → IsOther (symbol_or symbols p.0)
@@ -151,7 +151,7 @@ module _ (symbols : List SymbolTree) (t : Origin) where
       of (inr z) f = f z
 
 -- ---- the map
-module _ (c : Setting) (t : Origin) (es : List Element) (theory within : Word) (typed : IsTypedSetting (of_signature c.symbols) c) (right : rights_fault c.trees c.symbols c.scope es ≡ None) (named : is_empty theory ≡ false) where
+module _ (c : Setting) (t : Origin) (es : List Element) (theory within : Word) (typed : IsTypedSetting (of_signature c.symbols) c) (right : rights_fault c.symbols c.scope es ≡ None) (named : is_empty theory ≡ false) where
   abbrev all : List SymbolTree
   all = (with_rights c es).symbols
 

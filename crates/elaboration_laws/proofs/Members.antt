@@ -1,27 +1,28 @@
 -- A group of functions and predicates is valid, with or without definitions.
-use Rattle.std.proofs.Common.{◌≡◌, ℕ, ◌+◌, suc, true, false, List, [], ◌∷◌, ◌++◌, reverse, length, All, Option, Some, None, refl, sym, ap, subst, ◌∙◌, arith, append_assoc}
+use Rattle.std.proofs.Common.{◌≡◌, ℕ, ◌+◌, suc, true, false, List, [], ◌∷◌, ◌++◌, map, reverse, length, All, Option, Some, None, refl, sym, ap, subst, ◌∙◌, arith, append_assoc, length-append}
 use Rattle.std.specs.Option.{is_some, is_none}
 use Rattle.std.proofs.lemmas.List.Elements.{All-nil, All-cons}
 use Rattle.elab_groups.specs.trees.Tree.{Tree}
-use Rattle.elab_groups.specs.trees.Node.{Grows}
 use Rattle.elab_groups.specs.trees.Facts.{IndicesFit}
-use Rattle.elab_groups.proofs.trees.Nodes.{Grows_refl}
 use Rattle.elab_groups.specs.tasks.Equations.{cells, type_variables, bound_variables, for_all, equated}
 use Rattle.elab_groups.specs.tasks.Task.{SymbolTree, symbol_or, DefinitionTree, DeclarationTree}
 use Rattle.elab_groups.specs.tasks.Vocabulary.{Vocabulary, is_empty}
 use Rattle.elab_groups.specs.tasks.Valid.{IsDefinition, IsValidBody, IsValidDecl}
-use Rattle.elab_groups.specs.scopes.Names.{ScopeNames}
 use Rattle.elab_groups.specs.surface.Lexeme.{Word}
 use Rattle.elab_groups.specs.name_resolution.Abstract.{TypeExpression, Expression}
+use Rattle.elab_groups.specs.name_resolution.Faults.{first_of, type_fault}
 use Rattle.elab_groups.specs.name_resolution.Naming.{type_named}
+use Rattle.elab_groups.specs.name_resolution.Where.{Where, NamesTree}
 use Rattle.elab_groups.specs.name_resolution.variables.Seen.{SeenTree, type_seen}
+use Rattle.elab_groups.specs.open_types.Pieces.{type_at}
+use Rattle.elab_groups.proofs.open_types.Walking.{none_both}
 use Rattle.elab_groups.specs.parts.Elaborated.{unseen}
-use Rattle.elab_groups.specs.parts.Declarations.{GroupMember, params_seen}
+use Rattle.elab_groups.specs.parts.Declarations.{TokenName, Parameter, GroupMember, own_variables, with_vars, params_seen, params_fault}
 use Rattle.elab_groups.specs.parts.Outcomes.{Setting, Outcome}
-use Rattle.elab_declarations.specs.elab_groups.members.Members.{SignatureTree, signed_entries, with_members, symbol_kind_of, body_seen, members_seen}
+use Rattle.elab_declarations.specs.elab_groups.members.Members.{SignatureTree, signature_of, signed_entries, with_members, symbol_kind_of, type_copies, parameter_types, parameter_words, words_of_parameters, body_seen, members_seen, body_fault, member_fault, members_fault}
 use Rattle.elab_declarations.specs.elab_groups.members.Sources.{AreResolved}
 use Rattle.elab_declarations.proofs.elab_groups.members.MembersNamed.{members_types}
-use Rattle.elab_declarations.proofs.elab_groups.members.MembersScoped.{members_resolved}
+use Rattle.elab_declarations.proofs.elab_groups.members.MembersScoped.{same_kind}
 use Rattle.elab_declarations.specs.elab_groups.Bodies.{AreDefined, AllHaveBodies}
 use Rattle.elab_declarations.specs.elab_groups.Groups.{inner_equation, definitions, group_body, group_decls, group_tuples, group_signatures, group_used, IsGroup}
 use Rattle.elaboration_laws.specs.Typed.{IsTypedIn, ArePatterns}
@@ -29,11 +30,33 @@ use Rattle.elaboration_laws.specs.Signature.{with_entries}
 use Rattle.elaboration_laws.specs.Scopes.{NamesNew, IsTypedSignature, AreTypedScopes}
 use Rattle.elaboration_laws.proofs.Widths.{IsWithin}
 use Rattle.elaboration_laws.specs.Valid.{IsTypedSetting, BodyFits, IsValidOutcome}
-use Rattle.elaboration_laws.proofs.Settings.{inside, inside_typed, inside_scopes, formed, scopes_of, over_scoped}
+use Rattle.elaboration_laws.proofs.Settings.{inside}
 use Rattle.elaboration_laws.proofs.Algebraics.{EntriesAt, got}
 use Rattle.elaboration_laws.proofs.Definitions.{definition_valid}
-use Rattle.elaboration_laws.proofs.Standing.{entry_of, number_of_member, signature_at, members_scoped, AreSeen, whole, own_entries, outer, inner, whole_signed, whole_typed, front_news, entries_here, old_scopes, seen_tuples, count_signed, some_entry}
+use Rattle.elaboration_laws.proofs.Standing.{entry_of, number_of_member, signature_at, members_scoped, AreSeen, whole, own_entries, outer, inner, whole_signed, whole_typed, entries_here, old_scopes, seen_tuples, count_signed}
 use Rattle.elaboration_laws.proofs.Bodies.{body_grows, members_grow, AreSigned, AreBodied, bodies_seen, bodies_valid, bodies_patterns}
+
+-- ---- members whose names are there: a type for each parameter, and a body without a fault
+copies_count : (t : Tree) (cs : List TokenName) → length (type_copies t cs) ≡ length (parameter_words cs)
+copies_count t [] = refl
+copies_count t (c ∷ []) = refl
+copies_count t (c ∷ d ∷ cs) = ap suc (copies_count t (d ∷ cs))
+
+types_count : (w : Where) (ps : List Parameter) → length (parameter_types w ps) ≡ length (words_of_parameters ps)
+types_count w [] = refl
+types_count w (p ∷ ps) =
+    let a = length-append (type_copies (type_at w p.of_type) p.names) (parameter_types w ps) in
+    let b = length-append (parameter_words p.names) (words_of_parameters ps) in
+    omega (arith, a, b, copies_count (type_at w p.of_type) p.names, types_count w ps)
+
+members_resolved : (v w : Where) (ms : List GroupMember) → members_fault w ms ≡ None → AreResolved w ms (map (signature_of v) ms)
+members_resolved v w [] h = tt
+members_resolved v w (m ∷ ms) h =
+    let own = own_variables m in
+    let p = none_both (member_fault w m) (members_fault w ms) h in
+    let q = none_both (params_fault w m.params) (first_of (type_fault w true m.result) (body_fault w m own m.body)) p.0 in
+    let r = none_both (type_fault w true m.result) (body_fault w m own m.body) q.1 in
+    (record { right = r.1; count = types_count (with_vars v own) m.params; kind = same_kind (with_vars v own) m.result }, members_resolved v w ms p.1)
 
 -- ---- equations of definitions
 body_inside : (ts : List Tree) (e : Tree) → IndicesFit (for_all ts e) → IndicesFit e
@@ -82,7 +105,7 @@ module _ (theory within : Word) (named : is_empty theory ≡ false) (base : Voca
 defined_of : (m : GroupMember) (ks : List GroupMember) (e : Expression) → m.body ≡ Some e → AllHaveBodies (m ∷ ks) → (is_some m.body ≡ true) × AreDefined ks
 defined_of m ks e q w = let p = ap is_some q in (p, w p)
 
-module _ (base : Vocabulary) (c : Setting) (h : IsTypedSetting base c) (s : List Tree) (g : Grows c.trees s) where
+module _ (base : Vocabulary) (c : Setting) (h : IsTypedSetting base c) where
   module _ (all : List SymbolTree) (typed : IsTypedSignature base all) where
     body_valid : (m : GroupMember) (ms : List GroupMember) (x : SignatureTree) (hs : List SignatureTree) (bs : List Tree) (k : ℕ) (o : Option Expression) → m.body ≡ o → length (x ∷ hs) ≡ length (m ∷ ms) → AreSigned (with_entries base all) (m ∷ ms) (x ∷ hs)
         → EntriesAt base all k (signed_entries c.theory c.within (m ∷ ms) (x ∷ hs)) → AllHaveBodies (m ∷ ms) → (AreDefined (m ∷ ms) → AreBodied (with_entries base all) (x ∷ hs) bs) → BodyFits (group_body o k (x ∷ hs) bs)
@@ -103,7 +126,7 @@ module _ (base : Vocabulary) (c : Setting) (h : IsTypedSetting base c) (s : List
     abbrev all_seen : SeenTree
     all_seen = members_seen unseen ms
 
-    abbrev names' : ScopeNames
+    abbrev names' : NamesTree
     names' = with_members (length (inside base c h all_seen)) ms c.scope
 
     same_types : (qs : List Word) (x : Word) → type_named names' qs x ≡ type_named c.scope qs x
@@ -129,9 +152,9 @@ module _ (base : Vocabulary) (c : Setting) (h : IsTypedSetting base c) (s : List
       here : EntriesAt base A (length (inside base c h all_seen)) (own_entries base c h ms all_seen names' same_types)
       here = entries_here base c h ms all_seen names' same_types news sees q
 
-      scopes : (t : List Tree) → Grows c.trees t → AreTypedScopes (with_entries base A) t names'
-      scopes t r = members_scoped c.theory c.within h.theory base A typed t ms (group_signatures c ms) (length (inside base c h all_seen)) c.scope (count_signed (outer base c h ms all_seen names' same_types []) ms) here
-          (old_scopes base c h ms all_seen names' same_types news sees q t r)
+      scopes : AreTypedScopes (with_entries base A) names'
+      scopes = members_scoped c.theory c.within h.theory base A typed ms (group_signatures c ms) (length (inside base c h all_seen)) c.scope (count_signed (outer base c h ms all_seen names' same_types []) ms) here
+          (old_scopes base c h ms all_seen names' same_types news sees q)
 
     module _ (o : Outcome) (it : IsGroup c ms o) (all_news : NamesNew base (length c.symbols) (c.symbols ++ o.symbols)) where
       split : c.symbols ++ o.symbols ≡ A
@@ -144,22 +167,16 @@ module _ (base : Vocabulary) (c : Setting) (h : IsTypedSetting base c) (s : List
       signed = whole_signed base c h ms all_seen names' same_types news sees q
 
       resolved : AreResolved (inner base c h ms all_seen names' same_types []) ms (group_signatures c ms)
-      resolved =
-          let before = inside base c h all_seen in
-          let first : NamesNew base (length c.symbols) before = front_news base c h ms all_seen names' same_types news in
-          let old = inside_scopes base c h all_seen in
-          let old_typed = inside_typed base c h all_seen first in
-          members_resolved c.trees before (own_entries base c h ms all_seen names' same_types) c.scope names' (scopes_of base before c.trees c.scope old) (some_entry before old_typed.int)
-          same_types (λ vars. over_scoped base c.trees before c.scope vars old_typed (formed base c h all_seen first vars)) ms q
+      resolved = members_resolved (outer base c h ms all_seen names' same_types []) (inner base c h ms all_seen names' same_types []) ms q
 
-      pub members_valid : AllHaveBodies ms → All (λ (d : DeclarationTree). BodyFits d.body) o.decls → IsValidOutcome base c s o
+      pub members_valid : AllHaveBodies ms → All (λ (d : DeclarationTree). BodyFits d.body) o.decls → IsValidOutcome base c o
       members_valid w fits =
           let gs = group_signatures c ms in
           let v = with_entries base A in
           let k = length (inside base c h all_seen) in
           let bodied : AreDefined ms → AreBodied v gs it.bodies =
-          λ d. bodies_valid base c.trees A (typed news) names' (scopes news c.trees (Grows_refl c.trees)) all_seen (seen_tuples base c h ms all_seen names' same_types news sees q) ms gs it.bodies o.matches d signed resolved (bodies_seen all_seen ms unseen (λ n z. z)) it.solved in
-          let scopes' : AreTypedScopes v s o.scope = rw it.scope (scopes news s g) in
+          λ d. bodies_valid base A (typed news) names' (scopes news) all_seen (seen_tuples base c h ms all_seen names' same_types news sees q) ms gs it.bodies o.matches d signed resolved (bodies_seen all_seen ms unseen (λ n z. z)) it.solved in
+          let scopes' : AreTypedScopes v o.scope = rw it.scope (scopes news) in
           let decls : All (IsValidDecl v) o.decls = rw it.decls (decls_valid A (typed news) ms gs it.bodies k (count_signed (outer base c h ms all_seen names' same_types []) ms) signed (here news) w bodied (rw it.decls at fits)) in
           let z = split in
           record { signature = rw z (typed news); scopes = rw z scopes'; decls = rw z decls }
@@ -168,5 +185,5 @@ module _ (base : Vocabulary) (c : Setting) (h : IsTypedSetting base c) (s : List
       pub members_patterns : All (λ (m : ℕ × List Tree). ArePatterns (with_entries base (c.symbols ++ o.symbols)) m.1) o.matches
       members_patterns =
           let z = split in
-          rw z (bodies_patterns base c.trees A (typed news) names' (scopes news c.trees (Grows_refl c.trees)) all_seen (seen_tuples base c h ms all_seen names' same_types news sees q) ms (group_signatures c ms) it.bodies o.matches signed resolved
+          rw z (bodies_patterns base A (typed news) names' (scopes news) all_seen (seen_tuples base c h ms all_seen names' same_types news sees q) ms (group_signatures c ms) it.bodies o.matches signed resolved
           (bodies_seen all_seen ms unseen (λ n z. z)) it.solved)

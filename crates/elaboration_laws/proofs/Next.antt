@@ -4,7 +4,7 @@ use Rattle.std.specs.List.{Contains}
 use Rattle.std.proofs.lemmas.List.Elements.{All-append, All-contains, Contains-get_or}
 use Rattle.elab_groups.specs.trees.Tree.{Tree}
 use Rattle.elab_groups.specs.trees.Sorts.{WellSorted}
-use Rattle.elab_groups.specs.trees.Node.{tree_at, Grows, Holds}
+use Rattle.elab_groups.specs.trees.Node.{tree_at, Holds}
 use Rattle.elab_groups.specs.trees.declared.TermId.{TermId}
 use Rattle.elab_groups.specs.tasks.Task.{SymbolTree, symbol_or, DeclarationTree, made, made_by}
 use Rattle.elab_groups.specs.tasks.Meaning.{symbols_at, declarations_at, DeclHeld}
@@ -36,7 +36,7 @@ module _ (c : Setting) (ds : List DeclarationTree) (x : Declaration) (g : Signat
   new = declarations_at s it.decls
 
   once : IsOnce c e.outcome
-  once = outcome_once c s x e.outcome e.is
+  once = outcome_once c x e.outcome e.is
 
   pub front_kept : AreSound all ds
   front_kept = subst (λ (es : List SymbolTree). AreSound es ds) (sym e.symbols_are) (sound_more c.symbols e.outcome.symbols ds sound (subst IsBuiltRight e.symbols_are (elaborated_kept c x g s h names it typed.source e sound.built)))
@@ -73,8 +73,8 @@ module _ (c : Setting) (ds : List DeclarationTree) (x : Declaration) (g : Signat
           let m = once.later k (subst (λ (xs : List DeclarationTree). Contains (made xs) k) e.decls b) in
           omega (arith, l, m)
 
-pub next_sound : (c : Setting) (ds : List DeclarationTree) (d : source.SyntaxDeclaration) (x : Declaration) (g : Signature) (s : List Tree) (h : Signature) (names : ScopeNames) (it : Elaborated) → IsTypedSetting (after c.symbols [] ds) c → MakesBelow (length c.symbols) ds → Grows c.trees s
+pub next_sound : (c : Setting) (ds : List DeclarationTree) (d : source.SyntaxDeclaration) (x : Declaration) (g : Signature) (s : List Tree) (h : Signature) (names : ScopeNames) (it : Elaborated) → IsTypedSetting (after c.symbols [] ds) c → MakesBelow (length c.symbols) ds
     → declaration d ≡ Some x → IsGroupWhole d → IsNoGoal d → IsElaborated c x g s h names it → ((id : TermId) → Holds s id → WellSorted (tree_at s id)) → All (DeclHeld s) it.decls → HaveNoFault (symbols_at s h.symbols) (declarations_at s it.decls)
     → AreSound c.symbols ds → AreSound (symbols_at s h.symbols) (ds ++ declarations_at s it.decls)
-next_sound c ds d x g s h names it typed below r q w p e sorted held passes sound =
-    both_sound c ds x g s h names it typed below e sound (next_declaration c ds d x g s h names it typed below r q w p e sorted held passes).valid
+next_sound c ds d x g s h names it typed below q w p e sorted held passes sound =
+    both_sound c ds x g s h names it typed below e sound (next_declaration c ds d x g s h names it typed below q w p e sorted held passes).valid

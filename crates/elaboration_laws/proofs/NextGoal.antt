@@ -5,7 +5,7 @@ use Rattle.std.proofs.lemmas.List.Elements.{All-nil, All-cons}
 use Rattle.elab_groups.specs.trees.Tree.{Tree, Leaf, One, Two, Three, Head, HTyVar, HTyRigid}
 use Rattle.elab_groups.specs.trees.Binding.{inst_types}
 use Rattle.elab_groups.specs.trees.declared.TermId.{TermId}
-use Rattle.elab_groups.specs.trees.Node.{Grows, Holds, tree_at}
+use Rattle.elab_groups.specs.trees.Node.{Holds, tree_at}
 use Rattle.elab_groups.specs.trees.Sorts.{WellSorted}
 use Rattle.elab_groups.specs.tasks.declared.signature.Signature.{Signature}
 use Rattle.elab_groups.specs.tasks.Rigid.{rigid_symbol}
@@ -15,6 +15,7 @@ use Rattle.elab_groups.specs.tasks.Vocabulary.{Vocabulary}
 use Rattle.elab_groups.specs.tasks.Typing.{IsRigid}
 use Rattle.elab_groups.specs.tasks.Valid.{LeafBelow, VariablesBelow, IsFormulaOver, IsTypeIn, IsValidBody, IsValidDecl, IsQuoted}
 use Rattle.elab_groups.specs.scopes.Names.{ScopeNames}
+use Rattle.elab_groups.specs.name_resolution.Naming.{scope_at}
 use Rattle.elab_groups.specs.surface.Lexeme.{Word}
 use Rattle.elab_groups.specs.surface.declared.declarations.PropKind.{PropKind}
 use Rattle.elab_groups.specs.surface.declared.declarations.PropKind.TheVariants as kind
@@ -123,7 +124,7 @@ module _ (symbols : List SymbolTree) (ds : List DeclarationTree) (own : List ℕ
       subst (IsValidBody v n) same f
 
 -- ---- the goal
-module _ (c : Setting) (ds : List DeclarationTree) (d : source.SyntaxDeclaration) (x : TokenName) (y : Expression) (g : Signature) (s : List Tree) (h : Signature) (names : ScopeNames) (it : Elaborated) (typed : IsTypedSetting (after c.symbols [] ds) c) (below : MakesBelow (length c.symbols) ds) (r : Grows c.trees s)
+module _ (c : Setting) (ds : List DeclarationTree) (d : source.SyntaxDeclaration) (x : TokenName) (y : Expression) (g : Signature) (s : List Tree) (h : Signature) (names : ScopeNames) (it : Elaborated) (typed : IsTypedSetting (after c.symbols [] ds) c) (below : MakesBelow (length c.symbols) ds)
     (sorted : (id : TermId) → Holds s id → WellSorted (tree_at s id)) (held : All (DeclHeld s) it.decls) (passes : HaveNoFault (symbols_at s h.symbols) (declarations_at s it.decls)) (quoted : All IsQuoted (proposition_seen y).vars) (sound : AreSound c.symbols ds) (goal : GoalTree)
     (said : IsGoalSaid (declarations_at s it.decls) it.rigid goal) where
   abbrev all : List SymbolTree
@@ -163,7 +164,7 @@ module _ (c : Setting) (ds : List DeclarationTree) (d : source.SyntaxDeclaration
   goal_kept : declaration d ≡ Some (proposition_declaration kind.Goal x y) → IsElaborated c (proposition_declaration kind.Goal x y) g s h names it → IsSoundAfter all ds goal
   goal_kept q e =
       let p : IsProposition c kind.Goal x y e.outcome = e.is in
-      let z : IsNextGoal s all names ds own new = next_goal c ds d x y g s h names it typed below r q e sorted held passes in
+      let z : IsNextGoal all (scope_at s names) ds own new = next_goal c ds d x y g s h names it typed below q e sorted held passes in
       let split : all ≡ first ++ map rigid_symbol vs = e.symbols_are ∙ (ap (λ (es : List SymbolTree). c.symbols ++ es) p.symbols ∙ sym (append_assoc c.symbols (tuples_wanting c (proposition_seen y)) (map rigid_symbol vs))) in
       let o : own ≡ entry_numbers (length first) vs = e.rigid ∙ p.rigid in
       let at = entries_at split o in
@@ -177,7 +178,7 @@ module _ (c : Setting) (ds : List DeclarationTree) (d : source.SyntaxDeclaration
       let p : IsProposition c kind.Lemma x y e.outcome = e.is in
       let v0 = after all [] (ds ++ new) in
       let none : made new ≡ [] = ap made e.decls ∙ ap made p.decls in
-      let z : IsValidElaborated v0 s h names it = elaborated_valid v0 c (setting c ds lemma g s h names it typed below r tt e [] (λ k l. refl)) s r d lemma g h names it q e sorted held passes (news c ds lemma g s h names it typed below r tt e []) tt in
+      let z : IsValidElaborated v0 s h names it = elaborated_valid v0 c (setting c ds lemma g s h names it typed below tt e [] (λ k l. refl)) d lemma g s h names it q e sorted held passes (news c ds lemma g s h names it typed below tt e []) tt in
       let agree = nothing_more all [] ds new none in
       let part : IsSubvocabulary v0 (after all [] ds) = agrees_part v0 (after all [] ds) all agree in
       let sig : IsTypedSignature (after all [] ds) all = signature_agrees v0 (after all [] ds) all agree z.signature in

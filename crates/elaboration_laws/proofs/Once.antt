@@ -187,7 +187,7 @@ members_once c (m ∷ ks) o it =
     let gs = group_signatures c ms in
     let k = length (before_group c ms) in
     let tuples = group_tuples c ms in
-    let count = count_signed (over c.trees (before_group c ms) c.scope []) ms in
+    let count = count_signed (over (before_group c ms) c.scope []) ms in
     let bs = it.bodies in
     let own = signed_entries c.theory c.within ms gs in
     let long = signed_length c.theory c.within ms gs count in
@@ -203,7 +203,7 @@ inductives_once c (d ∷ is) o it =
     let gs = signature_trees c (before_inductives c ds) ms in
     let k = length (before_inductives c ds) in
     let tuples = tuples_wanting c (inductives_seen unseen ds) in
-    let count = count_signed (over c.trees (before_inductives c ds) c.scope []) ms in
+    let count = count_signed (over (before_inductives c ds) c.scope []) ms in
     let own = signed_entries c.theory c.within ms gs in
     let long = signed_length c.theory c.within ms gs count in
     let list = map (λ (i : InductiveTree). i.symbol) (induced k ds it.clauses) in
@@ -212,10 +212,10 @@ inductives_once c (d ∷ is) o it =
     once_of c o tuples own it.symbols (signed_of c.theory c.within ms gs) k (length-append c.symbols tuples) list (ap made it.decls ∙ append-nil list) (there_one c o.decls _ it.decls refl)
     (induced_between k (k + length own) ds it.clauses (omega (arith, same))) (induced_distinct k ds it.clauses)
 
-pub outcome_once : (c : Setting) (s : List Tree) (d : Declaration) (o : Outcome) → IsOutcome c s d o → IsOnce c o
-outcome_once c s (abstract_type x vs) o e = type_once c x (length vs) o e
-outcome_once c s (alias x vs f) o e = none_once c o (ap made e.decls) (there_none c o.decls e.decls)
-outcome_once c s (proposition_declaration k x y) o e = none_once c o (ap made e.decls) (there_one c o.decls _ e.decls refl)
-outcome_once c s (algebraic ts) o e = group_once c ts o e
-outcome_once c s (member_group ms) o e = members_once c ms o e
-outcome_once c s (inductive ds) o e = inductives_once c ds o e
+pub outcome_once : (c : Setting) (d : Declaration) (o : Outcome) → IsOutcome c d o → IsOnce c o
+outcome_once c (abstract_type x vs) o e = type_once c x (length vs) o e
+outcome_once c (alias x vs f) o e = let none : o.decls ≡ [] = ap (λ (j : Outcome). j.decls) e in none_once c o (ap made none) (there_none c o.decls none)
+outcome_once c (proposition_declaration k x y) o e = none_once c o (ap made e.decls) (there_one c o.decls _ e.decls refl)
+outcome_once c (algebraic ts) o e = group_once c ts o e
+outcome_once c (member_group ms) o e = members_once c ms o e
+outcome_once c (inductive ds) o e = inductives_once c ds o e

@@ -19,9 +19,9 @@ use Rattle.elab_declarations.specs.elab_groups.Groups.{member_piece, member_piec
 use Rattle.elab_declarations.specs.inductive_declarations.Inductives.{as_member, as_members, inductives_seen, before_inductives, induced, IsInductiveGroup}
 use Rattle.elab_declarations.specs.type_declarations.Algebraics.{group_seen, first_type, first_constructor, type_entries, group_trees, group_entries, group_outcome}
 use Rattle.elab_declarations.specs.type_declarations.Algebraics as group
-use Rattle.elab_declarations.specs.Outcomes.{type_outcome, alias_seen, IsAlias, proposition_seen, rigid_names, IsProposition, IsOutcome}
+use Rattle.elab_declarations.specs.Outcomes.{type_outcome, alias_seen, alias_outcome, proposition_seen, rigid_names, IsProposition, IsOutcome}
 use Rattle.elaboration_laws.proofs.Standing.{count_signed}
-use Rattle.elaboration_laws.proofs.Made.{HasFrom, AreBetween, wider, no_numbers, one_between, AreNew, both_new, none_new, tuples_new, rigids_new, signed_new, signed_length, defined_from, induced_from, defined_between, induced_between}
+use Rattle.elaboration_laws.proofs.Made.{HasFrom, AreBetween, wider, no_numbers, one_between, AreNew, both_new, none_new, tuples_new, rigids_new, signed_new, signed_length, defined_from, induced_from, induced_between}
 use Rattle.elaboration_laws.proofs.MadeTypes.{group_between, group_length, types_new, group_new, count_types}
 use Rattle.elaboration_laws.proofs.Once.{body_between}
 
@@ -52,11 +52,11 @@ type_made c x n =
         inr (inr (record { made = (0, omega arith, omega arith); constructor = λ q. absurd (let y : (type_entry c.theory (full_name c x) n).kind ≡ i.kind = ap (λ (g : SymbolTree). g.kind) s in cc) }))
     of k e (suc j) i z = absurd (cc)
 
-alias_made : (c : Setting) (s : List Tree) (x : TokenName) (vs : List TokenName) (f : TypeExpression) (o : Outcome) → IsAlias c s x vs f o → IsMade c o
-alias_made c s x vs f o a = record {
-  new = rw (a.symbols, a.decls) (tuples_new [] (length c.symbols) c.symbols (alias_seen f).widths);
-  between = rw a.decls (no_numbers (length c.symbols) (length (c.symbols ++ o.symbols)));
-  single = let q = ap length a.decls in omega (arith, q);
+alias_made : (c : Setting) (x : TokenName) (vs : List TokenName) (f : TypeExpression) → IsMade c (alias_outcome c x vs f)
+alias_made c x vs f = record {
+  new = tuples_new [] (length c.symbols) c.symbols (alias_seen f).widths;
+  between = no_numbers (length c.symbols) (length (c.symbols ++ tuples_wanting c (alias_seen f)));
+  single = omega arith;
 }
 
 proposition_made : (c : Setting) (k : PropKind) (x : TokenName) (e : Expression) (o : Outcome) → IsProposition c k x e o → IsMade c o
@@ -147,7 +147,7 @@ members_made c (m ∷ ks) o a it =
     let gs = group_signatures c ms in
     let k = length (before_group c ms) in
     let tuples = group_tuples c ms in
-    let count = count_signed (over c.trees (before_group c ms) c.scope []) ms in
+    let count = count_signed (over (before_group c ms) c.scope []) ms in
     let bs = it.bodies in
     let bodies = bodies_count (within_group c ms) ms gs bs o.matches count it.solved in
     let list = made_by (group_body m.body k gs bs) in
@@ -171,7 +171,7 @@ inductives_made c (d ∷ is) o it =
     let gs = signature_trees c (before_inductives c ds) ms in
     let k = length (before_inductives c ds) in
     let tuples = tuples_wanting c (inductives_seen unseen ds) in
-    let count = count_signed (over c.trees (before_inductives c ds) c.scope []) ms in
+    let count = count_signed (over (before_inductives c ds) c.scope []) ms in
     let list = map (λ (i : InductiveTree). i.symbol) (induced k ds it.clauses) in
     let are : made o.decls ≡ list = ap made it.decls ∙ append-nil list in
     let many = length-map ds as_member in
@@ -179,10 +179,10 @@ inductives_made c (d ∷ is) o it =
     own_made c tuples c.theory c.within ms gs count o it.symbols (tuples_new o.decls n c.symbols (inductives_seen unseen ds).widths) list are (let q = ap length it.decls in omega (arith, q)) k (length-append c.symbols tuples)
     (rw same (induced_from k ds it.clauses)) (induced_between k (k + length gs) ds it.clauses (omega (arith, same)))
 
-pub outcome_made : (c : Setting) (s : List Tree) (d : Declaration) (o : Outcome) → IsAlone d → IsOutcome c s d o → IsMade c o
-outcome_made c s (abstract_type x vs) o a e = rw e (type_made c x _)
-outcome_made c s (alias x vs f) o a e = alias_made c s x vs f o e
-outcome_made c s (proposition_declaration k x e) o a p = proposition_made c k x e o p
-outcome_made c s (algebraic ts) o a e = rw e (group_made c ts)
-outcome_made c s (member_group ms) o a e = members_made c ms o a e
-outcome_made c s (inductive ds) o a e = inductives_made c ds o e
+pub outcome_made : (c : Setting) (d : Declaration) (o : Outcome) → IsAlone d → IsOutcome c d o → IsMade c o
+outcome_made c (abstract_type x vs) o a e = rw e (type_made c x _)
+outcome_made c (alias x vs f) o a e = rw e (alias_made c x vs f)
+outcome_made c (proposition_declaration k x e) o a p = proposition_made c k x e o p
+outcome_made c (algebraic ts) o a e = rw e (group_made c ts)
+outcome_made c (member_group ms) o a e = members_made c ms o a e
+outcome_made c (inductive ds) o a e = inductives_made c ds o e

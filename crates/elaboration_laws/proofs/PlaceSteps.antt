@@ -1,10 +1,9 @@
 -- What the places of a theory leave in a clone is what its steps make.
-use Rattle.std.proofs.Common.{◌≡◌, ◌≢◌, ◌⊎◌, inl, inr, ℕ, nat_eq, ◌+◌, ◌<◌, ◌≤◌, ◌||◌, zero, suc, cond, Bool, true, false, List, [], ◌∷◌, ◌++◌, length, slice_get, All, Contains, Option, Some, None, IsTrue, refl, sym, ap, subst, ◌∙◌, arith, length-append, append_assoc, append-nil}
+use Rattle.std.proofs.Common.{◌≡◌, ◌≢◌, ◌⊎◌, inl, inr, ℕ, nat_eq, ◌+◌, ◌<◌, ◌≤◌, zero, suc, cond, Bool, true, false, List, [], ◌∷◌, ◌++◌, length, slice_get, All, Contains, Option, Some, None, IsTrue, refl, sym, ap, subst, ◌∙◌, arith, length-append, append_assoc, append-nil}
 use Rattle.std.specs.List.{list_any}
 use Rattle.std.specs.Option.{option_to_list}
 use Rattle.std.specs.Str.{bytes_eq}
 use Rattle.std.proofs.lemmas.Bool.{cases_lt}
-use Rattle.std.proofs.lemmas.Bool.Decides.{nat_tests}
 use Rattle.std.proofs.lemmas.List.Elements.{All-head, All-tail, All-contains, All-append, All-cons, All-nil, Contains-append_left, Contains-append_right, Contains-append_cases}
 use Rattle.elab_groups.specs.tasks.Task.{BodyTree, MakesType, Makes, Defines, Induces, Constructs, Says, DeclarationTree}
 use Rattle.elab_groups.specs.surface.declared.declarations.PropKind.{PropKind}

@@ -1,7 +1,6 @@
 -- Of the entries that a declaration makes only those of type variables have no theory.
 use Rattle.std.proofs.Common.{◌≡◌, ℕ, false, List, [], ◌∷◌, ◌++◌, map, length, All, refl, ap}
 use Rattle.std.proofs.lemmas.List.Elements.{All-nil, All-cons, All-append}
-use Rattle.elab_groups.specs.trees.Tree.{Tree}
 use Rattle.elab_groups.specs.tasks.Task.{SymbolTree}
 use Rattle.elab_groups.specs.tasks.Rigid.{rigid_symbol}
 use Rattle.elab_groups.specs.tasks.Vocabulary.{is_empty}
@@ -19,7 +18,7 @@ use Rattle.elaboration_laws.proofs.TaskOutcomes.{OfTheory, signed_of, types_of, 
 use Rattle.elaboration_laws.specs.Placed.{IsPlacedEntry, ArePlaced}
 use Rattle.elaboration_laws.proofs.Copies.{theory_placed, rigids_placed}
 
-module _ (c : Setting) (s : List Tree) (named : is_empty c.theory ≡ false) where
+module _ (c : Setting) (named : is_empty c.theory ≡ false) where
   built : (ns : List ℕ) → ArePlaced (wanting_tuples c.symbols ns)
   built ns = theory_placed builtin refl (wanting_tuples c.symbols ns) (tuples_built c.symbols ns)
 
@@ -29,11 +28,11 @@ module _ (c : Setting) (s : List Tree) (named : is_empty c.theory ≡ false) whe
   own_placed : (es : List SymbolTree) → All (OfTheory c.theory) es → ArePlaced es
   own_placed es h = theory_placed c.theory named es h
 
-  pub outcome_placed : (d : Declaration) (o : Outcome) → IsOutcome c s d o → ArePlaced o.symbols
+  pub outcome_placed : (d : Declaration) (o : Outcome) → IsOutcome c d o → ArePlaced o.symbols
   outcome_placed (abstract_type x vs) o e =
       let t = type_entry c.theory (full_name c x) (length vs) in
       tuples_then o [] (t ∷ []) (ap (λ (i : Outcome). i.symbols) e) (own_placed (t ∷ []) (All-cons (OfTheory c.theory) t [] refl (All-nil (OfTheory c.theory))))
-  outcome_placed (alias x vs f) o e = rw e.symbols (built (alias_seen f).widths)
+  outcome_placed (alias x vs f) o e = rw e (built (alias_seen f).widths)
   outcome_placed (proposition_declaration k x y) o e = let vs = rigid_names k (proposition_seen y).vars in tuples_then o (proposition_seen y).widths (map rigid_symbol vs) e.symbols (rigids_placed vs)
   outcome_placed (algebraic ts) o e =
       let T = type_entries c.theory c.within ts in

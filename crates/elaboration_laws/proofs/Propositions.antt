@@ -3,7 +3,6 @@ use Rattle.std.proofs.Common.{◌≡◌, ℕ, ◌+◌, ◌<◌, ◌⊎◌, inl, 
 use Rattle.std.proofs.lemmas.List.Elements.{All-nil, All-cons}
 use Rattle.elab_groups.specs.trees.declared.Sort.TheVariants.{Kind}
 use Rattle.elab_groups.specs.trees.Tree.{Tree, Leaf, One, Two, Three, Head, HTyVar, HTyRigid, HBound, HParam, binders_over}
-use Rattle.elab_groups.specs.trees.Node.{Grows}
 use Rattle.elab_groups.specs.trees.Sorts.{sort_of}
 use Rattle.elab_groups.specs.trees.Binding.{change, typing, inst_types, leaf_by, one_by, TyVar}
 use Rattle.elab_groups.specs.trees.Facts.{IndicesFit, PutsSorts}
@@ -170,7 +169,7 @@ module _ (base : Vocabulary) (xs : List SymbolTree) where
       rigid_formula base (xs ++ ys) sig (entry_numbers (length xs) vs) (length vs) e (rigid_in base xs vs (length xs) refl may) (count_rigid (length xs) vs)
       (formula_more (with_entries base xs) (with_entries base (xs ++ ys)) (entries_part base xs ys) (length vs) e f)
 
-module _ (base : Vocabulary) (c : Setting) (h : IsTypedSetting base c) (s : List Tree) (g : Grows c.trees s) where
+module _ (base : Vocabulary) (c : Setting) (h : IsTypedSetting base c) where
   module _ (k : PropKind) (x : TokenName) (e : Expression) (o : Outcome) (q : fault (around c []) true [] true e ≡ None) (p : IsProposition c k x e o) (all_news : NamesNew base (length c.symbols) (c.symbols ++ o.symbols)) where
     abbrev seen' : SeenTree
     seen' = proposition_seen e
@@ -202,14 +201,14 @@ module _ (base : Vocabulary) (c : Setting) (h : IsTypedSetting base c) (s : List
     named : fault (world base c h seen' vs) false [] true e ≡ None
     named = sym (alike (around c vs) (world base c h seen' vs) (same_names base c h seen' vs) e false [] true) ∙ closed (around c []) vs e unseen [] true q (λ u z. z)
 
-    pub proposition_typed : IsTypedOutcome base c s o
+    pub proposition_typed : IsTypedOutcome base c o
     proposition_typed =
         let v = with_entries base (xs ++ ys) in
-        let scopes : AreTypedScopes v s o.scope = rw p.scope (scopes_more (IsTypedThing v s) c.scope Propositions x.name (stands.Entry c.decl) true tt (scopes_extended base c.trees s g xs ys c.scope (inside_scopes base c h seen'))) in
+        let scopes : AreTypedScopes v o.scope = rw p.scope (scopes_more (IsTypedThing v) c.scope Propositions x.name (stands.Entry c.decl) true tt (scopes_extended base xs ys c.scope (inside_scopes base c h seen'))) in
         let z = split in
         record { signature = rw z sig; scopes = rw z scopes }
 
-    pub proposition_valid : DeclsFit o.decls → MayNameRigid base (proposition_declaration k x e) o.rigid → IsValidOutcome base c s o
+    pub proposition_valid : DeclsFit o.decls → MayNameRigid base (proposition_declaration k x e) o.rigid → IsValidOutcome base c o
     proposition_valid fits may =
         let w = world base c h seen' vs in
         let good = formed base c h seen' news vs in

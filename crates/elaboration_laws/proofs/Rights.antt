@@ -75,7 +75,7 @@ module _ (xs ys : List SymbolTree) (built : All (λ (e : SymbolTree). e.theory �
 -- ---- one right side
 
 record IsTypedForm (c : Setting) (vars : List Word) (f : TypeExpression) (es : List SymbolTree) : Type 0 where
-  type : IsTypeIn (of_signature (c.symbols ++ es)) (length vars) (type_at (over c.trees (c.symbols ++ es) c.scope vars) f)
+  type : IsTypeIn (of_signature (c.symbols ++ es)) (length vars) (type_at (over (c.symbols ++ es) c.scope vars) f)
   setting : IsTypedSetting (of_signature (c.symbols ++ es)) (record c { symbols = c.symbols ++ es })
 
 form_typed : (c : Setting) (vars : List Word) (f : TypeExpression) → IsTypedSetting (of_signature c.symbols) c → form_fault (around c vars) false f ≡ None → IsTypedForm c vars f (wanting_tuples c.symbols (form_seen unseen f).widths)
@@ -100,18 +100,18 @@ texts_count (v ∷ vs) = let h = texts_count vs in omega (arith, h)
 
 -- an element over a typed setting
 record IsTypedElement (c : Setting) (e : Element) : Type 0 where
-  right : IsTypedRight (of_signature (c.symbols ++ right_tuples c.symbols e)) e (right_made c.trees c.symbols c.scope e)
+  right : IsTypedRight (of_signature (c.symbols ++ right_tuples c.symbols e)) e (right_made c.symbols c.scope e)
   setting : IsTypedSetting (of_signature (c.symbols ++ right_tuples c.symbols e)) (record c { symbols = c.symbols ++ right_tuples c.symbols e })
 
 without : (c : Setting) → IsTypedSetting (of_signature c.symbols) c → IsTypedSetting (of_signature (c.symbols ++ [])) (record c { symbols = c.symbols ++ [] })
 without c h = subst (λ (es : List SymbolTree). IsTypedSetting (of_signature es) (record c { symbols = es })) (sym (append-nil c.symbols)) h
 
-element_typed : (c : Setting) (e : Element) → IsTypedSetting (of_signature c.symbols) c → right_fault c.trees c.symbols c.scope e ≡ None → IsTypedElement c e
+element_typed : (c : Setting) (e : Element) → IsTypedSetting (of_signature c.symbols) c → right_fault c.symbols c.scope e ≡ None → IsTypedElement c e
 element_typed c (type_element i d vs f) h q =
     let z = form_typed c (texts_of_names vs) (type_expression f) h q in
     let ys = wanting_tuples c.symbols (form_seen unseen (type_expression f)).widths in
     record {
-      right = subst (λ (n : ℕ). IsTypeIn (of_signature (c.symbols ++ ys)) n (type_at (over c.trees (c.symbols ++ ys) c.scope (texts_of_names vs)) (type_expression f))) (texts_count vs) z.type;
+      right = subst (λ (n : ℕ). IsTypeIn (of_signature (c.symbols ++ ys)) n (type_at (over (c.symbols ++ ys) c.scope (texts_of_names vs)) (type_expression f))) (texts_count vs) z.type;
       setting = z.setting;
     }
 element_typed c (symbol_element i w d e) h q = record { right = tt; setting = without c h }
@@ -119,10 +119,10 @@ element_typed c (prop_element i k d) h q = record { right = tt; setting = withou
 element_typed c (all_axioms i) h q = record { right = tt; setting = without c h }
 
 -- ---- all of them
-pub all_typed : (es : List Element) (c : Setting) → IsTypedSetting (of_signature c.symbols) c → rights_fault c.trees c.symbols c.scope es ≡ None → IsTypedSetting (of_signature (with_rights c es).symbols) (with_rights c es)
+pub all_typed : (es : List Element) (c : Setting) → IsTypedSetting (of_signature c.symbols) c → rights_fault c.symbols c.scope es ≡ None → IsTypedSetting (of_signature (with_rights c es).symbols) (with_rights c es)
 all_typed [] c h q = without c h
 all_typed (e ∷ es) c h q =
-    let p = first_none (right_fault c.trees c.symbols c.scope e) (rights_fault c.trees (c.symbols ++ right_tuples c.symbols e) c.scope es) q in
+    let p = first_none (right_fault c.symbols c.scope e) (rights_fault (c.symbols ++ right_tuples c.symbols e) c.scope es) q in
     let more = right_tuples c.symbols e in
     let z = all_typed es (record c { symbols = c.symbols ++ more }) (element_typed c e h p.0).setting p.1 in
     subst (λ (all : List SymbolTree). IsTypedSetting (of_signature all) (record c { symbols = all })) (append_assoc c.symbols more (rights_tuples (c.symbols ++ more) es)) z
@@ -135,20 +135,20 @@ right_more v w part (symbol_element i s c d) r h = tt
 right_more v w part (prop_element i k c) r h = tt
 right_more v w part (all_axioms i) r h = tt
 
-pub rights_typed : (places : Word → Option ℕ) (es : List Element) (c : Setting) → IsTypedSetting (of_signature c.symbols) c → rights_fault c.trees c.symbols c.scope es ≡ None
-    → All (IsTypedSide (of_signature (with_rights c es).symbols)) (sides_made places c.trees c.symbols c.scope es)
+pub rights_typed : (places : Word → Option ℕ) (es : List Element) (c : Setting) → IsTypedSetting (of_signature c.symbols) c → rights_fault c.symbols c.scope es ≡ None
+    → All (IsTypedSide (of_signature (with_rights c es).symbols)) (sides_made places c.symbols c.scope es)
 rights_typed places [] c h q = All-nil (IsTypedSide (of_signature (with_rights c []).symbols))
 rights_typed places (e ∷ es) c h q =
-    let p = first_none (right_fault c.trees c.symbols c.scope e) (rights_fault c.trees (c.symbols ++ right_tuples c.symbols e) c.scope es) q in
+    let p = first_none (right_fault c.symbols c.scope e) (rights_fault (c.symbols ++ right_tuples c.symbols e) c.scope es) q in
     let more = right_tuples c.symbols e in
     let now = c.symbols ++ more in
     let later = rights_tuples now es in
     let x = element_typed c e h p.0 in
     let z = rights_typed places es (record c { symbols = now }) x.setting p.1 in
     let all : now ++ later ≡ c.symbols ++ (more ++ later) = append_assoc c.symbols more later in
-    let own : IsTypedRight (of_signature (now ++ later)) e (right_made c.trees c.symbols c.scope e) = right_more (of_signature now) (of_signature (now ++ later)) (entries_more now later) e (right_made c.trees c.symbols c.scope e) x.right in
-    subst (λ (ss : List SymbolTree). All (IsTypedSide (of_signature ss)) (sides_made places c.trees c.symbols c.scope (e ∷ es))) all
-    (All-cons (IsTypedSide (of_signature (now ++ later))) _ (sides_made places c.trees now c.scope es) own z)
+    let own : IsTypedRight (of_signature (now ++ later)) e (right_made c.symbols c.scope e) = right_more (of_signature now) (of_signature (now ++ later)) (entries_more now later) e (right_made c.symbols c.scope e) x.right in
+    subst (λ (ss : List SymbolTree). All (IsTypedSide (of_signature ss)) (sides_made places c.symbols c.scope (e ∷ es))) all
+    (All-cons (IsTypedSide (of_signature (now ++ later))) _ (sides_made places now c.scope es) own z)
 
 -- what is built in
 right_built : (symbols : List SymbolTree) (e : Element) → IsBuiltRight symbols → IsBuiltRight (symbols ++ right_tuples symbols e)

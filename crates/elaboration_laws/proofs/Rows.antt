@@ -8,7 +8,8 @@ use Rattle.elab_groups.specs.tasks.Task.{SymbolTree, int_symbol}
 use Rattle.elab_groups.specs.tasks.Vocabulary.{Vocabulary, of_signature}
 use Rattle.elab_groups.specs.tasks.Valid.{IsTypeIn, HasTypes, IsFormulaOver}
 use Rattle.elab_groups.specs.name_resolution.Abstract.{Expression, applied_expression, integer_expression, equality_expression, no_expressions}
-use Rattle.elab_groups.specs.name_resolution.Where.{Where, Stands}
+use Rattle.elab_groups.specs.name_resolution.Where.{Where}
+use Rattle.elab_groups.specs.scopes.declared.Referent.TheVariants as stands
 use Rattle.elab_groups.specs.open_types.Pieces.{piece}
 use Rattle.elab_groups.specs.parts.Elaborated.{IsSolved, IsFixedUnknown}
 use Rattle.elaboration_laws.specs.Signature.{IsSymbol, IsWellFormed}
@@ -20,7 +21,7 @@ abbrev constant : SymbolTree
 constant = record { theory = codes "T"; name = codes "c"; kind = Function; vars = 0; args = []; result = Some int_type }
 
 abbrev here : Where
-here = record { symbols = int_symbol ∷ constant ∷ []; types = λ qs x. Some (Stands 0); names = λ qs x. Some 1; tuples = λ n. None; vars = [] }
+here = record { symbols = int_symbol ∷ constant ∷ []; types = λ qs x. Some (stands.Entry 0); names = λ qs x. Some 1; tuples = λ n. None; vars = [] }
 
 abbrev signature : Vocabulary
 signature = of_signature here.symbols

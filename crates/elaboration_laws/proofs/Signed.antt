@@ -1,7 +1,7 @@
 -- What a well-formed signature gives: types that forms stand for, and entries at the types of a use.
-use Rattle.std.proofs.Common.{◌≡◌, ◌≢◌, ℕ, ◌<◌, ◌==◌, zero, suc, true, false, List, [], ◌∷◌, map, length, get_or, slice_get, All, Option, Some, None, IfSome, IsSomeAnd, IsTrue, refl, sym, ap, subst, ◌∙◌, arith}
+use Rattle.std.proofs.Common.{◌≡◌, ◌≢◌, ℕ, ◌==◌, suc, true, false, List, [], ◌∷◌, map, length, get_or, slice_get, All, Option, Some, None, IfSome, IsSomeAnd, IsTrue, refl, sym, ap, subst, ◌∙◌, arith}
 use Rattle.std.proofs.lemmas.Bool.{eqb-true}
-use Rattle.elab_groups.specs.trees.Tree.{Tree, Leaf, One, Two, Three, Head, HTyVar}
+use Rattle.elab_groups.specs.trees.Tree.{Tree, Head, HTyVar}
 use Rattle.elab_groups.specs.trees.Sorts.{int_type}
 use Rattle.elab_groups.specs.trees.Binding.{inst_types}
 use Rattle.elab_groups.specs.trees.Facts.{TyVarsBelow, leaf_below}
@@ -11,13 +11,14 @@ use Rattle.elab_groups.specs.tasks.Equations.{cells, type_variables}
 use Rattle.elab_groups.specs.tasks.Task.{SymbolTree, symbol_or, int_symbol}
 use Rattle.elab_groups.specs.tasks.Vocabulary.{Vocabulary}
 use Rattle.elab_groups.specs.tasks.Typing.{entry, members, MakesTerms}
-use Rattle.elab_groups.specs.tasks.Valid.{VariablesBelow, LeafBelow, IsTypeIn, HasTypes}
+use Rattle.elab_groups.specs.tasks.Valid.{LeafBelow, IsTypeIn, HasTypes}
 use Rattle.elab_groups.specs.open_types.unify_types.Assigned.{assign}
 use Rattle.elab_groups.specs.surface.Lexeme.{Word}
 use Rattle.elab_groups.specs.name_resolution.Abstract.{TypeExpression, TypeExpressions, variable_type, composed_type, product_type, no_types, more_types, count_forms}
 use Rattle.elab_groups.specs.name_resolution.declared.NamingFault.TheVariants.{Arity}
 use Rattle.elab_groups.specs.name_resolution.Faults.{meaning_fault, form_fault, forms_fault, is_predicate}
-use Rattle.elab_groups.specs.name_resolution.Where.{Where, MeaningTree, Stands, Abbreviates, place_of}
+use Rattle.elab_groups.specs.name_resolution.Where.{Where, MeaningTree, place_of}
+use Rattle.elab_groups.specs.scopes.declared.Referent.TheVariants as stands
 use Rattle.elab_groups.specs.open_types.Patterns.{at_unknowns, result_or_int, NumberedEntry, entry_of}
 use Rattle.elab_groups.specs.open_types.Scoped.{IsScopedEntry}
 use Rattle.elab_groups.specs.open_types.Pieces.{type_at, types_at, applied_meaning, variable_at}
@@ -110,11 +111,11 @@ module _ (base : Vocabulary) (w : Where) (int : slice_get w.symbols 0 ≡ Some i
 
   applied_over : (m : Option MeaningTree) (i n : ℕ) (ts : List Tree) → meaning_fault w i n m ≡ None → length ts ≡ n → IfSome m (IsMeaning v) → AreOver v ts → IsOver v true (applied_meaning m ts)
   applied_over None i n ts q l s o = absurd (cc)
-  applied_over (Some (Stands k)) i n ts q l s o =
+  applied_over (Some (stands.Entry k)) i n ts q l s o =
       let same : (symbol_or w.symbols k).vars ≡ n = eqb-true (symbol_or w.symbols k).vars n (must_be ((symbol_or w.symbols k).vars == n) (Arity i) q) in
       let count : length (members (cells ts)) ≡ (symbol_or w.symbols k).vars = ap length (members_cells ts) ∙ l ∙ sym same in
       ((s.0, subst (λ (x : Option SymbolTree). IsSomeAnd x (λ e. (e.kind ≡ Kind) × (length (members (cells ts)) ≡ e.vars))) (sym (some_at w.symbols k int_symbol s.1.entry)) (s.1.kind, count)), cells_over v ts o)
-  applied_over (Some (Abbreviates vars t)) i n ts q l s o = inst_over v true ts o t (type_over v vars t s)
+  applied_over (Some (stands.Alias vars t)) i n ts q l s o = inst_over v true ts o t (type_over v vars t s)
 
   tuple_over : (n : ℕ) (m : Option ℕ) (ts : List Tree) → IsSomeAnd m (IsTuple v n) → AreOver v ts → IsOver v true (inst_types (result_or_int (entry_of w.symbols m).symbol.result) ts)
   tuple_over n None ts s o = absurd s

@@ -21,8 +21,8 @@ use Rattle.elab_groups.specs.open_types.unify_types.Assigned.{assign}
 use Rattle.elab_groups.specs.open_types.unify_types.Pairs.{SolvesAll}
 use Rattle.elab_groups.specs.surface.Lexeme.{Word}
 use Rattle.elab_groups.specs.name_resolution.declared.NamingFault.TheVariants.{WrongKind, Arity}
-use Rattle.elab_groups.specs.name_resolution.Faults.{fault_if, name_fault, local_fault, symbol_fault, is_variable, is_predicate, differ}
-use Rattle.elab_groups.specs.name_resolution.Where.{Where, place_of}
+use Rattle.elab_groups.specs.name_resolution.Faults.{fault_if, name_fault, local_fault, symbol_fault, is_predicate, differ}
+use Rattle.elab_groups.specs.name_resolution.Where.{Where}
 use Rattle.elab_groups.specs.open_types.Patterns.{Notes, noted, no_notes, follow, LocalTree, at_unknowns, result_or_int, first_or_int, rest_of, NumberedEntry, entry_of}
 use Rattle.elab_groups.specs.open_types.Pieces.{NotedTree, bare_piece, both_pieces, Use, Local', Symbol', variable_named, found_local, use_or, use_of_name, tuple_use, parameters, used_piece, names}
 use Rattle.elab_groups.proofs.open_types.Below.{both_all}
@@ -33,7 +33,7 @@ use Rattle.elaboration_laws.proofs.Over.{IsGood, IsOver, AreOver, type_over, ove
 use Rattle.elaboration_laws.proofs.Instances.{inst_over, variables_over, cells_assigned, all_assigned_over}
 use Rattle.elaboration_laws.proofs.Forms.{TypedAs, ListTyped, variable_typed, predicate_typed, function_typed, end_typed, cell_typed}
 use Rattle.elaboration_laws.proofs.Signed.{IsEntry, named_symbol, parameters_over, instance_at, at_assigned, parameters_assigned, is_predicate_kind, makes_terms}
-use Rattle.elab_groups.proofs.open_types.Arguments.{either_way, found_name}
+use Rattle.elab_groups.proofs.open_types.Arguments.{found_name}
 use Rattle.theory_states.proofs.goal_tasks.TuplesMade.{variables_count as count_variables}
 
 pub suc_same : {m n : ℕ} → suc m ≡ suc n → m ≡ n

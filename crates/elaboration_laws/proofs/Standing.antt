@@ -1,31 +1,29 @@
 -- Where a group stands: its entries and its names, with their signatures.
-use Rattle.std.proofs.Common.{◌≡◌, ◌≢◌, ℕ, ◌+◌, ◌<◌, ◌≤◌, suc, true, false, List, [], ◌∷◌, ◌++◌, map, length, slice_get, All, Option, Some, None, IsSomeAnd, option_map, IsTrue, refl, sym, ap, subst, ◌∙◌, arith, append-nil, length-append}
+use Rattle.std.proofs.Common.{◌≡◌, ◌≢◌, ℕ, ◌+◌, ◌≤◌, suc, true, false, List, [], ◌∷◌, ◌++◌, map, length, All, Option, Some, None, IsSomeAnd, option_map, IsTrue, refl, sym, ap, subst, ◌∙◌, arith, append-nil, length-append}
 use Rattle.std.specs.Option.{is_some, is_none}
 use Rattle.std.proofs.lemmas.List.Elements.{All-nil, All-cons}
 use Rattle.elab_groups.specs.trees.Tree.{Tree}
-use Rattle.elab_groups.specs.trees.Node.{Grows}
 use Rattle.elab_groups.specs.tasks.declared.signature.SymbolKind.TheVariants.{Kind}
-use Rattle.elab_groups.specs.tasks.Task.{SymbolTree, int_symbol}
+use Rattle.elab_groups.specs.tasks.Task.{SymbolTree}
 use Rattle.elab_groups.specs.tasks.Vocabulary.{Vocabulary, is_empty}
 use Rattle.elab_groups.specs.tasks.Typing.{MakesTerms}
 use Rattle.elab_groups.specs.tasks.Valid.{IsSignatureOf}
-use Rattle.elab_groups.specs.scopes.Names.{ScopeNames, with_name, TypeName}
+use Rattle.elab_groups.specs.scopes.Names.{with_name}
 use Rattle.elab_groups.specs.scopes.declared.Table.TheVariants.{Symbols}
 use Rattle.elab_groups.specs.scopes.declared.Referent.TheVariants as stands
 use Rattle.elab_groups.specs.surface.Lexeme.{Word}
 use Rattle.elab_groups.specs.name_resolution.Abstract.{TypeExpression}
 use Rattle.elab_groups.specs.name_resolution.Faults.{first_of, type_fault, binders_fault}
-use Rattle.elab_groups.specs.name_resolution.Naming.{meaning_at, type_named}
-use Rattle.elab_groups.specs.name_resolution.Where.{Where}
+use Rattle.elab_groups.specs.name_resolution.Naming.{type_named}
+use Rattle.elab_groups.specs.name_resolution.Where.{Where, NamesTree}
 use Rattle.elab_groups.specs.name_resolution.variables.Seen.{SeenTree, has_width, type_seen}
-use Rattle.elab_groups.specs.open_types.Pieces.{type_at, names}
+use Rattle.elab_groups.specs.open_types.Pieces.{names}
 use Rattle.elab_groups.proofs.open_types.Walking.{none_both, both_none}
 use Rattle.elab_groups.specs.parts.Alike.{meaning_arity, TypesAlike}
 use Rattle.elab_groups.specs.parts.Entries.{tuple_in}
 use Rattle.elab_groups.specs.parts.Declarations.{GroupMember, own_variables, params_seen, params_fault}
 use Rattle.elab_groups.specs.parts.Outcomes.{Setting, over, tuples_wanting}
 use Rattle.elab_groups.proofs.parts.Alike.{binders_alike}
-use Rattle.elab_groups.proofs.parts.Scopes.{type_thing, arity_kept}
 use Rattle.elab_declarations.specs.elab_groups.members.Members.{SignatureTree, signature_of, signed_entries, with_members, symbol_kind_of, body_fault, member_fault, members_fault}
 use Rattle.elab_declarations.proofs.elab_groups.members.ParamsClosed.{as_binders, signature_closed}
 use Rattle.elaboration_laws.specs.Signature.{with_entries}
@@ -35,7 +33,7 @@ use Rattle.elaboration_laws.proofs.Scopes.{scopes_more, typed_entry}
 use Rattle.elaboration_laws.proofs.Extended.{entries_part, news_front, news_later, type_more, signature_more, scopes_extended}
 use Rattle.elaboration_laws.proofs.Tuples.{tuple_front, tuples_there}
 use Rattle.elaboration_laws.specs.Valid.{IsTypedSetting}
-use Rattle.elaboration_laws.proofs.Settings.{inside, inside_typed, inside_scopes, scopes_of}
+use Rattle.elaboration_laws.proofs.Settings.{arity_kept, inside, inside_typed, inside_scopes, formed}
 use Rattle.elaboration_laws.proofs.Signatures.{SignatureIn, signature_in}
 use Rattle.elaboration_laws.proofs.Algebraics.{IsThere, EntriesAt, entries_at, got}
 use Rattle.elaboration_laws.proofs.Bodies.{AreSigned, signed_more}
@@ -83,12 +81,12 @@ module _ (theory within : Word) (named : is_empty theory ≡ false) where
         let there = got all k (entry_of m g) h.at in
         record { entry = there.0; kind = λ q. no_kind m.result (sym (ap (λ (e : SymbolTree). e.kind) there.1) ∙ q); types = (typed_entry base all whole k there.0 (h.named.usable (stands_here m g))).types }
 
-    pub members_scoped : (s : List Tree) (ms : List GroupMember) (gs : List SignatureTree) (k : ℕ) (names : ScopeNames) → length gs ≡ length ms → EntriesAt base all k (signed_entries theory within ms gs) → AreTypedScopes v s names → AreTypedScopes v s (with_members k ms names)
-    members_scoped s [] gs k names n h x = x
-    members_scoped s (m ∷ ms) [] k names n h x = absurd (cc)
-    members_scoped s (m ∷ ms) (g ∷ gs) k names n h x =
+    pub members_scoped : (ms : List GroupMember) (gs : List SignatureTree) (k : ℕ) (names : NamesTree) → length gs ≡ length ms → EntriesAt base all k (signed_entries theory within ms gs) → AreTypedScopes v names → AreTypedScopes v (with_members k ms names)
+    members_scoped [] gs k names n h x = x
+    members_scoped (m ∷ ms) [] k names n h x = absurd (cc)
+    members_scoped (m ∷ ms) (g ∷ gs) k names n h x =
         let next : EntriesAt base all (suc k) (signed_entries theory within ms gs) = subst (λ (i : ℕ). EntriesAt base all i (signed_entries theory within ms gs)) (let q : k + 1 ≡ suc k = omega arith in q) h.1 in
-        members_scoped s ms gs (suc k) (with_name Symbols m.called.name (stands.Entry k) true names) (omega (arith, n)) next (scopes_more (IsTypedThing v s) names Symbols m.called.name (stands.Entry k) true (number_of_member m g k h.0) x)
+        members_scoped ms gs (suc k) (with_name Symbols m.called.name (stands.Entry k) true names) (omega (arith, n)) next (scopes_more (IsTypedThing v) names Symbols m.called.name (stands.Entry k) true (number_of_member m g k h.0) x)
 
 -- ---- a group where it is
 
@@ -96,22 +94,18 @@ pub count_signed : (w : Where) (ms : List GroupMember) → length (map (signatur
 count_signed w [] = refl
 count_signed w (m ∷ ms) = ap suc (count_signed w ms)
 
-pub some_entry : (es : List SymbolTree) → slice_get es 0 ≡ Some int_symbol → 0 < length es
-some_entry [] q = absurd (cc)
-some_entry (e ∷ es) q = omega arith
-
 -- each signature is among what is seen
 abbrev pub AreSeen : SeenTree → List GroupMember → Type 0
 AreSeen all [] = Unit {0}
 AreSeen all (m ∷ ms) = ((u : SeenTree) × IsWithin (type_seen (params_seen u m.params) m.result) all) × AreSeen all ms
 
 -- where the members' names, after those of a scope, hide no type
-module _ (base : Vocabulary) (c : Setting) (h : IsTypedSetting base c) (ms : List GroupMember) (all_seen : SeenTree) (names' : ScopeNames) (same_types : (qs : List Word) (x : Word) → type_named names' qs x ≡ type_named c.scope qs x) where
+module _ (base : Vocabulary) (c : Setting) (h : IsTypedSetting base c) (ms : List GroupMember) (all_seen : SeenTree) (names' : NamesTree) (same_types : (qs : List Word) (x : Word) → type_named names' qs x ≡ type_named c.scope qs x) where
   abbrev pub front : List SymbolTree
   front = inside base c h all_seen
 
   abbrev pub outer : List Word → Where
-  outer vars = over c.trees front c.scope vars
+  outer vars = over front c.scope vars
 
   abbrev pub own_entries : List SymbolTree
   own_entries = signed_entries c.theory c.within ms (map (signature_of (outer [])) ms)
@@ -120,7 +114,7 @@ module _ (base : Vocabulary) (c : Setting) (h : IsTypedSetting base c) (ms : Lis
   whole = front ++ own_entries
 
   abbrev pub inner : List Word → Where
-  inner vars = over c.trees whole names' vars
+  inner vars = over whole names' vars
 
   -- what is new may be named
   module _ (news : NamesNew base (length c.symbols) whole) where
@@ -132,8 +126,7 @@ module _ (base : Vocabulary) (c : Setting) (h : IsTypedSetting base c) (ms : Lis
 
     types_alike : (vars : List Word) → TypesAlike (outer vars) (inner vars)
     types_alike vars = record {
-      types = λ qs x. arity_kept c.trees c.trees front own_entries (type_named c.scope qs x) (type_thing c.trees (length front) c.scope (scopes_of base front c.trees c.scope (inside_scopes base c h all_seen)) (some_entry front (inside_typed base c h all_seen front_news).int) qs x)
-          ∙ ap (λ (m : Option TypeName). option_map (meaning_arity whole) (option_map (meaning_at c.trees) m)) (sym (same_types qs x));
+      types = λ qs x. arity_kept base front own_entries (type_named c.scope qs x) ((formed base c h all_seen front_news vars).types qs x) ∙ ap (option_map (meaning_arity whole)) (sym (same_types qs x));
       vars = refl;
     }
 
@@ -174,8 +167,8 @@ module _ (base : Vocabulary) (c : Setting) (h : IsTypedSetting base c) (ms : Lis
           subst (λ (es : List SymbolTree). EntriesAt base es (length front) own_entries) nil
           (entries_at base (length c.symbols) own_entries front [] (length front) refl past (subst (λ (es : List SymbolTree). NamesNew base (length c.symbols) es) (sym nil) news))
 
-      pub old_scopes : (s : List Tree) → Grows c.trees s → AreTypedScopes vocabulary s c.scope
-      old_scopes s g = scopes_extended base c.trees s g front own_entries c.scope (inside_scopes base c h all_seen)
+      pub old_scopes : AreTypedScopes vocabulary c.scope
+      old_scopes = scopes_extended base front own_entries c.scope (inside_scopes base c h all_seen)
 
       pub seen_tuples : (n : ℕ) → has_width n all_seen.widths ≡ true → is_some (tuple_in whole n) ≡ true
       seen_tuples n z = tuple_front n 0 front own_entries (tuples_there c.symbols all_seen.widths n z)

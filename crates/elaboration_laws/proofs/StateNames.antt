@@ -1,8 +1,8 @@
 -- The name of a symbol stands for a symbol under a morphism.
-use Rattle.std.proofs.Common.{◌≡◌, ◌≢◌, ℕ, ◌<◌, zero, suc, List, [], ◌∷◌, length, slice_get, IsSomeAnd, refl, sym, ◌∙◌, arith}
+use Rattle.std.proofs.Common.{◌≡◌, ◌≢◌, ℕ, refl, sym, ◌∙◌}
 use Rattle.elab_groups.specs.tasks.declared.signature.SymbolKind.{SymbolKind}
 use Rattle.elab_groups.specs.tasks.declared.signature.SymbolKind.TheVariants.{Kind, Predicate}
-use Rattle.elab_groups.specs.tasks.Task.{SymbolTree, symbol_or, int_symbol}
+use Rattle.elab_groups.specs.tasks.Task.{symbol_or, int_symbol}
 use Rattle.elab_groups.specs.tasks.Vocabulary.{Vocabulary}
 use Rattle.elab_groups.specs.tasks.Typing.{MakesTerms}
 use Rattle.clones.specs.Mapped.{Map}

@@ -5,7 +5,7 @@ use Rattle.std.specs.List.{list_any}
 use Rattle.std.proofs.lemmas.List.Elements.{All-append}
 use Rattle.elab_groups.specs.trees.Tree.{Tree}
 use Rattle.elab_groups.specs.trees.declared.TermId.{TermId}
-use Rattle.elab_groups.specs.trees.Node.{Grows, Holds, tree_at}
+use Rattle.elab_groups.specs.trees.Node.{Holds, tree_at}
 use Rattle.elab_groups.specs.trees.Sorts.{WellSorted}
 use Rattle.elab_groups.specs.tasks.declared.signature.SymbolKind.TheVariants.{Kind, Constructor}
 use Rattle.elab_groups.specs.tasks.declared.signature.Signature.{Signature}
@@ -16,6 +16,7 @@ use Rattle.elab_groups.specs.tasks.Vocabulary.{Vocabulary, passes, is_constructo
 use Rattle.elab_groups.specs.tasks.Valid.{IsValidDecl}
 use Rattle.elab_groups.proofs.tasks.Declared.{maker_made, made_maker, con_maker as con_some}
 use Rattle.elab_groups.specs.scopes.Names.{ScopeNames}
+use Rattle.elab_groups.specs.name_resolution.Naming.{scope_at}
 use Rattle.elab_groups.specs.surface.declared.declarations.PropKind.TheVariants as kind
 use Rattle.elab_groups.specs.surface.Declarations as source
 use Rattle.elab_groups.specs.declared.parts.made.Elaborated.{Elaborated}
@@ -206,7 +207,7 @@ makes_all n m ds new longer below between =
     let z = made_both ds new in
     rw z b
 
-module _ (c : Setting) (ds : List DeclarationTree) (x : Declaration) (g : Signature) (s : List Tree) (g' : Signature) (names : ScopeNames) (it : Elaborated) (h : IsTypedSetting (after c.symbols [] ds) c) (below : MakesBelow (length c.symbols) ds) (r : Grows c.trees s) (w : IsAlone x)
+module _ (c : Setting) (ds : List DeclarationTree) (x : Declaration) (g : Signature) (s : List Tree) (g' : Signature) (names : ScopeNames) (it : Elaborated) (h : IsTypedSetting (after c.symbols [] ds) c) (below : MakesBelow (length c.symbols) ds) (w : IsAlone x)
     (e : IsElaborated c x g s g' names it) where
   abbrev pub n : ℕ
   n = length c.symbols
@@ -218,7 +219,7 @@ module _ (c : Setting) (ds : List DeclarationTree) (x : Declaration) (g : Signat
   new = declarations_at s it.decls
 
   pub made' : IsMade c e.outcome
-  made' = outcome_made c s x e.outcome w e.is
+  made' = outcome_made c x e.outcome w e.is
 
   pub setting : (rigid : List ℕ) → ((k : ℕ) → k < n → list_any (λ j. j == k) rigid ≡ false) → IsTypedSetting (after all rigid (ds ++ new)) c
   setting rigid far =
@@ -234,19 +235,19 @@ module _ (c : Setting) (ds : List DeclarationTree) (x : Declaration) (g : Signat
   pub between : All (λ (k : ℕ). (n ≤ k) × (k < length all)) (made new)
   between = rw (e.symbols_are, e.decls) made'.between
 
-pub next_declaration : (c : Setting) (ds : List DeclarationTree) (d : source.SyntaxDeclaration) (x : Declaration) (g : Signature) (s : List Tree) (g' : Signature) (names : ScopeNames) (it : Elaborated) → IsTypedSetting (after c.symbols [] ds) c → MakesBelow (length c.symbols) ds → Grows c.trees s
+pub next_declaration : (c : Setting) (ds : List DeclarationTree) (d : source.SyntaxDeclaration) (x : Declaration) (g : Signature) (s : List Tree) (g' : Signature) (names : ScopeNames) (it : Elaborated) → IsTypedSetting (after c.symbols [] ds) c → MakesBelow (length c.symbols) ds
     → declaration d ≡ Some x → IsGroupWhole d → IsNoGoal d → IsElaborated c x g s g' names it → ((id : TermId) → Holds s id → WellSorted (tree_at s id)) → All (DeclHeld s) it.decls → HaveNoFault (symbols_at s g'.symbols) (declarations_at s it.decls)
-    → IsNextDeclaration s (symbols_at s g'.symbols) names ds (declarations_at s it.decls)
-next_declaration c ds d x g s g' names it h below r q w p e sorted held passes =
+    → IsNextDeclaration (symbols_at s g'.symbols) (scope_at s names) ds (declarations_at s it.decls)
+next_declaration c ds d x g s g' names it h below q w p e sorted held passes =
     let a = alone d x w q in
     let all' = symbols_at s g'.symbols in
     let new' = declarations_at s it.decls in
     let v = after all' [] (ds ++ new') in
-    let y : IsValidElaborated v s g' names it = elaborated_valid v c (setting c ds x g s g' names it h below r a e [] (λ k l. refl)) s r d x g g' names it q e sorted held passes (news c ds x g s g' names it h below r a e []) (needs_none d x p q v it.rigid) in
-    let single : length new' ≤ 1 = rw e.decls (made' c ds x g s g' names it h below r a e).single in
+    let y : IsValidElaborated v s g' names it = elaborated_valid v c (setting c ds x g s g' names it h below a e [] (λ k l. refl)) d x g s g' names it q e sorted held passes (news c ds x g s g' names it h below a e []) (needs_none d x p q v it.rigid) in
+    let single : length new' ≤ 1 = rw e.decls (made' c ds x g s g' names it h below a e).single in
     record {
       signature = y.signature;
       scopes = y.scopes;
       valid = valid_single all' ds new' single y.decls;
-      makes = makes_all (length c.symbols) (length all') ds new' (longer c ds x g s g' names it h below r a e) below (between c ds x g s g' names it h below r a e);
+      makes = makes_all (length c.symbols) (length all') ds new' (longer c ds x g s g' names it h below a e) below (between c ds x g s g' names it h below a e);
     }

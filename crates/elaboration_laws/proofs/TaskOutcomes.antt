@@ -64,18 +64,18 @@ module _ (theory : Word) where
       All-append Of (constructors_entries theory within (length a.vars) (own_type y.symbol (length a.vars)) a.constructors y.cons) (group_entries theory within ts ys)
       (constructors_of within (length a.vars) (own_type y.symbol (length a.vars)) a.constructors y.cons) (group_of within ts ys)
 
-module _ (c : Setting) (s : List Tree) (source : bytes_eq c.theory builtin ≡ false) (h : IsBuiltRight c.symbols) where
+module _ (c : Setting) (source : bytes_eq c.theory builtin ≡ false) (h : IsBuiltRight c.symbols) where
   sourced : (es : List SymbolTree) → All (OfTheory c.theory) es → All IsOfSource es
   sourced es a = λ k e l. let q : (get_or es k e).theory ≡ c.theory = a k e l in rw q source
 
   split_kept : (o : Outcome) (ns : List ℕ) (own : List SymbolTree) → o.symbols ≡ wanting_tuples c.symbols ns ++ own → All IsOfSource own → IsBuiltRight (c.symbols ++ o.symbols)
   split_kept o ns own q k = rw q (all_kept c.symbols own ns h k)
 
-  pub outcome_kept : (d : Declaration) (o : Outcome) → IsOutcome c s d o → IsBuiltRight (c.symbols ++ o.symbols)
+  pub outcome_kept : (d : Declaration) (o : Outcome) → IsOutcome c d o → IsBuiltRight (c.symbols ++ o.symbols)
   outcome_kept (abstract_type x vs) o e =
       let t = type_entry c.theory (full_name c x) (length vs) in
       split_kept o [] (t ∷ []) (ap (λ (i : Outcome). i.symbols) e) (All-cons IsOfSource t [] source (All-nil IsOfSource))
-  outcome_kept (alias x vs f) o e = let tuples = wanting_tuples c.symbols (alias_seen f).widths in split_kept o (alias_seen f).widths [] (e.symbols ∙ sym (append-nil tuples)) (All-nil IsOfSource)
+  outcome_kept (alias x vs f) o e = let tuples = wanting_tuples c.symbols (alias_seen f).widths in split_kept o (alias_seen f).widths [] (ap (λ (i : Outcome). i.symbols) e ∙ sym (append-nil tuples)) (All-nil IsOfSource)
   outcome_kept (proposition_declaration k x y) o e = split_kept o (proposition_seen y).widths (map rigid_symbol (rigid_names k (proposition_seen y).vars)) e.symbols (rigids_of (rigid_names k (proposition_seen y).vars))
   outcome_kept (algebraic ts) o e =
       let T = type_entries c.theory c.within ts in
@@ -87,7 +87,7 @@ module _ (c : Setting) (s : List Tree) (source : bytes_eq c.theory builtin ≡ f
       split_kept o (inductives_seen unseen ds).widths (signed_entries c.theory c.within (as_members ds) gs) e.symbols (sourced (signed_entries c.theory c.within (as_members ds) gs) (signed_of c.theory c.within (as_members ds) gs))
 
 pub elaborated_kept : (c : Setting) (d : Declaration) (g : Signature) (s : List Tree) (g' : Signature) (names : ScopeNames) (made : Elaborated) → bytes_eq c.theory builtin ≡ false → IsElaborated c d g s g' names made → IsBuiltRight c.symbols → IsBuiltRight (symbols_at s g'.symbols)
-elaborated_kept c d g s g' names made q e h = rw e.symbols_are (outcome_kept c s q h d e.outcome e.is)
+elaborated_kept c d g s g' names made q e h = rw e.symbols_are (outcome_kept c q h d e.outcome e.is)
 
 -- ---- at the beginning
 no_tuple : (n c : ℕ) → tuple_in (int_symbol ∷ []) n ≡ Some c → ⊥

@@ -4,8 +4,7 @@ use Rattle.std.specs.List.{Contains}
 use Rattle.std.specs.Option.{is_some, option_or}
 use Rattle.std.specs.Str.{bytes_eq}
 use Rattle.std.proofs.lemmas.List.Elements.{All-nil, All-cons, All-append, All-contains, Contains-append_left, Contains-append_right, Contains-append_cases}
-use Rattle.elab_groups.specs.tasks.declared.signature.SymbolKind.{SymbolKind}
-use Rattle.elab_groups.specs.tasks.declared.signature.SymbolKind.TheVariants.{Kind, Function, Predicate, Constructor, Projection}
+use Rattle.elab_groups.specs.tasks.declared.signature.SymbolKind.TheVariants.{Kind, Constructor}
 use Rattle.elab_groups.specs.tasks.Task.{SymbolTree, symbol_or, int_symbol, DeclarationTree, TaskTree, made, made_by, declared}
 use Rattle.elab_groups.specs.tasks.Roles.{is_constructor, is_made_by, maker, role_in, role_by}
 use Rattle.elab_groups.specs.tasks.Rigid.{rigid_symbol}

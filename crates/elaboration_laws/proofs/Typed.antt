@@ -1,9 +1,9 @@
 -- Over a signature of which each entry that has a theory may be named, what is elaborated is typed.
-use Rattle.std.proofs.Common.{◌≡◌, ◌⊎◌, inl, inr, ℕ, ◌-◌, ◌<◌, ◌≤◌, ◌&&◌, not, Bool, true, false, List, [], ◌∷◌, ◌++◌, map, length, get_or, slice_get, All, Some, IsTrue, refl, sym, ap, subst, ◌∙◌, arith, append_assoc}
+use Rattle.std.proofs.Common.{◌≡◌, ◌⊎◌, inl, inr, ℕ, ◌-◌, ◌<◌, ◌≤◌, ◌&&◌, not, true, false, List, [], ◌∷◌, ◌++◌, map, length, get_or, slice_get, All, Some, IsTrue, refl, sym, ap, subst, ◌∙◌, arith, append_assoc}
 use Rattle.std.specs.Str.{bytes_eq}
 use Rattle.std.proofs.lemmas.List.Elements.{All-nil, All-cons, All-append}
 use Rattle.elab_groups.specs.trees.Tree.{Tree}
-use Rattle.elab_groups.specs.trees.Node.{Grows, Holds, tree_at}
+use Rattle.elab_groups.specs.trees.Node.{Holds, tree_at}
 use Rattle.elab_groups.specs.trees.Sorts.{WellSorted}
 use Rattle.elab_groups.specs.trees.declared.TermId.{TermId}
 use Rattle.elab_groups.specs.tasks.declared.signature.SymbolKind.{SymbolKind}
@@ -14,6 +14,7 @@ use Rattle.elab_groups.specs.tasks.Task.{SymbolTree, int_symbol}
 use Rattle.elab_groups.specs.tasks.Meaning.{symbols_at, declarations_at, DeclHeld}
 use Rattle.elab_groups.specs.tasks.Vocabulary.{Vocabulary, of_signature, passes, is_empty, is_constructor_kind}
 use Rattle.elab_groups.specs.scopes.Names.{ScopeNames}
+use Rattle.elab_groups.specs.name_resolution.Naming.{scope_at}
 use Rattle.elab_groups.specs.surface.Lexeme.{Word}
 use Rattle.elab_groups.specs.surface.declared.declarations.PropKind.TheVariants as kind
 use Rattle.elab_groups.specs.surface.Declarations as source
@@ -54,18 +55,18 @@ rigid_placed : (names : List Word) → All IsPlaced (map rigid_symbol names)
 rigid_placed [] = All-nil IsPlaced
 rigid_placed (x ∷ xs) = All-cons IsPlaced (rigid_symbol x) (map rigid_symbol xs) (λ z. absurd (let q : Kind ≡ Constructor = z in cc)) (rigid_placed xs)
 
-module _ (c : Setting) (s : List Tree) (named : is_empty c.theory ≡ false) where
+module _ (c : Setting) (named : is_empty c.theory ≡ false) where
   tuples_then : (o : Outcome) (ns : List ℕ) (own : List SymbolTree) → o.symbols ≡ wanting_tuples c.symbols ns ++ own → All IsPlaced own → All IsPlaced o.symbols
   tuples_then o ns own q h = rw q (All-append IsPlaced (wanting_tuples c.symbols ns) own (of_theory builtin refl (wanting_tuples c.symbols ns) (tuples_built c.symbols ns)) h)
 
   own_placed : (es : List SymbolTree) → All (OfTheory c.theory) es → All IsPlaced es
   own_placed es h = of_theory c.theory named es h
 
-  outcome_placed : (d : Declaration) (o : Outcome) → IsOutcome c s d o → All IsPlaced o.symbols
+  outcome_placed : (d : Declaration) (o : Outcome) → IsOutcome c d o → All IsPlaced o.symbols
   outcome_placed (abstract_type x vs) o e =
       let t = type_entry c.theory (full_name c x) (length vs) in
       tuples_then o [] (t ∷ []) (ap (λ (i : Outcome). i.symbols) e) (own_placed (t ∷ []) (All-cons (OfTheory c.theory) t [] refl (All-nil (OfTheory c.theory))))
-  outcome_placed (alias x vs f) o e = rw e.symbols (of_theory builtin refl (wanting_tuples c.symbols (alias_seen f).widths) (tuples_built c.symbols (alias_seen f).widths))
+  outcome_placed (alias x vs f) o e = rw e (of_theory builtin refl (wanting_tuples c.symbols (alias_seen f).widths) (tuples_built c.symbols (alias_seen f).widths))
   outcome_placed (proposition_declaration k x y) o e = tuples_then o (proposition_seen y).widths (map rigid_symbol (rigid_names k (proposition_seen y).vars)) e.symbols (rigid_placed (rigid_names k (proposition_seen y).vars))
   outcome_placed (algebraic ts) o e =
       let T = type_entries c.theory c.within ts in
@@ -122,7 +123,7 @@ module _ (xs ys : List SymbolTree) where
 rigid_named : (symbols : List SymbolTree) (ks : List ℕ) → All (IsRigidAt symbols) ks → All (λ (k : ℕ). IsTrue ((of_signature symbols).rigid k)) ks
 rigid_named symbols ks h = λ i d l. let x : IsRigidAt symbols (get_or ks i d) = h i d l in let q = x.entry in rw q refl
 
-module _ (c : Setting) (x : Declaration) (g : Signature) (s : List Tree) (h : Signature) (names : ScopeNames) (it : Elaborated) (typed : IsTypedSetting (of_signature c.symbols) c) (r : Grows c.trees s) (e : IsElaborated c x g s h names it) where
+module _ (c : Setting) (x : Declaration) (g : Signature) (s : List Tree) (h : Signature) (names : ScopeNames) (it : Elaborated) (typed : IsTypedSetting (of_signature c.symbols) c) (e : IsElaborated c x g s h names it) where
   abbrev symbols : List SymbolTree
   symbols = symbols_at s h.symbols
 
@@ -133,7 +134,7 @@ module _ (c : Setting) (x : Declaration) (g : Signature) (s : List Tree) (h : Si
   stands = let q = e.symbols_are in rw q (agrees (of_signature c.symbols) (of_signature (c.symbols ++ e.outcome.symbols)) c (agree c.symbols e.outcome.symbols) typed)
 
   news : NamesNew v (length c.symbols) symbols
-  news = let q = e.symbols_are in rw q (new_named c.symbols e.outcome.symbols (outcome_placed c s typed.theory x e.outcome e.is))
+  news = let q = e.symbols_are in rw q (new_named c.symbols e.outcome.symbols (outcome_placed c typed.theory x e.outcome e.is))
 
   fit : (m : ℕ × List Tree) → ArePatterns v m.1 → IsFitMatch symbols m
   fit m p = record {
@@ -142,10 +143,10 @@ module _ (c : Setting) (x : Declaration) (g : Signature) (s : List Tree) (h : Si
   }
 
   pub matches_fitting : All (IsFitMatch symbols) (map (match_at s) it.matches)
-  matches_fitting = λ k d l. fit (get_or (map (match_at s) it.matches) k d) (elaborated_patterns v c stands s r x g h names it e news k d l)
+  matches_fitting = λ k d l. fit (get_or (map (match_at s) it.matches) k d) (elaborated_patterns v c stands x g s h names it e news k d l)
 
   -- the type variables of a goal
-  goal_named : (y : Declaration) (o : Outcome) → IsOutcome c s y o → symbols ≡ c.symbols ++ o.symbols → MayNameRigid v y o.rigid
+  goal_named : (y : Declaration) (o : Outcome) → IsOutcome c y o → symbols ≡ c.symbols ++ o.symbols → MayNameRigid v y o.rigid
   goal_named (proposition_declaration kind.Goal z y) o p q =
       let i : IsProposition c kind.Goal z y o = p in
       let tuples = tuples_wanting c (proposition_seen y) in
@@ -160,8 +161,8 @@ module _ (c : Setting) (x : Declaration) (g : Signature) (s : List Tree) (h : Si
   goal_named (member_group ms) o p q = tt
   goal_named (inductive ds) o p q = tt
 
-  pub setting_kept : (d : source.SyntaxDeclaration) → declaration d ≡ Some x → ((id : TermId) → Holds s id → WellSorted (tree_at s id)) → All (DeclHeld s) it.decls → HaveNoFault symbols (declarations_at s it.decls) → IsTypedOver s symbols names
+  pub setting_kept : (d : source.SyntaxDeclaration) → declaration d ≡ Some x → ((id : TermId) → Holds s id → WellSorted (tree_at s id)) → All (DeclHeld s) it.decls → HaveNoFault symbols (declarations_at s it.decls) → IsTypedOver symbols (scope_at s names)
   setting_kept d q sorted held passes =
       let may : MayNameRigid v x it.rigid = subst (MayNameRigid v x) (sym e.rigid) (goal_named x e.outcome e.is e.symbols_are) in
-      let y = elaborated_valid v c stands s r d x g h names it q e sorted held passes news may in
+      let y = elaborated_valid v c stands d x g s h names it q e sorted held passes news may in
       record { signature = y.signature; scopes = y.scopes }

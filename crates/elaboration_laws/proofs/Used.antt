@@ -4,10 +4,7 @@ use Rattle.std.specs.List.{Contains}
 use Rattle.std.specs.Str.{bytes_eq}
 use Rattle.std.proofs.lemmas.List.{take-append-le}
 use Rattle.std.proofs.lemmas.List.Elements.{All-append, All-contains, All-head, All-tail, Contains-get_or, filter-append}
-use Rattle.elab_groups.specs.trees.Tree.{Tree}
-use Rattle.elab_groups.specs.trees.Node.{Grows}
 use Rattle.elab_groups.specs.tasks.Task.{SymbolTree, DeclarationTree}
-use Rattle.elab_groups.specs.tasks.Vocabulary.{Vocabulary}
 use Rattle.elab_groups.specs.surface.declared.declarations.Link.{Link}
 use Rattle.theory_states.specs.Moves.{brought, handed}
 use Rattle.theory_states.specs.goal_tasks.Theories.{GoalTree}
@@ -25,11 +22,7 @@ use Rattle.theory_states.specs.States.{KnownTree, OpenedTree, at_places, joined_
 use Rattle.theory_states.specs.Uses.{theory_used}
 use Rattle.elaboration_laws.specs.Sound.{is_other, others, IsSoundAmong, IsSoundTheory, IsSoundOpened}
 use Rattle.elaboration_laws.proofs.Places.{cases_of, here, joined_cases, joined_old, joined_distinct, places_agree, places_joined, joined_whole}
-use Rattle.elab_groups.proofs.trees.Nodes.{Grows_refl as grows_itself}
 use Rattle.elaboration_laws.proofs.Numbers.{later}
-
-pub is_part_itself : (v : Vocabulary) → IsSubvocabulary v v
-is_part_itself v = record { entries = λ k e q. q; rigid = λ k e q h. h; usable = λ k e q h. h; matched = λ k e q h. h }
 
 -- ---- declarations of other theories
 module _ (path : List ℕ) where
@@ -111,8 +104,8 @@ among_more symbols xs ys g h =
     record { before = omega (arith, l, b); sound = subst (λ (ds : List DeclarationTree). IsSoundAfter symbols ds g) (sym (take-append-le g.before xs ys h.before)) h.sound }
 
 -- ---- a use
-module _ (s : List Tree) (xs ys : List SymbolTree) (decls : List DeclarationTree) (o : OpenedTree) (h : IsSoundOpened s (xs ++ ys) decls o) (t : KnownTree)
-    (k : IsSoundTheory s (xs ++ ys) xs decls t.path t.visible t.axioms t.goals t.moves) (apart : All (λ (d : DeclarationTree). d.theory ≢ o.path) (at_places decls t.visible)) where
+module _ (xs ys : List SymbolTree) (decls : List DeclarationTree) (o : OpenedTree) (h : IsSoundOpened (xs ++ ys) decls o) (t : KnownTree)
+    (k : IsSoundTheory (xs ++ ys) xs decls t.path t.visible t.axioms t.goals t.moves) (apart : All (λ (d : DeclarationTree). d.theory ≢ o.path) (at_places decls t.visible)) where
   abbrev all : List SymbolTree
   all = xs ++ ys
 
@@ -146,8 +139,8 @@ module _ (s : List Tree) (xs ys : List SymbolTree) (decls : List DeclarationTree
   new_others : AreSound all (others o.path both)
   new_others = subst (AreSound all) (sym (others_joined o.path ds es strange)) (later_sound xs ys old_others es h.theory.others k.sound (others_agree o.path ds es strange agree))
 
-  handed_on : (link : Link) → AreTypedMoves (after all [] both) s (handed link t.moves)
-  handed_on link = handed_typed (after all [] both) s link t.moves (moves_more (after xs [] es) (after all [] both) second s s (grows_itself s) t.moves k.typed_moves)
+  handed_on : (link : Link) → AreTypedMoves (after all [] both) (handed link t.moves)
+  handed_on link = handed_typed (after all [] both) link t.moves (moves_more (after xs [] es) (after all [] both) second t.moves k.typed_moves)
 
   below : All (λ (i : ℕ). i < length decls) (joined_places o.visible t.visible)
   below = λ i d l. of (get_or (joined_places o.visible t.visible) i d) (joined_cases o.visible t.visible (get_or (joined_places o.visible t.visible) i d) (Contains-get_or (joined_places o.visible t.visible) i d l))
@@ -156,13 +149,13 @@ module _ (s : List Tree) (xs ys : List SymbolTree) (decls : List DeclarationTree
       of j (inl c) = All-contains (λ (i : ℕ). i < length decls) o.visible j h.theory.below c
       of j (inr c) = All-contains (λ (i : ℕ). i < length decls) t.visible j k.below c
 
-  used_theory : (link : Link) → IsSoundTheory s all all decls o.path (joined_places o.visible t.visible) o.axioms o.goals (o.moves ++ handed link t.moves)
+  used_theory : (link : Link) → IsSoundTheory all all decls o.path (joined_places o.visible t.visible) o.axioms o.goals (o.moves ++ handed link t.moves)
   used_theory link = record {
     sound = subst (AreSound all) (sym join) (later_sound xs ys ds es h.theory.sound k.sound agree);
     others = subst (λ (zs : List DeclarationTree). AreSound all (others o.path zs)) (sym join) new_others;
     signature = subst (λ (zs : List DeclarationTree). IsTypedSignature (after all [] zs) all) (sym join) (later_typed xs ys ds es h.theory.sound k.sound agree h.theory.signature k.signature);
-    typed_moves = subst (λ (zs : List DeclarationTree). AreTypedMoves (after all [] zs) s (o.moves ++ handed link t.moves)) (sym join)
-        (All-append (IsTypedMove (after all [] both) s) o.moves (handed link t.moves) (moves_more (after all [] ds) (after all [] both) first s s (grows_itself s) o.moves h.theory.typed_moves) (handed_on link));
+    typed_moves = subst (λ (zs : List DeclarationTree). AreTypedMoves (after all [] zs) (o.moves ++ handed link t.moves)) (sym join)
+        (All-append (IsTypedMove (after all [] both)) o.moves (handed link t.moves) (moves_more (after all [] ds) (after all [] both) first o.moves h.theory.typed_moves) (handed_on link));
     sound_goals = λ i g l. subst (λ (zs : List DeclarationTree). IsSoundAmong all zs (get_or o.goals i g)) (sym join) (among_more all ds (fresh ds es) (get_or o.goals i g) (h.theory.sound_goals i g l));
     sound_axioms = h.theory.sound_axioms;
     below = below;
@@ -170,13 +163,13 @@ module _ (s : List Tree) (xs ys : List SymbolTree) (decls : List DeclarationTree
     whole = joined_whole decls o.visible t.visible h.theory.whole k.whole;
   }
 
-  pub used_sound : (link : Link) (last : List ℕ) (alias : Option (List ℕ)) → IsSoundOpened s all decls (theory_used link last alias t o)
+  pub used_sound : (link : Link) (last : List ℕ) (alias : Option (List ℕ)) → IsSoundOpened all decls (theory_used link last alias t o)
   used_sound link last alias = record {
     named = h.named;
     source = h.source;
     theory = used_theory link;
-    scopes = subst (λ (zs : List DeclarationTree). AreTypedScopes (after all [] zs) s (brought link last alias t.moves o.scope)) (sym join)
-        (brought_typed (after all [] both) s link last alias t.moves o.scope (moves_more (after xs [] es) (after all [] both) second s s (grows_itself s) t.moves k.typed_moves)
-        (scopes_part (after all [] ds) (after all [] both) first s s (grows_itself s) o.scope h.scopes));
+    scopes = subst (λ (zs : List DeclarationTree). AreTypedScopes (after all [] zs) (brought link last alias t.moves o.scope)) (sym join)
+        (brought_typed (after all [] both) link last alias t.moves o.scope (moves_more (after xs [] es) (after all [] both) second t.moves k.typed_moves)
+        (scopes_part (after all [] ds) (after all [] both) first o.scope h.scopes));
     own = λ j d q e. joined_old o.visible t.visible j (h.own j d q e);
   }

@@ -1,8 +1,8 @@
 -- What sound declarations make has types over what they make.
-use Rattle.std.proofs.Common.{◌≡◌, ◌⊎◌, inl, inr, ℕ, ◌<◌, ◌||◌, zero, suc, Bool, true, false, List, [], ◌∷◌, length, slice_get, Contains, Option, Some, IsTrue, refl, sym, subst}
+use Rattle.std.proofs.Common.{◌≡◌, ◌⊎◌, inl, inr, ℕ, ◌<◌, ◌||◌, Bool, true, false, List, [], length, slice_get, Contains, Option, Some, IsTrue, refl, subst}
 use Rattle.std.specs.Option.{is_some}
 use Rattle.std.proofs.lemmas.List.Elements.{All-contains}
-use Rattle.elab_groups.specs.tasks.Task.{SymbolTree, symbol_or, DeclarationTree, made}
+use Rattle.elab_groups.specs.tasks.Task.{SymbolTree, DeclarationTree, made}
 use Rattle.elab_groups.specs.tasks.Roles.{maker}
 use Rattle.elab_groups.specs.tasks.Vocabulary.{Vocabulary, passes}
 use Rattle.elab_groups.specs.tasks.Typing.{entry}

@@ -2,12 +2,10 @@
 -- "theory cloning").
 use Rattle.std.specs.Prelude.{◌≡◌, ◌≢◌, ◌⊎◌, ℕ, ◌<◌, ◌≤◌, List, [], ◌++◌, length, slice_get, All, AllPairs, Option, Some}
 use Rattle.std.specs.List.{Contains}
-use Rattle.elab_groups.specs.trees.Node.{Grows}
 use Rattle.elab_groups.specs.tasks.Task.{SymbolTree, DeclarationTree}
 use Rattle.clones.specs.Mapped.{Map}
 use Rattle.elab_groups.specs.surface.declared.declarations.Link.{Link}
-use Rattle.theory_states.specs.declared.moves.Move.{Move}
-use Rattle.theory_states.specs.Moves.{brought, handed}
+use Rattle.theory_states.specs.Moves.{MoveTree, brought, handed}
 use Rattle.elab_groups.specs.open_types.Scoped.{IsScopedEntry}
 use Rattle.elaboration_laws.specs.Moves.{AreTypedMoves}
 use Rattle.elaboration_laws.specs.Lists.{after}
@@ -38,8 +36,7 @@ pub record AreClonedPlaces (c c' : StateTree) (t : KnownTree) : Type 0 where
 pub record IsAfterClone (c c' : StateTree) (t : KnownTree) (tuples more : List SymbolTree)
     (new : List DeclarationTree) (m : Map) (within : List ℕ) (ss : List CopyStep)
     (axioms : List AxiomAt) (goals : List GoalTree) (link : Link) (last : List ℕ)
-    (alias : Option (List ℕ)) (moves : List Move) : Type 0 where
-  pub trees : Grows c.trees c'.trees
+    (alias : Option (List ℕ)) (moves : List MoveTree) : Type 0 where
   pub symbols : c'.symbols ≡ (c.symbols ++ tuples) ++ more
   pub decls : c'.decls ≡ c.decls ++ new
   pub of : All (λ (d : DeclarationTree). d.theory ≡ c.opened.path) new
@@ -58,13 +55,13 @@ pub record IsAfterClone (c c' : StateTree) (t : KnownTree) (tuples more : List S
 -- the map fits, and what the clone adds is sound after it
 pub record IsSoundClone (c c' : StateTree) (tuples more : List SymbolTree) (m : Map)
     (within : List ℕ) (ss : List CopyStep) (axioms : List AxiomAt) (goals : List GoalTree)
-    (moves : List Move) : Type 0 where
+    (moves : List MoveTree) : Type 0 where
   pub tupled : IsBuiltRight (c.symbols ++ tuples)
   pub built : IsBuiltRight c'.symbols
   pub scoped : All IsScopedEntry c'.symbols
   pub keeps : KeepsBuilt (c.symbols ++ tuples) m
   pub fit : All (StepFits (c.symbols ++ tuples) m ((c.symbols ++ tuples) ++ more) c.opened.path
       within (visible_now c)) ss
-  pub typed_moves : AreTypedMoves (after c'.symbols [] (visible_now c')) c'.trees moves
+  pub typed_moves : AreTypedMoves (after c'.symbols [] (visible_now c')) moves
   pub sound_goals : All (IsSoundAmong c'.symbols (visible_now c')) goals
   pub sound_axioms : All (IsSoundAxiom c'.decls) axioms

@@ -36,7 +36,6 @@ pub mod Steps
 pub mod Entries
 pub mod Cloned
 pub mod PlaceSteps
-pub mod Unaliased
 pub mod Typings
 pub mod Checked
 pub mod UsedNames

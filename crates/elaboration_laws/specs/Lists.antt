@@ -4,13 +4,12 @@ use Rattle.std.specs.Prelude.{◌≡◌, ℕ, ◌<◌, ◌==◌, not, ◌&&◌, 
 use Rattle.std.specs.List.{list_any}
 use Rattle.std.specs.Option.{is_some}
 use Rattle.std.specs.Str.{bytes_eq}
-use Rattle.elab_groups.specs.trees.Tree.{Tree}
 use Rattle.elab_groups.specs.tasks.Task.{SymbolTree, DeclarationTree, made}
 use Rattle.elab_groups.specs.tasks.Roles.{is_constructor, maker, role_by}
 use Rattle.elab_groups.specs.tasks.Rigid.{rigid_symbol}
 use Rattle.elab_groups.specs.tasks.Vocabulary.{Vocabulary, passes, is_constructor_kind}
 use Rattle.elab_groups.specs.tasks.Valid.{IsValidDecl}
-use Rattle.elab_groups.specs.scopes.Names.{ScopeNames}
+use Rattle.elab_groups.specs.name_resolution.Where.{NamesTree}
 use Rattle.elab_groups.specs.surface.declared.declarations.PropKind.TheVariants.{Goal}
 use Rattle.elab_groups.specs.surface.Declarations.{SyntaxDeclaration, function_decl, predicate_decl, prop_decl}
 use Rattle.elab_groups.specs.parts.Entries.{builtin}
@@ -54,11 +53,11 @@ IsGroupWhole (function_decl a c ps f None ms) = ms ≡ []
 IsGroupWhole (predicate_decl a c ps None ms) = ms ≡ []
 IsGroupWhole _ = Unit {0}
 
--- one more declaration is after others, over a store
-pub record IsNextDeclaration (s : List Tree) (symbols : List SymbolTree) (names : ScopeNames)
+-- one more declaration is after others
+pub record IsNextDeclaration (symbols : List SymbolTree) (names : NamesTree)
     (ds new : List DeclarationTree) : Type 0 where
   pub signature : IsTypedSignature (after symbols [] (ds ++ new)) symbols
-  pub scopes : AreTypedScopes (after symbols [] (ds ++ new)) s names
+  pub scopes : AreTypedScopes (after symbols [] (ds ++ new)) names
   pub valid : AreValidAfter symbols ds new
   pub makes : MakesBelow (length symbols) (ds ++ new)
 
@@ -67,12 +66,11 @@ pub record IsRigidAt (symbols : List SymbolTree) (k : ℕ) : Type 0 where
   pub name : List ℕ
   pub entry : slice_get symbols k ≡ Some (rigid_symbol name)
 
--- a goal is after declarations, over a store: it makes nothing, and its type variables may be named
--- in it alone
-pub record IsNextGoal (s : List Tree) (symbols : List SymbolTree) (names : ScopeNames)
-    (ds : List DeclarationTree) (own : List ℕ) (said : List DeclarationTree) : Type 0 where
+-- a goal is after declarations: it makes nothing, and its type variables may be named in it alone
+pub record IsNextGoal (symbols : List SymbolTree) (names : NamesTree) (ds : List DeclarationTree)
+    (own : List ℕ) (said : List DeclarationTree) : Type 0 where
   pub signature : IsTypedSignature (after symbols [] ds) symbols
-  pub scopes : AreTypedScopes (after symbols [] ds) s names
+  pub scopes : AreTypedScopes (after symbols [] ds) names
   pub valid : All (IsValidDecl (after symbols own ds)) said
   pub makes : MakesBelow (length symbols) ds
   pub rigid : All (IsRigidAt symbols) own

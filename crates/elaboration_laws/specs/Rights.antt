@@ -21,6 +21,6 @@ with_tuples c f = c.symbols ++ wanting_tuples c.symbols (form_seen unseen f).wid
 pub record IsTypedForm (base : Vocabulary) (c : Setting) (vars : List Word)
     (f : TypeExpression) : Type 0 where
   pub type : IsTypeIn (with_entries base (with_tuples c f)) (length vars)
-      (type_at (over c.trees (with_tuples c f) c.scope vars) f)
+      (type_at (over (with_tuples c f) c.scope vars) f)
   pub signature : IsTypedSignature base (with_tuples c f)
-  pub scopes : AreTypedScopes (with_entries base (with_tuples c f)) c.trees c.scope
+  pub scopes : AreTypedScopes (with_entries base (with_tuples c f)) c.scope

@@ -2,7 +2,6 @@
 -- for entries of their kind.
 use Rattle.std.specs.Prelude.{◌≡◌, ◌≢◌, ℕ, ◌<◌, ◌≤◌, Bool, true, false, not, ◌&&◌, List, length, slice_get, All, Some, IsSomeAnd, IsTrue}
 use Rattle.elab_groups.specs.trees.Tree.{Tree}
-use Rattle.elab_groups.specs.trees.Node.{tree_at, Holds}
 use Rattle.std.specs.Str.{bytes_eq}
 use Rattle.elab_groups.specs.tasks.declared.signature.SymbolKind.{SymbolKind}
 use Rattle.elab_groups.specs.tasks.declared.signature.SymbolKind.TheVariants.{Kind, Constructor, Projection}
@@ -10,10 +9,11 @@ use Rattle.elab_groups.specs.tasks.Task.{SymbolTree, int_symbol, symbol_or}
 use Rattle.elab_groups.specs.tasks.Vocabulary.{Vocabulary, is_empty}
 use Rattle.elab_groups.specs.tasks.Typing.{entry, MakesTerms}
 use Rattle.elab_groups.specs.tasks.Valid.{IsTypeIn, HasTypes}
-use Rattle.elab_groups.specs.scopes.Names.{ScopeNames, ScopeEntry, number_of, TypeName}
+use Rattle.elab_groups.specs.scopes.Names.{EntryOf}
 use Rattle.elab_groups.specs.scopes.declared.Table.{Table}
 use Rattle.elab_groups.specs.scopes.declared.Table.TheVariants.{Types, Symbols}
 use Rattle.elab_groups.specs.scopes.declared.Referent.TheVariants as stands
+use Rattle.elab_groups.specs.name_resolution.Where.{MeaningTree, NamesTree}
 use Rattle.elab_groups.specs.open_types.Scoped.{IsScopedEntry}
 use Rattle.elab_groups.specs.parts.Entries.{builtin, is_tuple}
 use Rattle.elaboration_laws.specs.Signature.{with_entries}
@@ -87,23 +87,28 @@ pub record IsSymbolNumber (v : Vocabulary) (k : ℕ) : Type 0 where
   pub usable : IsTrue (v.usable k)
   pub kind : (symbol_or v.symbols k).kind ≢ Kind
 
--- the type of an alias, held in the store
-pub record IsAliased (v : Vocabulary) (s : List Tree) (vars ty : ℕ) : Type 0 where
-  pub held : Holds s (record { 0 = ty })
-  pub type : IsTypeIn v vars (tree_at s (record { 0 = ty }))
+-- what the name of a type stands for: a type symbol, or a type
+abbrev pub IsTypeName : Vocabulary → MeaningTree → Type 0
+IsTypeName v (stands.Entry k) = IsTypeNumber v k
+IsTypeName v (stands.Alias vars t) = IsTypeIn v vars t
 
--- what the name of a type stands for
-abbrev pub IsTypeName : Vocabulary → List Tree → TypeName → Type 0
-IsTypeName v s (stands.Entry k) = IsTypeNumber v k
-IsTypeName v s (stands.Alias vars ty) = IsAliased v s vars ty
+-- that of another symbol stands for no type
+abbrev pub IsNameOfSymbol : Vocabulary → MeaningTree → Type 0
+IsNameOfSymbol v (stands.Entry k) = IsSymbolNumber v k
+IsNameOfSymbol v (stands.Alias vars t) = ⊥
+
+-- nor does that of a proposition or a scope
+abbrev pub IsEntryName : MeaningTree → Type 0
+IsEntryName (stands.Entry k) = Unit {0}
+IsEntryName (stands.Alias vars t) = ⊥
 
 -- what a name in a table stands for
-abbrev pub IsTypedThing : Vocabulary → List Tree → Table → TypeName → Type 0
-IsTypedThing v s Types thing = IsTypeName v s thing
-IsTypedThing v s Symbols thing = IsSymbolNumber v (number_of thing)
-IsTypedThing v s _ thing = Unit {0}
+abbrev pub IsTypedThing : Vocabulary → Table → MeaningTree → Type 0
+IsTypedThing v Types thing = IsTypeName v thing
+IsTypedThing v Symbols thing = IsNameOfSymbol v thing
+IsTypedThing v _ thing = IsEntryName thing
 
-abbrev pub AreTypedScopes : Vocabulary → List Tree → ScopeNames → Type 0
-AreTypedScopes v s names = All
-    (λ (es : List ScopeEntry). All (λ (e : ScopeEntry). IsTypedThing v s e.table e.thing) es)
+abbrev pub AreTypedScopes : Vocabulary → NamesTree → Type 0
+AreTypedScopes v names = All
+    (λ (es : List (EntryOf Tree)). All (λ (e : EntryOf Tree). IsTypedThing v e.table e.thing) es)
     names.entries

@@ -19,7 +19,7 @@ with_rights c es = record c { symbols = c.symbols ++ rights_tuples c.symbols es 
 -- the left sides name declarations of a theory
 abbrev pub left_sides_at : Setting → Origin → List Element → List SideTree
 left_sides_at c t es =
-    sides_made (λ x. last_place c.symbols t x None t.own) c.trees c.symbols c.scope es
+    sides_made (λ x. last_place c.symbols t x None t.own) c.symbols c.scope es
 
 -- the type on the right is one at the type variables on the left
 abbrev pub IsTypedRight : Vocabulary → Element → RightTree → Type 0

@@ -8,7 +8,8 @@ use Rattle.elab_groups.specs.tasks.Vocabulary.{Vocabulary}
 use Rattle.elab_groups.specs.tasks.Typing.{MakesTerms}
 use Rattle.elab_groups.specs.tasks.Valid.{IsTypeIn, IsTypeEntry, IsSignatureOf}
 use Rattle.elab_groups.specs.name_resolution.Abstract.{TypeExpression, TypeExpressions, variable_type, composed_type, product_type, no_types, more_types, Pattern, Patterns, wildcard_pattern, variable_pattern, constructor_pattern, tuple_pattern, alias_pattern, no_patterns, more_patterns, Alternatives, no_alternatives, more_alternatives, BoundNames, Expression, Expressions, MatchBranches, applied_expression, infix_expression, integer_expression, true_expression, false_expression, tuple_expression, cast_expression, not_expression, connected_expression, equality_expression, if_expression, let_expression, match_expression, quantified_expression, no_expressions, more_expressions, no_branches, more_branches, count_forms, count_patterns, count_expressions}
-use Rattle.elab_groups.specs.name_resolution.Where.{Where, MeaningTree, Stands, Abbreviates}
+use Rattle.elab_groups.specs.name_resolution.Where.{Where, MeaningTree}
+use Rattle.elab_groups.specs.scopes.declared.Referent.TheVariants as stands
 
 -- what may be named stays, over these entries
 abbrev pub with_entries : Vocabulary → List SymbolTree → Vocabulary
@@ -30,8 +31,8 @@ pub record IsTuple (v : Vocabulary) (n k : ℕ) : Type 0 where
 
 -- a type symbol, or a type at so many type variables
 abbrev pub IsMeaning : Vocabulary → MeaningTree → Type 0
-IsMeaning v (Stands k) = IsTrue (v.usable k) × IsTypeEntry v k
-IsMeaning v (Abbreviates vars t) = IsTypeIn v vars t
+IsMeaning v (stands.Entry k) = IsTrue (v.usable k) × IsTypeEntry v k
+IsMeaning v (stands.Alias vars t) = IsTypeIn v vars t
 
 -- entry 0 is `int` and may be named; names stand for types over the signature, and for symbols
 -- whose types are over it; a pattern may name each constructor that may be named

@@ -4,8 +4,6 @@
 use Rattle.std.specs.Prelude.{◌≡◌, ◌≢◌, ℕ, ◌<◌, ◌≤◌, not, Bool, false, List, [], ◌∷◌, ◌++◌, map, length, slice_get, take, All, AllPairs, Some}
 use Rattle.std.specs.List.{filter, Contains, range_with_len}
 use Rattle.std.specs.Str.{bytes_eq}
-use Rattle.elab_groups.specs.trees.Tree.{Tree}
-use Rattle.elab_groups.specs.trees.Node.{Grows}
 use Rattle.elab_groups.specs.tasks.Task.{SymbolTree, DeclarationTree}
 use Rattle.elab_groups.specs.tasks.Vocabulary.{is_empty}
 use Rattle.elab_groups.specs.tasks.Valid.{IsQuoted}
@@ -15,7 +13,7 @@ use Rattle.elaboration_laws.specs.Scopes.{IsTypedSignature, AreTypedScopes}
 use Rattle.elaboration_laws.specs.Moves.{AreTypedMoves}
 use Rattle.elaboration_laws.specs.Lists.{after}
 use Rattle.theory_states.specs.goal_tasks.Theories.{GoalTree}
-use Rattle.theory_states.specs.declared.moves.Move.{Move}
+use Rattle.theory_states.specs.Moves.{MoveTree}
 use Rattle.elaboration_laws.specs.Built.{IsBuiltRight}
 use Rattle.elaboration_laws.specs.Tasks.{AreSound, IsSoundAfter}
 use Rattle.theory_states.specs.declared.states.AxiomAt.{AxiomAt}
@@ -43,13 +41,13 @@ pub record IsSoundAxiom (decls : List DeclarationTree) (a : AxiomAt) : Type 0 wh
 
 -- a theory over a signature, of which all entries by now are more, with the places of its
 -- declarations, its goals and moves; the declarations of other theories are sound by themselves
-pub record IsSoundTheory (s : List Tree) (all symbols : List SymbolTree)
-    (decls : List DeclarationTree) (path visible : List ℕ) (axioms : List AxiomAt)
-    (goals : List GoalTree) (moves : List Move) : Type 0 where
+pub record IsSoundTheory (all symbols : List SymbolTree) (decls : List DeclarationTree)
+    (path visible : List ℕ) (axioms : List AxiomAt) (goals : List GoalTree)
+    (moves : List MoveTree) : Type 0 where
   pub sound : AreSound symbols (at_places decls visible)
   pub others : AreSound symbols (others path (at_places decls visible))
   pub signature : IsTypedSignature (after symbols [] (at_places decls visible)) symbols
-  pub typed_moves : AreTypedMoves (after symbols [] (at_places decls visible)) s moves
+  pub typed_moves : AreTypedMoves (after symbols [] (at_places decls visible)) moves
   pub sound_goals : All (IsSoundAmong all (at_places decls visible)) goals
   pub sound_axioms : All (IsSoundAxiom decls) axioms
   pub below : All (λ (k : ℕ). k < length decls) visible
@@ -57,24 +55,24 @@ pub record IsSoundTheory (s : List Tree) (all symbols : List SymbolTree)
   pub whole : IsWhole decls visible
 
 -- a theory before the open one
-pub record IsSoundKnown (s : List Tree) (all : List SymbolTree) (decls : List DeclarationTree)
+pub record IsSoundKnown (all : List SymbolTree) (decls : List DeclarationTree)
     (t : KnownTree) : Type 0 where
   pub earlier : List SymbolTree
   pub later : List SymbolTree
   pub symbols : all ≡ earlier ++ later
-  pub theory : IsSoundTheory s all earlier decls t.path t.visible t.axioms t.goals t.moves
+  pub theory : IsSoundTheory all earlier decls t.path t.visible t.axioms t.goals t.moves
 
 -- none of its declarations is of a theory
 abbrev pub IsApart : List DeclarationTree → List ℕ → KnownTree → Type 0
 IsApart decls path t = All (λ (d : DeclarationTree). d.theory ≢ path) (at_places decls t.visible)
 
 -- the open theory, whose own declarations are all visible
-pub record IsSoundOpened (s : List Tree) (all : List SymbolTree) (decls : List DeclarationTree)
+pub record IsSoundOpened (all : List SymbolTree) (decls : List DeclarationTree)
     (o : OpenedTree) : Type 0 where
   pub named : is_empty o.path ≡ false
   pub source : bytes_eq o.path builtin ≡ false
-  pub theory : IsSoundTheory s all all decls o.path o.visible o.axioms o.goals o.moves
-  pub scopes : AreTypedScopes (after all [] (at_places decls o.visible)) s o.scope
+  pub theory : IsSoundTheory all all decls o.path o.visible o.axioms o.goals o.moves
+  pub scopes : AreTypedScopes (after all [] (at_places decls o.visible)) o.scope
   pub own : (k : ℕ) (d : DeclarationTree) → slice_get decls k ≡ Some d → d.theory ≡ o.path
       → Contains o.visible k
 
@@ -86,24 +84,23 @@ abbrev pub AreOf : List (List ℕ) → List DeclarationTree → Type 0
 AreOf ps ds = All (λ (d : DeclarationTree). Contains ps d.theory) ds
 
 pub record IsSoundState (c : StateTree) : Type 0 where
-  pub opened : IsSoundOpened c.trees c.symbols c.decls c.opened
-  pub known : All (IsSoundKnown c.trees c.symbols c.decls) c.known
+  pub opened : IsSoundOpened c.symbols c.decls c.opened
+  pub known : All (IsSoundKnown c.symbols c.decls) c.known
   pub apart : All (IsApart c.decls c.opened.path) c.known
   pub of : AreOf (c.opened.path ∷ paths c.known) c.decls
 
 -- theories, where none is open
-pub record AreSoundTheories (s : List Tree) (symbols : List SymbolTree)
-    (decls : List DeclarationTree) (ts : List KnownTree) : Type 0 where
+pub record AreSoundTheories (symbols : List SymbolTree) (decls : List DeclarationTree)
+    (ts : List KnownTree) : Type 0 where
   pub built : IsBuiltRight symbols
   pub scoped : All IsScopedEntry symbols
-  pub known : All (IsSoundKnown s symbols decls) ts
+  pub known : All (IsSoundKnown symbols decls) ts
   pub of : AreOf (paths ts) decls
 
 -- a state after another one in the same theory, with further entries, declarations of the theory,
 -- axioms, goals and moves
 pub record IsAfter (c c' : StateTree) (more : List SymbolTree) (new : List DeclarationTree)
-    (axioms : List AxiomAt) (goals : List GoalTree) (moves : List Move) : Type 0 where
-  pub trees : Grows c.trees c'.trees
+    (axioms : List AxiomAt) (goals : List GoalTree) (moves : List MoveTree) : Type 0 where
   pub symbols : c'.symbols ≡ c.symbols ++ more
   pub decls : c'.decls ≡ c.decls ++ new
   pub of : All (λ (d : DeclarationTree). d.theory ≡ c.opened.path) new
@@ -116,10 +113,10 @@ pub record IsAfter (c c' : StateTree) (more : List SymbolTree) (new : List Decla
 
 -- these, and the scope, are sound after what was visible
 pub record IsSoundAddition (c c' : StateTree) (new : List DeclarationTree) (axioms : List AxiomAt)
-    (goals : List GoalTree) (moves : List Move) : Type 0 where
+    (goals : List GoalTree) (moves : List MoveTree) : Type 0 where
   pub sound : AreSound c'.symbols (visible_now c ++ new)
   pub signature : IsTypedSignature (after c'.symbols [] (visible_now c ++ new)) c'.symbols
-  pub scopes : AreTypedScopes (after c'.symbols [] (visible_now c ++ new)) c'.trees c'.opened.scope
-  pub typed_moves : AreTypedMoves (after c'.symbols [] (visible_now c ++ new)) c'.trees moves
+  pub scopes : AreTypedScopes (after c'.symbols [] (visible_now c ++ new)) c'.opened.scope
+  pub typed_moves : AreTypedMoves (after c'.symbols [] (visible_now c ++ new)) moves
   pub sound_goals : All (IsSoundAmong c'.symbols (visible_now c ++ new)) goals
   pub sound_axioms : All (IsSoundAxiom c'.decls) axioms

@@ -4,7 +4,7 @@ use Rattle.elab_groups.specs.trees.Tree.{Tree}
 use Rattle.elab_groups.specs.tasks.Task.{SymbolTree}
 use Rattle.elab_groups.specs.tasks.Vocabulary.{of_signature}
 use Rattle.checks.specs.match_cover.Shapes.{IsPattern, HaveOneType}
-use Rattle.elab_groups.specs.scopes.Names.{ScopeNames}
+use Rattle.elab_groups.specs.name_resolution.Where.{NamesTree}
 use Rattle.elaboration_laws.specs.Scopes.{IsTypedSignature, AreTypedScopes}
 
 -- a match, by its token: its patterns are well typed, and of one type
@@ -12,8 +12,7 @@ pub record IsFitMatch (symbols : List SymbolTree) (m : ℕ × List Tree) : Type 
   pub patterns : All (IsPattern symbols) m.1
   pub one_type : HaveOneType m.1
 
--- the signature and scopes are typed, over a store
-pub record IsTypedOver (s : List Tree) (symbols : List SymbolTree)
-    (names : ScopeNames) : Type 0 where
+-- the signature and scopes are typed
+pub record IsTypedOver (symbols : List SymbolTree) (names : NamesTree) : Type 0 where
   pub signature : IsTypedSignature (of_signature symbols) symbols
-  pub scopes : AreTypedScopes (of_signature symbols) s names
+  pub scopes : AreTypedScopes (of_signature symbols) names

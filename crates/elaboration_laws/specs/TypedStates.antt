@@ -16,7 +16,6 @@ state_setting c = record {
   within = c.opened.within;
   decl =
       c.number;
-  trees = c.trees;
   symbols = c.symbols;
   scope = c.opened.scope;
 }
@@ -25,13 +24,12 @@ state_setting c = record {
 pub record AreTypedTheories (c : StateTree) : Type 0 where
   pub signature : IsTypedSignature (of_signature c.symbols) c.symbols
   pub built : IsBuiltRight c.symbols
-  pub known : All (λ (t : KnownTree).
-      AreTypedMoves (of_signature c.symbols) c.trees t.moves) c.known
+  pub known : All (λ (t : KnownTree). AreTypedMoves (of_signature c.symbols) t.moves) c.known
 
 -- and so are the names of the open theory, whose path isn't that of what is built in
 pub record IsTypedState (c : StateTree) : Type 0 where
   pub theories : AreTypedTheories c
   pub theory : is_empty c.opened.path ≡ false
   pub source : bytes_eq c.opened.path builtin ≡ false
-  pub scopes : AreTypedScopes (of_signature c.symbols) c.trees c.opened.scope
-  pub moves : AreTypedMoves (of_signature c.symbols) c.trees c.opened.moves
+  pub scopes : AreTypedScopes (of_signature c.symbols) c.opened.scope
+  pub moves : AreTypedMoves (of_signature c.symbols) c.opened.moves

@@ -11,6 +11,7 @@ use Rattle.elab_groups.specs.tasks.declared.signature.Signature.{Signature}
 use Rattle.elab_groups.specs.tasks.Vocabulary.{Vocabulary, is_empty}
 use Rattle.elab_groups.specs.tasks.Valid.{IsSignatureOf, IsValidDecl}
 use Rattle.elab_groups.specs.scopes.Names.{ScopeNames}
+use Rattle.elab_groups.specs.name_resolution.Naming.{scope_at}
 use Rattle.elab_groups.specs.declared.parts.made.Elaborated.{Elaborated}
 use Rattle.elab_groups.specs.parts.Entries.{builtin}
 use Rattle.elab_groups.specs.surface.declared.declarations.PropKind.TheVariants.{Goal}
@@ -27,7 +28,7 @@ pub record IsTypedSetting (base : Vocabulary) (c : Setting) : Type 0 where
   pub theory : is_empty c.theory ≡ false
   pub source : bytes_eq c.theory builtin ≡ false
   pub signature : IsTypedSignature base c.symbols
-  pub scopes : AreTypedScopes (with_entries base c.symbols) c.trees c.scope
+  pub scopes : AreTypedScopes (with_entries base c.symbols) c.scope
 
 -- no variable of what is said or defined has the greatest index
 abbrev pub BodyFits : BodyTree → Type 0
@@ -48,22 +49,20 @@ HaveNoFault symbols ds = All (λ (d : DeclarationTree). HasNoFault symbols d.bod
 abbrev pub MayName : Vocabulary → Setting → Outcome → Type 0
 MayName base c o = NamesNew base (length c.symbols) (c.symbols ++ o.symbols)
 
--- signature and scopes are typed again, over a store
-pub record IsTypedOutcome (base : Vocabulary) (c : Setting) (s : List Tree)
-    (o : Outcome) : Type 0 where
+-- signature and scopes are typed again
+pub record IsTypedOutcome (base : Vocabulary) (c : Setting) (o : Outcome) : Type 0 where
   pub signature : IsTypedSignature base (c.symbols ++ o.symbols)
-  pub scopes : AreTypedScopes (with_entries base (c.symbols ++ o.symbols)) s o.scope
+  pub scopes : AreTypedScopes (with_entries base (c.symbols ++ o.symbols)) o.scope
 
 -- the type variables of a goal may be named
 abbrev pub MayNameRigid : Vocabulary → Declaration → List ℕ → Type 0
 MayNameRigid base (proposition_declaration Goal x e) ks = All (λ (k : ℕ). IsTrue (base.rigid k)) ks
 MayNameRigid base _ ks = Unit {0}
 
--- over a store
-pub record IsValidOutcome (base : Vocabulary) (c : Setting) (s : List Tree)
-    (o : Outcome) : Type 0 where
+-- so are declarations valid
+pub record IsValidOutcome (base : Vocabulary) (c : Setting) (o : Outcome) : Type 0 where
   pub signature : IsTypedSignature base (c.symbols ++ o.symbols)
-  pub scopes : AreTypedScopes (with_entries base (c.symbols ++ o.symbols)) s o.scope
+  pub scopes : AreTypedScopes (with_entries base (c.symbols ++ o.symbols)) o.scope
   pub decls : All (IsValidDecl (with_entries base (c.symbols ++ o.symbols))) o.decls
 
 -- a symbol of a vocabulary with a body of its type under its parameters, and the equation of these
@@ -87,6 +86,6 @@ definition_by v k inner =
 pub record IsValidElaborated (base : Vocabulary) (s : List Tree) (g : Signature)
     (names : ScopeNames) (made : Elaborated) : Type 0 where
   pub signature : IsTypedSignature base (symbols_at s g.symbols)
-  pub scopes : AreTypedScopes (with_entries base (symbols_at s g.symbols)) s names
+  pub scopes : AreTypedScopes (with_entries base (symbols_at s g.symbols)) (scope_at s names)
   pub decls : All (IsValidDecl (with_entries base (symbols_at s g.symbols)))
       (declarations_at s made.decls)

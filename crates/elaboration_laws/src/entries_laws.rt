@@ -2,15 +2,14 @@
 ghost use Rattle.std.specs.Prelude.{◌≡◌, ◌≢◌, ℕ, ◌<◌, false, List, ◌++◌, map, length, All, Some, None, IsTrue};
 ghost use Rattle.std.specs.Str.{bytes_eq};
 ghost use Rattle.elab_groups.specs.trees.Tree.{Tree};
-ghost use Rattle.elab_groups.specs.trees.Node.{tree_at, Holds};
-ghost use Rattle.elab_groups.specs.trees.declared.TermId.{TermId};
 ghost use Rattle.elab_groups.specs.tasks.declared.signature.SymbolKind.TheVariants.{Kind};
 ghost use Rattle.elab_groups.specs.tasks.Task.{SymbolTree, symbol_or};
 ghost use Rattle.elab_groups.specs.tasks.Rigid.{rigid_symbol};
 ghost use Rattle.elab_groups.specs.tasks.Vocabulary.{Vocabulary, is_empty, of_signature};
+ghost use Rattle.elab_groups.specs.tasks.Valid.{IsTypeIn};
 ghost use Rattle.clones.specs.Mapped.{Map, mapped};
 ghost use Rattle.elab_groups.specs.parts.Entries.{builtin};
-ghost use Rattle.elaboration_laws.specs.Scopes.{IsTypedEntry, IsTypedSignature, IsTypeNumber, IsSymbolNumber, IsAliased};
+ghost use Rattle.elaboration_laws.specs.Scopes.{IsTypedEntry, IsTypedSignature, IsTypeNumber, IsSymbolNumber};
 ghost use Rattle.elaboration_laws.specs.Built.{IsBuiltRight};
 ghost use Rattle.elaboration_laws.specs.Morphisms.{MapsTypes};
 ghost use Rattle.elaboration_laws.specs.Entries.{copied_entries, IsStanding, IsGrounded};
@@ -38,20 +37,15 @@ pub fn entries_typed()
         → IsBuiltRight (xs ++ map rigid_symbol vs) }
 {}
 
-/// A law: what the name of a type stands for becomes a type symbol, or the alias of a type in the store
-/// afterwards, as the map says; the name of a symbol stands for a symbol where its entry has a kind
-/// of one.
+/// A law: what the name of a type stands for becomes a type symbol, or a type, as the map says; the
+/// name of a symbol stands for a symbol where its entry has a kind of one.
 pub fn names_typed()
     ensures types { (v w : Vocabulary) (m : Map) (k : ℕ) → MapsTypes v w m → m.types k ≡ None
         → IsTypeNumber v k → IsTypeNumber w (m.symbols k) }
-    ensures replaced { (v w : Vocabulary) (m : Map) (s : List Tree) (k ty : ℕ) (e : Tree)
-        → MapsTypes v w m → m.types k ≡ Some e → Holds s (record { 0 = ty })
-        → tree_at s (record { 0 = ty }) ≡ e → IsTypeNumber v k
-        → IsAliased w s (symbol_or v.symbols k).vars ty }
-    ensures aliases { (v w : Vocabulary) (m : Map) (s t : List Tree) (vars ty made : ℕ)
-        → MapsTypes v w m → Holds t (record { 0 = made })
-        → tree_at t (record { 0 = made }) ≡ mapped m (tree_at s (record { 0 = ty }))
-        → IsAliased v s vars ty → IsAliased w t vars made }
+    ensures replaced { (v w : Vocabulary) (m : Map) (k : ℕ) (e : Tree) → MapsTypes v w m
+        → m.types k ≡ Some e → IsTypeNumber v k → IsTypeIn w (symbol_or v.symbols k).vars e }
+    ensures aliases { (v w : Vocabulary) (m : Map) (vars : ℕ) (t : Tree) → MapsTypes v w m
+        → IsTypeIn v vars t → IsTypeIn w vars (mapped m t) }
     ensures symbols { (xs : List SymbolTree) (k : ℕ) → k < length xs
         → is_empty (symbol_or xs k).theory ≡ false → (symbol_or xs k).kind ≢ Kind
         → IsSymbolNumber (of_signature xs) k }

@@ -36,7 +36,7 @@ pub use elab_groups::parts::NameFault;
 pub use entries_laws::{entries_typed, names_typed};
 pub use maps_laws::{copies_typed, outcomes_placed, sides_typed, types_mapped};
 pub use places_laws::{moves_become, places_made};
-pub use scope_moves::{finds_typed, moves_typed, stays_typed};
+pub use scope_moves::{finds_typed, moves_typed, scopes_kept, stays_typed};
 pub use sound_states::{begins_sound, goals_valid, joins_whole, stays_sound};
 pub use states_laws::{clones_stay, names_become};
 pub use theory_states::goal_tasks::{GoalAt, TaskFault, Theories, Theory, task_of};

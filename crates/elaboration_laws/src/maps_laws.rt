@@ -1,6 +1,5 @@
 // The map of a clone takes types over the signature to types over the signature with the copies' entries.
 ghost use Rattle.std.specs.Prelude.{◌≡◌, false, List, ◌++◌, map, All, None};
-ghost use Rattle.elab_groups.specs.trees.Tree.{Tree};
 ghost use Rattle.elab_groups.specs.tasks.Task.{SymbolTree};
 ghost use Rattle.elab_groups.specs.tasks.Rigid.{rigid_symbol};
 ghost use Rattle.elab_groups.specs.tasks.Vocabulary.{is_empty, of_signature};
@@ -25,11 +24,11 @@ ghost use Rattle.elaboration_laws.specs.Sides.{IsTypedSide, with_rights, left_si
 pub fn sides_typed()
     ensures typed { (c : Setting) (t : Origin) (es : List Element)
         → IsTypedSetting (of_signature c.symbols) c
-        → rights_fault c.trees c.symbols c.scope es ≡ None
+        → rights_fault c.symbols c.scope es ≡ None
         → All (IsTypedSide (of_signature (with_rights c es).symbols)) (left_sides_at c t es) }
     ensures setting { (c : Setting) (es : List Element)
         → IsTypedSetting (of_signature c.symbols) c
-        → rights_fault c.trees c.symbols c.scope es ≡ None
+        → rights_fault c.symbols c.scope es ≡ None
         → IsTypedSetting (of_signature (with_rights c es).symbols) (with_rights c es) }
     ensures built { (symbols : List SymbolTree) (es : List Element) → IsBuiltRight symbols
         → IsBuiltRight (symbols ++ rights_tuples symbols es) }
@@ -40,7 +39,7 @@ pub fn sides_typed()
 pub fn types_mapped()
     ensures { (c : Setting) (t : Origin) (es : List Element) (theory within : Word)
         → IsTypedSetting (of_signature c.symbols) c
-        → rights_fault c.trees c.symbols c.scope es ≡ None → is_empty theory ≡ false
+        → rights_fault c.symbols c.scope es ≡ None → is_empty theory ≡ false
         → MapsTypes (of_signature (with_rights c es).symbols)
         (of_signature (with_copies c t es theory within))
         (clone_map (with_rights c es).symbols t (left_sides_at c t es)) }
@@ -51,7 +50,7 @@ pub fn types_mapped()
 pub fn copies_typed()
     ensures typed { (c : Setting) (t : Origin) (es : List Element) (theory within : Word)
         → ArePlaced c.symbols → IsTypedSetting (of_signature c.symbols) c
-        → rights_fault c.trees c.symbols c.scope es ≡ None → is_empty theory ≡ false
+        → rights_fault c.symbols c.scope es ≡ None → is_empty theory ≡ false
         → All (IsTypedEntry (of_signature (with_copies c t es theory within)))
         (copies_made c t es theory within) }
     ensures placed { (c : Setting) (t : Origin) (es : List Element) (theory within : Word)
@@ -63,6 +62,6 @@ pub fn copies_typed()
 
 /// A law: of the entries that a declaration makes in a theory only those of type variables have none.
 pub fn outcomes_placed()
-    ensures { (c : Setting) (s : List Tree) (d : Declaration) (o : Outcome)
-        → is_empty c.theory ≡ false → IsOutcome c s d o → ArePlaced o.symbols }
+    ensures { (c : Setting) (d : Declaration) (o : Outcome) → is_empty c.theory ≡ false
+        → IsOutcome c d o → ArePlaced o.symbols }
 {}

@@ -1,9 +1,8 @@
 // What a clone makes of a theory, place by place, is what its steps make of the theory's declarations.
 ghost use Rattle.std.specs.Prelude.{◌≡◌, ◌≢◌, ℕ, ◌<◌, List, ◌++◌, length, All, AllPairs};
-ghost use Rattle.elab_groups.specs.trees.Tree.{Tree};
 ghost use Rattle.elab_groups.specs.tasks.Vocabulary.{Vocabulary};
 ghost use Rattle.clones.specs.Mapped.{Map};
-ghost use Rattle.theory_states.specs.declared.moves.Move.{Move};
+ghost use Rattle.theory_states.specs.Moves.{MoveTree};
 ghost use Rattle.elaboration_laws.specs.Moves.{AreTypedMoves};
 ghost use Rattle.elaboration_laws.specs.Morphisms.{IsMorphism};
 ghost use Rattle.theory_states.specs.States.{KnownTree, StateTree, visible_now};
@@ -11,8 +10,7 @@ ghost use Rattle.elaboration_laws.specs.Whole.{IsWhole};
 ghost use Rattle.clones.specs.clone_copies.Places.{Copying, with_places};
 ghost use Rattle.elaboration_laws.specs.Steps.{made_from};
 ghost use Rattle.elaboration_laws.specs.Cloned.{AreClonedPlaces};
-ghost use Rattle.clones.specs.clone_copies.Moves.{AreMovesMapped};
-ghost use Rattle.elaboration_laws.specs.Unaliased.{IsPlainMove};
+ghost use Rattle.clones.specs.clone_copies.Moves.{moves_mapped};
 ghost use Rattle.elaboration_laws.specs.PlaceSteps.{copy_steps_at};
 
 /// A law: where each theory's declarations are whole among the visible ones, those that are visible after
@@ -35,11 +33,9 @@ pub fn places_made()
         → AreClonedPlaces c (with_places x t.visible c) t }
 {}
 
-/// A law: the names that a theory passes on stand for things of their tables after a clone, over the store
-/// in which they are mapped, where the map takes what one vocabulary may name to what another one may
-/// name, and no alias is a name of symbols.
+/// A law: the names that a theory passes on stand for things of their tables after a clone, where the map
+/// takes what one vocabulary may name to what another one may name.
 pub fn moves_become()
-    ensures { (v w : Vocabulary) (m : Map) (s : List Tree) (xs ys : List Move)
-        → IsMorphism v w m → All IsPlainMove xs → AreTypedMoves v s xs
-        → AreMovesMapped s v.symbols m xs ys → AreTypedMoves w s ys }
+    ensures { (v w : Vocabulary) (m : Map) (xs : List MoveTree) → IsMorphism v w m
+        → AreTypedMoves v xs → AreTypedMoves w (moves_mapped v.symbols m xs) }
 {}

@@ -2,16 +2,15 @@
 ghost use Rattle.std.specs.Prelude.{◌≡◌, ℕ, false, List, [], ◌∷◌, ◌++◌, take, length, All, AllPairs, ◌≢◌, ◌<◌, Option, None, IfSome};
 ghost use Rattle.std.specs.List.{Contains};
 ghost use Rattle.std.specs.Str.{bytes_eq};
-ghost use Rattle.elab_groups.specs.trees.Tree.{Tree};
 ghost use Rattle.elab_groups.specs.tasks.Task.{SymbolTree, DeclarationTree, int_symbol};
 ghost use Rattle.elab_groups.specs.tasks.Vocabulary.{is_empty};
 ghost use Rattle.elab_groups.specs.tasks.Valid.{AreInts, IsValid};
-ghost use Rattle.elab_groups.specs.scopes.Names.{ScopeNames};
 ghost use Rattle.elab_groups.specs.surface.declared.names.Name.{Name};
 ghost use Rattle.elab_groups.specs.surface.declared.names.Path.{Path};
 ghost use Rattle.elab_groups.specs.surface.declared.declarations.Link.{Link};
-ghost use Rattle.theory_states.specs.declared.moves.Move.{Move};
+ghost use Rattle.elab_groups.specs.name_resolution.Where.{NamesTree};
 ghost use Rattle.elab_groups.specs.parts.Entries.{builtin};
+ghost use Rattle.theory_states.specs.Moves.{MoveTree};
 ghost use Rattle.elaboration_laws.specs.Scopes.{AreTypedScopes};
 ghost use Rattle.elaboration_laws.specs.Moves.{AreTypedMoves};
 ghost use Rattle.elaboration_laws.specs.Lists.{after};
@@ -44,12 +43,11 @@ pub fn joins_whole()
 /// A law: without theories, over a signature with `int` alone, all is sound; a theory with a new path
 /// begins soundly after sound theories, and at its end it is one of them.
 pub fn begins_sound()
-    ensures nothing { (s : List Tree) → AreSoundTheories s (int_symbol ∷ []) [] [] }
-    ensures begins { (s : List Tree) (symbols : List SymbolTree) (decls : List DeclarationTree)
-        (ts : List KnownTree) (path : List ℕ) (number : ℕ) → AreSoundTheories s symbols decls ts
+    ensures nothing { AreSoundTheories (int_symbol ∷ []) [] [] }
+    ensures begins { (symbols : List SymbolTree) (decls : List DeclarationTree)
+        (ts : List KnownTree) (path : List ℕ) (number : ℕ) → AreSoundTheories symbols decls ts
         → is_empty path ≡ false → bytes_eq path builtin ≡ false → known_named ts path ≡ None
         → IsSoundState (record {
-          trees = s;
           symbols = symbols;
           decls = decls;
           known = ts;
@@ -57,7 +55,7 @@ pub fn begins_sound()
           number = number;
         }) }
     ensures ends { (c : StateTree) → IsSoundState c
-        → AreSoundTheories c.trees c.symbols c.decls (c.known ++ known_as c.opened ∷ []) }
+        → AreSoundTheories c.symbols c.decls (c.known ++ known_as c.opened ∷ []) }
 {}
 
 /// A law: a sound state stays so where a theory is used; with other typed scopes and further typed
@@ -66,10 +64,10 @@ pub fn begins_sound()
 pub fn stays_sound()
     ensures used { (link : Link) (p : Path) (alias : Option Name) (c next : StateTree)
         → IsSoundState c → IsTheoryUsed link p alias c next → IsSoundState next }
-    ensures scoped { (c : StateTree) (within : List ℕ) (names : ScopeNames) (moves : List Move)
+    ensures scoped { (c : StateTree) (within : List ℕ) (names : NamesTree) (moves : List MoveTree)
         (number : ℕ) → IsSoundState c
-        → AreTypedScopes (after c.symbols [] (visible_now c)) c.trees names
-        → AreTypedMoves (after c.symbols [] (visible_now c)) c.trees moves
+        → AreTypedScopes (after c.symbols [] (visible_now c)) names
+        → AreTypedMoves (after c.symbols [] (visible_now c)) moves
         → IsSoundState (record c {
           opened = record c.opened {
             within = within;
@@ -79,15 +77,15 @@ pub fn stays_sound()
           number = number;
         }) }
     ensures further { (c next : StateTree) (more : List SymbolTree) (new : List DeclarationTree)
-        (axioms : List AxiomAt) (goals : List GoalTree) (moves : List Move) → IsSoundState c
+        (axioms : List AxiomAt) (goals : List GoalTree) (moves : List MoveTree) → IsSoundState c
         → IsAfter c next more new axioms goals moves
         → IsSoundAddition c next new axioms goals moves → IsSoundState next }
 {}
 
 /// A law: the task of each goal of a sound theory is valid.
 pub fn goals_valid()
-    ensures { (all : TheoriesTree) (s : List Tree) (decls : List DeclarationTree) (t : KnownTree)
-        (g : GoalTree) → IsSoundKnown s all.symbols decls t → Contains t.goals g
+    ensures { (all : TheoriesTree) (decls : List DeclarationTree) (t : KnownTree) (g : GoalTree)
+        → IsSoundKnown all.symbols decls t → Contains t.goals g
         → IfSome all.ints (AreInts all.symbols)
         → IsValid (task_for all (record {
           path = t.path;

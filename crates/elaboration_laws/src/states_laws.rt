@@ -7,7 +7,7 @@ ghost use Rattle.clones.specs.Mapped.{Map};
 ghost use Rattle.elaboration_laws.specs.Scopes.{IsSymbolNumber};
 ghost use Rattle.elaboration_laws.specs.Morphisms.{IsMorphism};
 ghost use Rattle.elab_groups.specs.surface.declared.declarations.Link.{Link};
-ghost use Rattle.theory_states.specs.declared.moves.Move.{Move};
+ghost use Rattle.theory_states.specs.Moves.{MoveTree};
 ghost use Rattle.theory_states.specs.goal_tasks.Theories.{GoalTree};
 ghost use Rattle.theory_states.specs.declared.states.AxiomAt.{AxiomAt};
 ghost use Rattle.theory_states.specs.States.{KnownTree, StateTree};
@@ -21,7 +21,7 @@ pub fn clones_stay()
     ensures { (c next : StateTree) (t : KnownTree) (tuples more : List SymbolTree)
         (new : List DeclarationTree) (m : Map) (within : List ℕ) (ss : List CopyStep)
         (axioms : List AxiomAt) (goals : List GoalTree) (link : Link) (last : List ℕ)
-        (alias : Option (List ℕ)) (moves : List Move) → IsSoundState c → Contains c.known t
+        (alias : Option (List ℕ)) (moves : List MoveTree) → IsSoundState c → Contains c.known t
         → IsAfterClone c next t tuples more new m within ss axioms goals link last alias moves
         → IsSoundClone c next tuples more m within ss axioms goals moves → IsSoundState next }
 {}

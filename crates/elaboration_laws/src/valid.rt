@@ -1,7 +1,7 @@
 // What declarations make is valid over the signature that they extend: the laws that validity of every task depends on.
 ghost use Rattle.std.specs.Prelude.{◌≡◌, ℕ, true, false, List, [], ◌∷◌, ◌++◌, map, length, All, Some, None, IsTrue};
 ghost use Rattle.elab_groups.specs.trees.Tree.{Tree};
-ghost use Rattle.elab_groups.specs.trees.Node.{Grows, Holds, tree_at};
+ghost use Rattle.elab_groups.specs.trees.Node.{Holds, tree_at};
 ghost use Rattle.elab_groups.specs.trees.declared.TermId.{TermId};
 ghost use Rattle.elab_groups.specs.trees.Sorts.{WellSorted};
 ghost use Rattle.elab_groups.specs.tasks.Task.{SymbolTree, DeclarationTree, int_symbol};
@@ -15,6 +15,7 @@ ghost use Rattle.elab_groups.specs.surface.declared.declarations.PropKind.{PropK
 ghost use Rattle.elab_groups.specs.surface.declared.declarations.PropKind.TheVariants.{Goal};
 ghost use Rattle.elab_groups.specs.name_resolution.Abstract.{TypeExpression, Expression};
 ghost use Rattle.elab_groups.specs.name_resolution.Faults.{fault, form_fault};
+ghost use Rattle.elab_groups.specs.name_resolution.Naming.{scope_at};
 ghost use Rattle.elab_groups.specs.open_types.Drafts.{match_at};
 ghost use Rattle.elab_groups.specs.declared.parts.made.Elaborated.{Elaborated};
 ghost use Rattle.elab_groups.specs.parts.Declarations.{Declaration, proposition_declaration, declaration, TokenName, GroupMember, AlgebraicType, InductivePredicate, words, types_fault};
@@ -25,7 +26,7 @@ ghost use Rattle.elab_declarations.specs.elab_groups.Bodies.{AllHaveBodies};
 ghost use Rattle.elab_declarations.specs.elab_groups.Groups.{group_used, IsGroup};
 ghost use Rattle.elab_declarations.specs.type_declarations.Algebraics.{inside_types, group_outcome};
 ghost use Rattle.elab_declarations.specs.inductive_declarations.Inductives.{inductives_used, IsInductiveGroup};
-ghost use Rattle.elab_declarations.specs.Outcomes.{type_outcome, IsAlias, IsProposition, IsElaborated};
+ghost use Rattle.elab_declarations.specs.Outcomes.{type_outcome, alias_outcome, IsProposition, IsElaborated};
 ghost use Rattle.elaboration_laws.specs.Signature.{with_entries};
 ghost use Rattle.elaboration_laws.specs.Scopes.{NamesNew, IsSubvocabulary, AgreeBelow};
 ghost use Rattle.elaboration_laws.specs.Typed.{ArePatterns};
@@ -37,34 +38,29 @@ ghost use Rattle.elaboration_laws.specs.Valid.{IsTypedSetting, MayName, MayNameR
 /// made, and no name is at fault, a type without a definition, an alias, a group of algebraic types,
 /// of functions and predicates or of inductive predicates whose clauses pass their checks, and an
 /// axiom, lemma or goal give declarations that are valid over it with their entries; signature and
-/// scopes are typed again, over a store that grew.
+/// scopes are typed again.
 pub fn makes_valid()
-    ensures types { (v : Vocabulary) (c : Setting) (s : List Tree) (x : TokenName) (n : ℕ)
-        → IsTypedSetting v c → Grows c.trees s → MayName v c (type_outcome c x n)
-        → IsValidOutcome v c s (type_outcome c x n) }
-    ensures aliases { (v : Vocabulary) (c : Setting) (s : List Tree) (x : TokenName)
-        (vs : List TokenName) (f : TypeExpression) (o : Outcome) → IsTypedSetting v c
-        → Grows c.trees s
-        → form_fault (around c (words vs)) false f ≡ None → IsAlias c s x vs f o
-        → MayName v c o → IsValidOutcome v c s o }
-    ensures members { (v : Vocabulary) (c : Setting) (s : List Tree) (ms : List GroupMember)
-        (o : Outcome) → IsTypedSetting v c → Grows c.trees s → group_used c ms ≡ None
-        → AllHaveBodies ms → IsGroup c ms o → DeclsFit o.decls → MayName v c o
-        → IsValidOutcome v c s o }
-    ensures propositions { (v : Vocabulary) (c : Setting) (s : List Tree) (k : PropKind)
-        (x : TokenName) (e : Expression) (o : Outcome) → IsTypedSetting v c → Grows c.trees s
+    ensures types { (v : Vocabulary) (c : Setting) (x : TokenName) (n : ℕ) → IsTypedSetting v c
+        → MayName v c (type_outcome c x n) → IsValidOutcome v c (type_outcome c x n) }
+    ensures aliases { (v : Vocabulary) (c : Setting) (x : TokenName) (vs : List TokenName)
+        (f : TypeExpression) → IsTypedSetting v c
+        → form_fault (around c (words vs)) false f ≡ None → MayName v c (alias_outcome c x vs f)
+        → IsValidOutcome v c (alias_outcome c x vs f) }
+    ensures members { (v : Vocabulary) (c : Setting) (ms : List GroupMember) (o : Outcome)
+        → IsTypedSetting v c → group_used c ms ≡ None → AllHaveBodies ms → IsGroup c ms o
+        → DeclsFit o.decls → MayName v c o → IsValidOutcome v c o }
+    ensures propositions { (v : Vocabulary) (c : Setting) (k : PropKind) (x : TokenName)
+        (e : Expression) (o : Outcome) → IsTypedSetting v c
         → fault (around c []) true [] true e ≡ None → IsProposition c k x e o
         → DeclsFit o.decls → MayName v c o → MayNameRigid v (proposition_declaration k x e) o.rigid
-        → IsValidOutcome v c s o }
-    ensures algebraics { (v : Vocabulary) (c : Setting) (s : List Tree) (ts : List AlgebraicType)
-        → IsTypedSetting v c → Grows c.trees s → types_fault (inside_types c ts) ts ≡ None
-        → MayName v c (group_outcome c ts) → IsValidOutcome v c s (group_outcome c ts) }
-    ensures inductives { (v : Vocabulary) (c : Setting) (s : List Tree)
-        (ds : List InductivePredicate)
-        (o : Outcome) → IsTypedSetting v c → Grows c.trees s → inductives_used c ds ≡ None
-        → IsInductiveGroup c ds o → DeclsFit o.decls
-        → HaveNoFault (c.symbols ++ o.symbols) o.decls → MayName v c o
-        → IsValidOutcome v c s o }
+        → IsValidOutcome v c o }
+    ensures algebraics { (v : Vocabulary) (c : Setting) (ts : List AlgebraicType)
+        → IsTypedSetting v c → types_fault (inside_types c ts) ts ≡ None
+        → MayName v c (group_outcome c ts) → IsValidOutcome v c (group_outcome c ts) }
+    ensures inductives { (v : Vocabulary) (c : Setting) (ds : List InductivePredicate) (o : Outcome)
+        → IsTypedSetting v c → inductives_used c ds ≡ None → IsInductiveGroup c ds o
+        → DeclsFit o.decls → HaveNoFault (c.symbols ++ o.symbols) o.decls → MayName v c o
+        → IsValidOutcome v c o }
 {}
 
 /// A law: what `elaborate` gives of a source's declaration over a typed signature and typed scopes,
@@ -75,8 +71,7 @@ pub fn elaborates_valid()
     ensures { (v : Vocabulary) (c : Setting) (d : SyntaxDeclaration) (x : Declaration)
         (g : Signature)
         (s : List Tree) (h : Signature) (names : ScopeNames) (made : Elaborated)
-        → IsTypedSetting v c → Grows c.trees s → declaration d ≡ Some x
-        → IsElaborated c x g s h names made
+        → IsTypedSetting v c → declaration d ≡ Some x → IsElaborated c x g s h names made
         → ((id : TermId) → Holds s id → WellSorted (tree_at s id))
         → All (DeclHeld s) made.decls
         → HaveNoFault (symbols_at s h.symbols) (declarations_at s made.decls)
@@ -90,7 +85,7 @@ pub fn elaborates_valid()
 pub fn elaborates_patterns()
     ensures { (v : Vocabulary) (c : Setting) (x : Declaration) (g : Signature) (s : List Tree)
         (h : Signature) (names : ScopeNames) (made : Elaborated) → IsTypedSetting v c
-        → Grows c.trees s → IsElaborated c x g s h names made
+        → IsElaborated c x g s h names made
         → NamesNew v (length c.symbols) (symbols_at s h.symbols)
         → All (λ (m : ℕ × List Tree). ArePatterns (with_entries v (symbols_at s h.symbols)) m.1)
         (map (match_at s) made.matches) }
@@ -146,12 +141,13 @@ pub fn next_valid()
     ensures { (c : Setting) (ds : List DeclarationTree) (d : SyntaxDeclaration) (x : Declaration)
         (g : Signature) (s : List Tree) (h : Signature) (names : ScopeNames) (made : Elaborated)
         → IsTypedSetting (after c.symbols [] ds) c → MakesBelow (length c.symbols) ds
-        → Grows c.trees s → declaration d ≡ Some x → IsGroupWhole d → IsNoGoal d
+        → declaration d ≡ Some x → IsGroupWhole d → IsNoGoal d
         → IsElaborated c x g s h names made
         → ((id : TermId) → Holds s id → WellSorted (tree_at s id))
         → All (DeclHeld s) made.decls
         → HaveNoFault (symbols_at s h.symbols) (declarations_at s made.decls)
-        → IsNextDeclaration s (symbols_at s h.symbols) names ds (declarations_at s made.decls) }
+        → IsNextDeclaration (symbols_at s h.symbols) (scope_at s names) ds
+        (declarations_at s made.decls) }
 {}
 
 /// A law: of a goal after declarations the proposition is valid over what they make and its own type
@@ -161,11 +157,11 @@ pub fn next_goal_valid()
         (e : Expression)
         (g : Signature) (s : List Tree) (h : Signature) (names : ScopeNames) (made : Elaborated)
         → IsTypedSetting (after c.symbols [] ds) c → MakesBelow (length c.symbols) ds
-        → Grows c.trees s → declaration d ≡ Some (proposition_declaration Goal x e)
+        → declaration d ≡ Some (proposition_declaration Goal x e)
         → IsElaborated c (proposition_declaration Goal x e) g s h names made
         → ((id : TermId) → Holds s id → WellSorted (tree_at s id))
         → All (DeclHeld s) made.decls
         → HaveNoFault (symbols_at s h.symbols) (declarations_at s made.decls)
-        → IsNextGoal s (symbols_at s h.symbols) names ds made.rigid
+        → IsNextGoal (symbols_at s h.symbols) (scope_at s names) ds made.rigid
         (declarations_at s made.decls) }
 {}

@@ -2,7 +2,7 @@
 ghost use Rattle.std.specs.Prelude.{◌≡◌, ℕ, false, List, [], ◌∷◌, ◌++◌, map, length, All, Some, IfSome};
 ghost use Rattle.std.specs.Str.{bytes_eq};
 ghost use Rattle.elab_groups.specs.trees.Tree.{Tree};
-ghost use Rattle.elab_groups.specs.trees.Node.{Grows, Holds, tree_at};
+ghost use Rattle.elab_groups.specs.trees.Node.{Holds, tree_at};
 ghost use Rattle.elab_groups.specs.trees.declared.TermId.{TermId};
 ghost use Rattle.elab_groups.specs.trees.Sorts.{WellSorted};
 ghost use Rattle.elab_groups.specs.tokens_why.declared.token.Token.{Token};
@@ -18,6 +18,7 @@ ghost use Rattle.elab_groups.specs.surface.Declarations.{SyntaxDeclaration, writ
 ghost use Rattle.elab_groups.specs.surface.DeclarationRules.{IsLevelDecl};
 ghost use Rattle.elab_groups.specs.surface.declared.declarations.PropKind.{PropKind};
 ghost use Rattle.elab_groups.specs.name_resolution.Abstract.{Expression};
+ghost use Rattle.elab_groups.specs.name_resolution.Naming.{scope_at};
 ghost use Rattle.elab_groups.specs.open_types.Drafts.{match_at};
 ghost use Rattle.elab_groups.specs.declared.parts.made.Elaborated.{Elaborated};
 ghost use Rattle.elab_groups.specs.parts.Entries.{builtin};
@@ -67,8 +68,8 @@ pub fn keeps_sound()
     ensures declarations { (c : Setting) (ds : List DeclarationTree) (d : SyntaxDeclaration)
         (x : Declaration) (g : Signature) (s : List Tree) (h : Signature) (names : ScopeNames)
         (made : Elaborated) → IsTypedSetting (after c.symbols [] ds) c
-        → MakesBelow (length c.symbols) ds → Grows c.trees s → declaration d ≡ Some x
-        → IsGroupWhole d → IsNoGoal d → IsElaborated c x g s h names made
+        → MakesBelow (length c.symbols) ds → declaration d ≡ Some x → IsGroupWhole d → IsNoGoal d
+        → IsElaborated c x g s h names made
         → ((id : TermId) → Holds s id → WellSorted (tree_at s id))
         → All (DeclHeld s) made.decls
         → HaveNoFault (symbols_at s h.symbols) (declarations_at s made.decls)
@@ -87,7 +88,7 @@ pub fn goals_sound()
         (x : TokenName) (e : Expression) (g : Signature) (s : List Tree) (h : Signature)
         (names : ScopeNames) (made : Elaborated) (goal : GoalTree)
         → IsTypedSetting (after c.symbols [] ds) c → MakesBelow (length c.symbols) ds
-        → Grows c.trees s → IsToProve k → declaration d ≡ Some (proposition_declaration k x e)
+        → IsToProve k → declaration d ≡ Some (proposition_declaration k x e)
         → IsElaborated c (proposition_declaration k x e) g s h names made
         → ((id : TermId) → Holds s id → WellSorted (tree_at s id))
         → All (DeclHeld s) made.decls
@@ -106,18 +107,16 @@ pub fn goals_sound()
 pub fn keeps_typed()
     ensures matches { (c : Setting) (x : Declaration) (g : Signature) (s : List Tree)
         (h : Signature) (names : ScopeNames) (made : Elaborated)
-        → IsTypedSetting (of_signature c.symbols) c → Grows c.trees s
-        → IsElaborated c x g s h names made
+        → IsTypedSetting (of_signature c.symbols) c → IsElaborated c x g s h names made
         → All (IsFitMatch (symbols_at s h.symbols)) (map (match_at s) made.matches) }
     ensures setting { (c : Setting) (d : SyntaxDeclaration) (x : Declaration) (g : Signature)
-        (s : List Tree)
-        (h : Signature) (names : ScopeNames) (made : Elaborated)
-        → IsTypedSetting (of_signature c.symbols) c → Grows c.trees s → declaration d ≡ Some x
+        (s : List Tree) (h : Signature) (names : ScopeNames) (made : Elaborated)
+        → IsTypedSetting (of_signature c.symbols) c → declaration d ≡ Some x
         → IsElaborated c x g s h names made
         → ((id : TermId) → Holds s id → WellSorted (tree_at s id))
         → All (DeclHeld s) made.decls
         → HaveNoFault (symbols_at s h.symbols) (declarations_at s made.decls)
-        → IsTypedOver s (symbols_at s h.symbols) names }
+        → IsTypedOver (symbols_at s h.symbols) (scope_at s names) }
 {}
 
 /// A law: sound declarations with those of a theory that is used, each theory's once, are sound, where

@@ -2,16 +2,14 @@
 ghost use Rattle.std.specs.Prelude.{◌≡◌, ℕ, true, List, [], ◌++◌, length, All, Option, None, option_map};
 ghost use Rattle.elab_groups.specs.trees.Tree.{Tree};
 ghost use Rattle.elab_groups.specs.trees.Facts.{IndicesFit};
-ghost use Rattle.elab_groups.specs.trees.Node.{Grows};
 ghost use Rattle.elab_groups.specs.tasks.Task.{SymbolTree};
 ghost use Rattle.elab_groups.specs.tasks.Vocabulary.{Vocabulary};
 ghost use Rattle.elab_groups.specs.tasks.Valid.{IsFormulaOver};
 ghost use Rattle.elab_groups.specs.open_types.unify_types.Assigned.{assign};
 ghost use Rattle.elab_groups.specs.open_types.unify_types.Pairs.{SolvesAll};
-ghost use Rattle.elab_groups.specs.scopes.Names.{ScopeNames};
 ghost use Rattle.elab_groups.specs.surface.Lexeme.{Word};
 ghost use Rattle.elab_groups.specs.name_resolution.Abstract.{Expression};
-ghost use Rattle.elab_groups.specs.name_resolution.Where.{Where};
+ghost use Rattle.elab_groups.specs.name_resolution.Where.{Where, NamesTree};
 ghost use Rattle.elab_groups.specs.name_resolution.variables.Seen.{SeenTree, has_width, seen};
 ghost use Rattle.elab_groups.specs.open_types.Patterns.{LocalTree};
 ghost use Rattle.elab_groups.specs.open_types.Pieces.{piece};
@@ -86,18 +84,16 @@ pub fn is_well_formed()
         → NamesNew v (length symbols) (symbols ++ wanting_tuples symbols widths)
         → IsTypedSignature v symbols
         → IsTypedSignature v (symbols ++ wanting_tuples symbols widths) }
-    ensures formed { (v : Vocabulary) (symbols : List SymbolTree) (s : List Tree)
-        (names : ScopeNames)
+    ensures formed { (v : Vocabulary) (symbols : List SymbolTree) (names : NamesTree)
         (vars : List Word) → IsTypedSignature v symbols
-        → AreTypedScopes (with_entries v symbols) s names
-        → IsWellFormed v (over s symbols names vars) }
-    ensures tuples { (v : Vocabulary) (symbols : List SymbolTree) (s : List Tree)
-        (names : ScopeNames)
+        → AreTypedScopes (with_entries v symbols) names
+        → IsWellFormed v (over symbols names vars) }
+    ensures tuples { (v : Vocabulary) (symbols : List SymbolTree) (names : NamesTree)
         (vars : List Word) (widths : List ℕ) (n : ℕ)
         → NamesNew v (length symbols) (symbols ++ wanting_tuples symbols widths)
         → IsTypedSignature v symbols → has_width n widths ≡ true
-        → HasTuple v (over s (symbols ++ wanting_tuples symbols widths) names vars) n }
-    ensures scopes { (v : Vocabulary) (symbols more : List SymbolTree) (s t : List Tree)
-        (names : ScopeNames) → Grows s t → AreTypedScopes (with_entries v symbols) s names
-        → AreTypedScopes (with_entries v (symbols ++ more)) t names }
+        → HasTuple v (over (symbols ++ wanting_tuples symbols widths) names vars) n }
+    ensures scopes { (v : Vocabulary) (symbols more : List SymbolTree) (names : NamesTree)
+        → AreTypedScopes (with_entries v symbols) names
+        → AreTypedScopes (with_entries v (symbols ++ more)) names }
 {}

@@ -4,6 +4,6 @@ use Rattle.elaboration_laws.proofs.scope_moves.stays_typed.Goals as goal
 
 pub returns : goal.returns
 returns u = record {
-  scopes = λ v w s t names part g h. scopes_part v w part s t g names h;
-  moves = λ v w s t ms part g h. moves_more v w part s t g ms h;
+  scopes = λ v w names part h. scopes_part v w part names h;
+  moves = λ v w ms part h. moves_more v w part ms h;
 }

@@ -3,7 +3,7 @@ use Rattle.elaboration_laws.proofs.sound_states.begins_sound.Goals as goal
 
 pub returns : goal.returns
 returns u = record {
-  nothing = λ s. nothing_sound s;
-  begins = λ s symbols decls ts path number h named source new. begins s symbols decls ts path number h named source new;
+  nothing = nothing_sound;
+  begins = λ symbols decls ts path number h named source new. begins symbols decls ts path number h named source new;
   ends = λ c h. ends c h;
 }

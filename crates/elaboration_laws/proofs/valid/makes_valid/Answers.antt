@@ -7,10 +7,10 @@ use Rattle.elaboration_laws.proofs.valid.makes_valid.Goals as goal
 
 pub returns : goal.returns
 returns c = record {
-  types = λ v k s x n h g news. type_valid v k h s g x n news;
-  aliases = λ v k s x vs f o h g q a news. alias_valid v k h s g x vs f o q a news;
-  members = λ v k s ms o h g q w it fits news. members_valid v k h s g ms q o it news w fits;
-  propositions = λ v k s p x e o h g q a fits news may. proposition_valid v k h s g p x e o q a news fits may;
-  algebraics = λ v k s ts h g q news. group_valid v k h s g ts q news;
-  inductives = λ v k s ds o h g q it fits passes news. inductives_valid v k h s g ds q o it news fits passes;
+  types = λ v k x n h news. type_valid v k h x n news;
+  aliases = λ v k x vs f h q news. alias_valid v k h x vs f q news;
+  members = λ v k ms o h q w it fits news. members_valid v k h ms q o it news w fits;
+  propositions = λ v k p x e o h q a fits news may. proposition_valid v k h p x e o q a news fits may;
+  algebraics = λ v k ts h q news. group_valid v k h ts q news;
+  inductives = λ v k ds o h q it fits passes news. inductives_valid v k h ds q o it news fits passes;
 }

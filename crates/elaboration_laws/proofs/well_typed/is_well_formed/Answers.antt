@@ -8,7 +8,7 @@ use Rattle.std.proofs.Common.{◌++◌}
 pub returns : goal.returns
 returns c = record {
   typed = λ v symbols widths news h. tuples_typed v symbols widths news h;
-  formed = λ v symbols s names vars h k. over_well_formed v symbols h s names k vars;
-  tuples = λ v symbols s names vars widths n news h q. tuple_of v (symbols ++ wanting_tuples symbols widths) (tuples_typed v symbols widths news h) n (tuples_there symbols widths n q);
-  scopes = λ v symbols more s t names g h. scopes_extended v s t g symbols more names h;
+  formed = λ v symbols names vars h k. over_well_formed v symbols h names k vars;
+  tuples = λ v symbols names vars widths n news h q. tuple_of v (symbols ++ wanting_tuples symbols widths) (tuples_typed v symbols widths news h) n (tuples_there symbols widths n q);
+  scopes = λ v symbols more names h. scopes_extended v symbols more names h;
 }
