@@ -1,8 +1,7 @@
 -- A sound state stays sound where a theory is cloned.
 use Rattle.std.proofs.Common.{◌≡◌, ◌⊎◌, inl, inr, ℕ, ◌<◌, ◌==◌, if◌then◌else◌, suc, Bool, true, false, List, [], ◌∷◌, ◌++◌, map, length, slice_get, All, Contains, Option, Some, None, option_to_list, refl, sym, ap, subst, ◌∙◌, arith, append_assoc}
-use Rattle.std.proofs.lemmas.List.Elements.{All-head, All-tail, All-contains}
+use Rattle.std.proofs.lemmas.List.Elements.{All-head, All-tail, All-append, All-contains}
 use Rattle.tasks.specs.trees.Tree.{Tree}
-use Rattle.tasks.specs.trees.Node.{Grows}
 use Rattle.tasks.specs.Task.{SymbolTree, BodyTree, MakesType, Makes, Defines, Induces, Constructs, Says, DeclarationTree}
 use Rattle.tasks.specs.Rigid.{rigid_symbol}
 use Rattle.elaboration_laws.specs.clones.Mapped.{Map}
@@ -11,8 +10,7 @@ use Rattle.surface.specs.declared.names.Name.{Name}
 use Rattle.surface.specs.declared.names.Path.{Path}
 use Rattle.surface.specs.declared.declarations.Link.{Link}
 use Rattle.surface.specs.Declarations.{Element}
-use Rattle.theory_states.specs.declared.moves.Move.{Move}
-use Rattle.theory_states.specs.Moves.{brought, handed}
+use Rattle.theory_states.specs.Moves.{MoveTree, brought, handed}
 use Rattle.elaboration_laws.specs.open_types.Scoped.{IsScopedEntry}
 use Rattle.elaboration_laws.specs.Scopes.{IsSubvocabulary}
 use Rattle.elaboration_laws.specs.Moves.{AreTypedMoves}
@@ -35,17 +33,17 @@ use Rattle.elaboration_laws.specs.clones.clone_elements.Rights.{rights_tuples, r
 use Rattle.elaboration_laws.specs.clones.clone_elements.Plans.{fates_of, kept}
 use Rattle.elaboration_laws.specs.clones.clone_copies.Origins.{Axioms, no_axioms, with_axioms, axioms_at, origin_of}
 use Rattle.elaboration_laws.specs.clones.clone_copies.Entries.{entries_copied}
-use Rattle.elaboration_laws.specs.clones.clone_copies.Moves.{AreMovesMapped}
+use Rattle.elaboration_laws.specs.clones.clone_copies.Moves.{moves_mapped}
 use Rattle.elaboration_laws.specs.clones.clone_copies.Places.{Copying, with_places}
 use Rattle.elaboration_laws.specs.Placed.{ArePlaced}
 use Rattle.theories.specs.cloning.Cloned.{symbols_tupled, sides_in, map_in, AreTold, within_of, copying_in, with_copied_entries, with_names, IsCloned}
 use Rattle.elaboration_laws.specs.PlaceSteps.{copy_steps_at}
 use Rattle.elaboration_laws.proofs.PlaceSteps.{places_made, cloned_places}
 use Rattle.elaboration_laws.proofs.Moves.{moves_become}
-use Rattle.theories.specs.Plain.{IsSaid, IsPlainAxiom, IsPlainTheory, IsPlainKnown, ArePlainTheories, IsPlainState}
+use Rattle.theories.specs.Plain.{IsSaid, IsPlainAxiom, ArePlainAxioms, ArePlainTheories, IsPlainState}
 use Rattle.theories.proofs.Steps.{steps_declarations, steps_taken}
 use Rattle.theories.proofs.Fits.{tupled_built, keeps}
-use Rattle.theories.proofs.Plain.{handed_plain, moves_mapped, known_more, opened_more}
+use Rattle.theories.proofs.Plain.{axioms_more, known_more}
 use Rattle.theories.proofs.Goals.{IsSaidAt, IsReached, all_reached, built, scoped, is_clone}
 use Rattle.std.proofs.lemmas.Option.{slice_get-get_or as some_at}
 use Rattle.elaboration_laws.proofs.Numbers.{later}
@@ -104,8 +102,8 @@ said_at decls as_ sound plain p vars q = of (axiom_found as_ no_axioms p vars q)
     of (inr z) = absurd (let y : None ≡ Some vars = z in cc)
 
 -- ---- a clone
-module _ (c : StateTree) (t : KnownTree) (es : List Element) (typed : IsTypedState c) (placed : ArePlaced c.symbols) (sound : IsSoundState c) (known : IsSoundKnown c.trees c.symbols c.decls t) (apart : IsApart c.decls c.opened.path t) (plain : IsPlainKnown c.decls t)
-    (names : rights_fault c.trees c.symbols c.opened.scope es ≡ None) (told : AreTold c t es None) (within : Word) where
+module _ (c : StateTree) (t : KnownTree) (es : List Element) (typed : IsTypedState c) (placed : ArePlaced c.symbols) (sound : IsSoundState c) (known : IsSoundKnown c.symbols c.decls t) (apart : IsApart c.decls c.opened.path t) (plain : ArePlainAxioms c.decls t.axioms)
+    (names : rights_fault c.symbols c.opened.scope es ≡ None) (told : AreTold c t es None) (within : Word) where
   abbrev xs : List SymbolTree
   xs = symbols_tupled c es
 
@@ -131,7 +129,7 @@ module _ (c : StateTree) (t : KnownTree) (es : List Element) (typed : IsTypedSta
   ss = copy_steps_at x c.decls t.visible
 
   said : (p : ℕ) (vars : List Word) → axioms_at t.axioms p ≡ Some vars → IsSaidAt c.decls p vars
-  said p vars q = said_at c.decls t.axioms known.theory.sound_axioms plain.axioms_said p vars q
+  said p vars q = said_at c.decls t.axioms known.theory.sound_axioms plain p vars q
 
   -- ---- places
   once : IsDistinct c.opened.visible
@@ -173,28 +171,29 @@ module _ (c : StateTree) (t : KnownTree) (es : List Element) (typed : IsTypedSta
   visible_are = places_made x begin sound.opened.theory.whole sound.opened.theory.below once t.visible all_low all_distinct
 
   -- ---- names
-  module _ (s : List Tree) (grows : Grows c.trees s) (ms : List Move) (mapped : AreMovesMapped s xs m t.moves ms) (l : Link) (last : Word) (alias : Option Word) where
+  abbrev ms : List MoveTree
+  ms = moves_mapped xs m t.moves
+
+  there_part : IsSubvocabulary (after known.earlier [] (visible_in c t)) (after xs [] (declarations_of ss))
+  there_part =
+      let e : xs ≡ known.earlier ++ (known.later ++ rights_tuples c.symbols es) = ap (λ (zs : List SymbolTree). zs ++ rights_tuples c.symbols es) known.symbols ∙ append_assoc known.earlier known.later (rights_tuples c.symbols es) in
+      subst (λ (ds : List DeclarationTree). IsSubvocabulary (after known.earlier [] (visible_in c t)) (after xs [] ds)) (sym (steps_declarations x c.decls t.visible all_low))
+      (subst (λ (zs : List SymbolTree). IsSubvocabulary (after known.earlier [] (visible_in c t)) (after zs [] (visible_in c t))) (sym e) (more_part known.earlier (known.later ++ rights_tuples c.symbols es) [] (visible_in c t)))
+
+  moves_typed : AreTypedMoves (after (xs ++ more) [] (first ++ made_from m path within first ss)) ms
+  moves_typed =
+      let v = after xs [] (declarations_of ss) in
+      let h = clone_sound m path within first xs more ss (is_clone c t es typed placed sound known apart names told within said reached.us) in
+      moves_become v (after (xs ++ more) [] (first ++ made_from m path within first ss)) m h.morphism t.moves (moves_more (after known.earlier [] (visible_in c t)) v there_part t.moves known.theory.typed_moves)
+
+  module _ (l : Link) (last : Word) (alias : Option Word) where
     abbrev next : StateTree
-    next = record (with_names l last alias ms end) { trees = s }
-
-    there_part : IsSubvocabulary (after known.earlier [] (visible_in c t)) (after xs [] (declarations_of ss))
-    there_part =
-        let e : xs ≡ known.earlier ++ (known.later ++ rights_tuples c.symbols es) = ap (λ (zs : List SymbolTree). zs ++ rights_tuples c.symbols es) known.symbols ∙ append_assoc known.earlier known.later (rights_tuples c.symbols es) in
-        subst (λ (ds : List DeclarationTree). IsSubvocabulary (after known.earlier [] (visible_in c t)) (after xs [] ds)) (sym (steps_declarations x c.decls t.visible all_low))
-        (subst (λ (zs : List SymbolTree). IsSubvocabulary (after known.earlier [] (visible_in c t)) (after zs [] (visible_in c t))) (sym e) (more_part known.earlier (known.later ++ rights_tuples c.symbols es) [] (visible_in c t)))
-
-    moves_typed : AreTypedMoves (after (xs ++ more) [] (first ++ made_from m path within first ss)) s ms
-    moves_typed =
-        let v = after xs [] (declarations_of ss) in
-        let h = clone_sound m path within first xs more ss (is_clone c t es typed placed sound known apart names told within said reached.us) in
-        moves_become v (after (xs ++ more) [] (first ++ made_from m path within first ss)) m s h.morphism t.moves ms plain.plain_moves
-        (moves_more (after known.earlier [] (visible_in c t)) v there_part c.trees s grows t.moves known.theory.typed_moves) mapped
+    next = with_names l last alias ms end
 
     after_clone : IsAfterClone c next t (rights_tuples c.symbols es) more reached.new m within ss reached.axioms reached.goals l last alias ms
     after_clone =
         let p = cloned_places x begin t refl sound.opened.theory.whole sound.opened.theory.below once all_low all_distinct in
         record {
-          trees = grows;
           symbols = symbols_are;
           decls = reached.grew.decls;
           of = reached.of;
@@ -203,7 +202,7 @@ module _ (c : StateTree) (t : KnownTree) (es : List Element) (typed : IsTypedSta
           axioms_are = reached.grew.axioms_are;
           goals_are = reached.grew.goals_are;
           scope_is = ap (brought l last alias ms) reached.grew.scope;
-          moves_are = ap (λ (zs : List Move). zs ++ handed l ms) reached.grew.moves;
+          moves_are = ap (λ (zs : List MoveTree). zs ++ handed l ms) reached.grew.moves;
           places = record { kept = p.kept; taken = p.taken; new = p.new; from = p.from; apart = p.apart; below = p.below; once = p.once };
           visible = visible_are;
           steps = steps_declarations x c.decls t.visible all_low;
@@ -220,7 +219,7 @@ module _ (c : StateTree) (t : KnownTree) (es : List Element) (typed : IsTypedSta
       scoped = subst (All IsScopedEntry) (sym symbols_are) (scoped c t es typed placed sound known apart names told within said reached.us);
       keeps = keeps c t es [] typed placed sound known apart names told within;
       fit = (is_clone c t es typed placed sound known apart names told within said reached.us).fit;
-      typed_moves = over_next (λ (zs : List SymbolTree) (ds : List DeclarationTree). AreTypedMoves (after zs [] ds) s ms) moves_typed;
+      typed_moves = over_next (λ (zs : List SymbolTree) (ds : List DeclarationTree). AreTypedMoves (after zs [] ds) ms) moves_typed;
       sound_goals = over_next (λ (zs : List SymbolTree) (ds : List DeclarationTree). All (IsSoundAmong zs ds) reached.goals) reached.sound_goals;
       sound_axioms = reached.sound_axioms;
     }
@@ -231,32 +230,29 @@ module _ (c : StateTree) (t : KnownTree) (es : List Element) (typed : IsTypedSta
     pub next_plain : IsPlainState c → IsPlainState next
     next_plain p = record {
       known = subst (ArePlainTheories next.decls) (sym reached.grew.known) (subst (λ (ds : List DeclarationTree). ArePlainTheories ds c.known) (sym reached.grew.decls) (known_more c.decls reached.new c.known p.known));
-      opened =
-          subst (λ (as_ : List AxiomAt). IsPlainTheory next.decls as_ next.opened.moves) (sym reached.grew.axioms_are)
-          (subst (λ (ns : List Move). IsPlainTheory next.decls (c.opened.axioms ++ reached.axioms) (ns ++ handed l ms)) (sym reached.grew.moves)
-          (subst (λ (ds : List DeclarationTree). IsPlainTheory ds (c.opened.axioms ++ reached.axioms) (c.opened.moves ++ handed l ms)) (sym reached.grew.decls)
-          (opened_more c.decls reached.new c.opened.axioms reached.axioms c.opened.moves (handed l ms) p.opened
-          (subst (λ (ds : List DeclarationTree). All (IsPlainAxiom ds) reached.axioms) reached.grew.decls reached.plain_axioms)
-          (handed_plain l ms (moves_mapped s xs m t.moves ms plain.plain_moves mapped)))));
+      opened = subst (ArePlainAxioms next.decls) (sym reached.grew.axioms_are) (All-append (IsPlainAxiom next.decls) c.opened.axioms reached.axioms
+          (subst (λ (ds : List DeclarationTree). ArePlainAxioms ds c.opened.axioms) (sym reached.grew.decls) (axioms_more c.decls reached.new c.opened.axioms p.opened)) reached.plain_axioms);
     }
 
 -- ---- the state
-pub cloned_sound : (l : Link) (p : Path) (alias : Option Name) (es : List Element) (c c' : StateTree) → IsCloned l p alias es c c' → IsTypedState c → ArePlaced c.symbols → IsPlainState c → IsSoundState c → IsSoundState c'
-cloned_sound l p alias es c c' h typed placed plain sound =
-    let t = h.theory in
-    let i : Contains c.known t = found_in c.known (path_text p.parts) t h.found in
-    let known = All-contains (IsSoundKnown c.trees c.symbols c.decls) c.known t sound.known i in
-    let apart = All-contains (IsApart c.decls c.opened.path) c.known t sound.apart i in
-    let own = All-contains (IsPlainKnown c.decls) c.known t plain.known i in
-    let within = within_of l (last_part p.parts) (alias_text alias) c.opened.within in
-    subst IsSoundState (sym h.is) (next_sound c t es typed placed sound known apart own h.names h.right within c'.trees h.grows h.moves h.mapped l (last_part p.parts) (alias_text alias))
+module _ (l : Link) (p : Path) (alias : Option Name) (es : List Element) (c c' : StateTree) (h : IsCloned l p alias es c c') (typed : IsTypedState c) (placed : ArePlaced c.symbols) (plain : IsPlainState c) (sound : IsSoundState c) where
+  there : Contains c.known h.theory
+  there = found_in c.known (path_text p.parts) h.theory h.found
 
-pub cloned_plain : (l : Link) (p : Path) (alias : Option Name) (es : List Element) (c c' : StateTree) → IsCloned l p alias es c c' → IsTypedState c → ArePlaced c.symbols → IsPlainState c → IsSoundState c → IsPlainState c'
-cloned_plain l p alias es c c' h typed placed plain sound =
-    let t = h.theory in
-    let i : Contains c.known t = found_in c.known (path_text p.parts) t h.found in
-    let known = All-contains (IsSoundKnown c.trees c.symbols c.decls) c.known t sound.known i in
-    let apart = All-contains (IsApart c.decls c.opened.path) c.known t sound.apart i in
-    let own = All-contains (IsPlainKnown c.decls) c.known t plain.known i in
-    let within = within_of l (last_part p.parts) (alias_text alias) c.opened.within in
-    subst IsPlainState (sym h.is) (next_plain c t es typed placed sound known apart own h.names h.right within c'.trees h.grows h.moves h.mapped l (last_part p.parts) (alias_text alias) plain)
+  known : IsSoundKnown c.symbols c.decls h.theory
+  known = All-contains (IsSoundKnown c.symbols c.decls) c.known h.theory sound.known there
+
+  apart : IsApart c.decls c.opened.path h.theory
+  apart = All-contains (IsApart c.decls c.opened.path) c.known h.theory sound.apart there
+
+  own : ArePlainAxioms c.decls h.theory.axioms
+  own = All-contains (λ (t : KnownTree). ArePlainAxioms c.decls t.axioms) c.known h.theory plain.known there
+
+  abbrev within : Word
+  within = within_of l (last_part p.parts) (alias_text alias) c.opened.within
+
+  pub cloned_sound : IsSoundState c'
+  cloned_sound = subst IsSoundState (sym h.is) (next_sound c h.theory es typed placed sound known apart own h.names h.right within l (last_part p.parts) (alias_text alias))
+
+  pub cloned_plain : IsPlainState c'
+  cloned_plain = subst IsPlainState (sym h.is) (next_plain c h.theory es typed placed sound known apart own h.names h.right within l (last_part p.parts) (alias_text alias) plain)

@@ -65,6 +65,6 @@ pub declared_words : (d : source.SyntaxDeclaration) (c c' : StateTree) → AreWo
 declared_words d c c' q e h =
     let names = names_written d q in
     let own : IsNamed e.parts = subst (λ (o : Option Declaration). IfSome o IsNamed) e.of names in
-    let made = outcome_words (state_setting c) c'.trees h.within e.parts e.outcome e.is own in
-    let named : HasWordNames (with_named d e.outcome c'.trees c) = record { symbols = All-append HasWord c.symbols e.outcome.symbols h.symbols made; within = h.within; axioms = h.axioms; known = h.known } in
-    subst HasWordNames (sym e.known) (known_words (proposition_in d) e.outcome.rigid e.outcome.decls (with_named d e.outcome c'.trees c) (proposition_words d names) named)
+    let made = outcome_words (state_setting c) h.within e.parts e.outcome e.is own in
+    let named : HasWordNames (with_named d e.outcome c) = record { symbols = All-append HasWord c.symbols e.outcome.symbols h.symbols made; within = h.within; axioms = h.axioms; known = h.known } in
+    subst HasWordNames (sym e.known) (known_words (proposition_in d) e.outcome.rigid e.outcome.decls (with_named d e.outcome c) (proposition_words d names) named)

@@ -11,7 +11,7 @@ use Rattle.elaboration_laws.specs.clones.Mapped.{Map}
 use Rattle.surface.specs.declared.declarations.SymbolWord.{SymbolWord}
 use Rattle.surface.specs.declared.declarations.PropKind.{PropKind}
 use Rattle.surface.specs.Declarations.{Element, type_element, symbol_element, prop_element, all_axioms}
-use Rattle.elaboration_laws.proofs.Places.{none_here, cases_of, here}
+use Rattle.elaboration_laws.proofs.Places.{none_here, here}
 use Rattle.elaboration_laws.specs.clones.declared.clone_elements.plans.Fate.{Fate}
 use Rattle.elaboration_laws.specs.clones.declared.clone_elements.plans.Fate.TheVariants.{Replaced, Becomes}
 use Rattle.elaboration_laws.specs.clones.clone_elements.Left.{Origin, decl_or, abstract_symbol, symbol_at_place}

@@ -1,5 +1,5 @@
 -- A theory ends, and theories are collected.
-use Rattle.std.proofs.Common.{◌≡◌, ℕ, ◌+◌, List, [], ◌∷◌, ◌++◌, map, length, slice_get, zero, suc, get_or, Option, Some, None, IfSome, All, refl, sym, ap, subst, ◌∙◌, arith}
+use Rattle.std.proofs.Common.{◌≡◌, ℕ, ◌+◌, List, [], ◌∷◌, ◌++◌, map, length, slice_get, zero, suc, get_or, Some, All, refl, sym, ap, subst, ◌∙◌, arith}
 use Rattle.std.specs.Prelude.{option_to_list}
 use Rattle.std.specs.List.{AllByRecursion}
 use Rattle.std.proofs.lemmas.List.{map-append}
@@ -15,10 +15,8 @@ use Rattle.elaboration_laws.proofs.Begin.{begins}
 use Rattle.elaboration_laws.proofs.TaskOutcomes.{begins as begins_built}
 use Rattle.elaboration_laws.specs.Moves.{AreTypedMoves}
 use Rattle.tasks.specs.Meaning.{symbols_at, declaration_at, declarations_at, SymbolHeld, DeclHeld}
-use Rattle.tasks.specs.trees.declared.TermId.{TermId}
-use Rattle.tasks.specs.trees.Node.{Holds}
 use Rattle.tasks.specs.declared.signature.SymbolInfo.{SymbolInfo}
-use Rattle.elaboration_laws.specs.open_types.Drafts.{HoldsType, SymbolTyped}
+use Rattle.elaboration_laws.specs.open_types.Drafts.{SymbolTyped}
 use Rattle.elaboration_laws.specs.theory_states.goal_tasks.Theories.{KnownTheoryTree, TheoriesTree}
 use Rattle.elaboration_laws.specs.theory_states.declared.goal_tasks.theories.Theory.{Theory}
 use Rattle.tasks.specs.declared.signature.Signature.{Signature}
@@ -100,19 +98,19 @@ theories_held s ds [] a = tt
 theories_held s ds (k ∷ ks) a = (let one = a 0 k (omega arith) in record { visible = one.visible; goals = one.goals }, theories_held s ds ks (λ i x h. a (suc i) x (omega arith)))
 
 -- ---- at the beginning
-pub nothing_typed : (s : List Tree) → AreTypedTheories (nothing_known s)
-nothing_typed s =
+pub nothing_typed : AreTypedTheories nothing_known
+nothing_typed =
     let symbols : List SymbolTree = int_symbol ∷ [] in
-    let c : Setting = record { theory = 1 ∷ []; within = []; decl = 0; trees = s; symbols = symbols; scope = empty_names } in
+    let c : Setting = record { theory = 1 ∷ []; within = []; decl = 0; symbols = symbols; scope = empty_names } in
     record {
       signature = (begins (of_signature symbols) refl c refl refl refl refl).signature;
       built = begins_built;
-      known = All-nil (λ (t : KnownTree). AreTypedMoves (of_signature symbols) s t.moves);
+      known = All-nil (λ (t : KnownTree). AreTypedMoves (of_signature symbols) t.moves);
     }
 
-pub begin_is : (s : List Tree) (t : Typed) → symbols_at s t.sig.symbols ≡ int_symbol ∷ [] → t.decls ≡ [] → t.known ≡ [] → between_at s t 0 ≡ nothing_known s
+pub begin_is : (s : List Tree) (t : Typed) → symbols_at s t.sig.symbols ≡ int_symbol ∷ [] → t.decls ≡ [] → t.known ≡ [] → between_at s t 0 ≡ nothing_known
 begin_is s t p q r =
-    let mk : List SymbolTree → List DeclarationTree → List KnownTree → StateTree = λ a b k. record { trees = s; symbols = a; decls = b; known = k; opened = opened_empty []; number = 0 } in
+    let mk : List SymbolTree → List DeclarationTree → List KnownTree → StateTree = λ a b k. record { symbols = a; decls = b; known = k; opened = opened_empty []; number = 0 } in
     ap (λ (a : List SymbolTree). mk a (declarations_at s t.decls) (map (known_at s) t.known)) p
     ∙ ap (λ (ds : List Decl). mk (int_symbol ∷ []) (declarations_at s ds) (map (known_at s) t.known)) q
     ∙ ap (λ (ks : List KnownTheory). mk (int_symbol ∷ []) [] (map (known_at s) ks)) r
@@ -127,7 +125,7 @@ begin_right s t sig p q r = record {
     decls = subst (All (DeclHeld s)) (sym q) (All-nil (DeclHeld s));
     known = subst (All (KnownTheoryHeld s (length t.decls))) (sym r) (All-nil (KnownTheoryHeld s (length t.decls)));
   };
-  typed = subst AreTypedTheories (sym (begin_is s t p q r)) (nothing_typed s);
+  typed = subst AreTypedTheories (sym (begin_is s t p q r)) nothing_typed;
   placed = subst ArePlaced (sym p) int_placed;
 }
 

@@ -1,6 +1,6 @@
 -- The map of a clone fits the steps of the clone: the symbols of copies are new, those that are replaced became symbols with the mapped
 -- signature, and those of other theories stay.
-use Rattle.std.proofs.Common.{◌≡◌, ◌≢◌, ◌⊎◌, inl, inr, ℕ, ◌+◌, ◌<◌, ◌&&◌, not, if◌then◌else◌, zero, suc, Bool, true, false, List, [], ◌∷◌, ◌++◌, map, length, get_or, slice_get, Contains, All, Option, Some, None, IsSomeAnd, refl, sym, ap, subst, ◌∙◌, arith, length-append, append_assoc}
+use Rattle.std.proofs.Common.{◌≡◌, ◌≢◌, ◌⊎◌, inl, inr, ℕ, ◌<◌, ◌&&◌, not, if◌then◌else◌, zero, suc, Bool, true, false, List, [], ◌∷◌, ◌++◌, length, get_or, slice_get, Contains, All, Option, Some, None, IsSomeAnd, refl, sym, ap, subst, ◌∙◌, arith, length-append, append_assoc}
 use Rattle.std.specs.Str.{bytes_eq}
 use Rattle.std.proofs.lemmas.List.{get_or_append_left}
 use Rattle.std.proofs.lemmas.List.Elements.{All-nil, All-cons, All-contains, Contains-get_or}
@@ -79,8 +79,8 @@ says_nothing (Defines ds) k h c = absurd h
 says_nothing (Induces ds) k h c = absurd h
 says_nothing (Constructs ds) k h c = absurd h
 
-module _ (c : StateTree) (t : KnownTree) (es : List Element) (rest : List SymbolTree) (typed : IsTypedState c) (placed : ArePlaced c.symbols) (sound : IsSoundState c) (known : IsSoundKnown c.trees c.symbols c.decls t) (apart : IsApart c.decls c.opened.path t)
-    (names : rights_fault c.trees c.symbols c.opened.scope es ≡ None) (told : AreTold c t es None) (within : Word) where
+module _ (c : StateTree) (t : KnownTree) (es : List Element) (rest : List SymbolTree) (typed : IsTypedState c) (placed : ArePlaced c.symbols) (sound : IsSoundState c) (known : IsSoundKnown c.symbols c.decls t) (apart : IsApart c.decls c.opened.path t)
+    (names : rights_fault c.symbols c.opened.scope es ≡ None) (told : AreTold c t es None) (within : Word) where
   abbrev o : Origin
   o = origin_of c.decls t
 
@@ -169,13 +169,13 @@ module _ (c : StateTree) (t : KnownTree) (es : List Element) (rest : List Symbol
   types_tupled = rights_typed places es (state_setting c) typed_setting names
 
   number : (q : ℕ × ℕ) → Contains (symbols_replaced o sides) q → IsSymbolNumber old q.1
-  number q z = right_numbers old c.trees c.opened.scope sound.opened.scopes places o es c.symbols names q z
+  number q z = right_numbers old c.opened.scope sound.opened.scopes places o es c.symbols names q z
 
   below : (q : ℕ × ℕ) → Contains (symbols_replaced o sides) q → q.1 < length xs
   below q z = let l = (number q z).there in let n = length-append c.symbols tuples in omega (arith, l, n)
 
   stays : (k : ℕ) → (IsMadeOwn o k → ⊥) → IsFixed m k
-  stays k n = fixed c.symbols xs c.decls t sides source_sound (sides_read c.symbols o c.trees c.opened.scope es c.symbols) told below k n
+  stays k n = fixed c.symbols xs c.decls t sides source_sound (sides_read c.symbols o c.opened.scope es c.symbols) told below k n
 
   -- ---- what is built in stays
   pub keeps : KeepsBuilt xs m
@@ -199,7 +199,7 @@ module _ (c : StateTree) (t : KnownTree) (es : List Element) (rest : List Symbol
   module _ (p : ℕ) (own : Contains o.own p) (free : is_replaced (final p) ≡ false) where
     new : (k : ℕ) → MakesAt p k → BecomesNew xs all m path within k × (Contains (made first) (m.symbols k) → ⊥)
     new k z =
-        let read = sides_read c.symbols o c.trees c.opened.scope es c.symbols in
+        let read = sides_read c.symbols o c.opened.scope es c.symbols in
         let at = copied_at c.symbols xs c.decls t sides source_sound read told below p k own free z in
         let e : slice_get made_copies at.place ≡ Some (entry_copied m path within (symbol_or xs k)) = copied_there (λ (j : ℕ). entry_copied m path within (symbol_or xs j)) (kept o final) at.place k at.at in (
           record {
@@ -222,7 +222,7 @@ module _ (c : StateTree) (t : KnownTree) (es : List Element) (rest : List Symbol
 
   type_image : (p k : ℕ) (e : Tree) → Contains t.visible p → body_of p ≡ MakesType k → Contains (types_replaced xs o sides) (k, e) → Image (MakesType k) k
   type_image p k e v b z =
-      let read = sides_read c.symbols o c.trees c.opened.scope es c.symbols in
+      let read = sides_read c.symbols o c.opened.scope es c.symbols in
       let r = replaced_type c.symbols xs c.decls t sides source_sound read told below k e z in
       let i : IsTypeIn w (symbol_or xs k).vars r.type = types_fit xs o w sides no_fates types_there (k, r.type) r.there in
       let x : IsTypeEntry (after xs [] (visible_in c t)) k = subst (IsValidBody (after xs [] (visible_in c t)) (decl_or c.decls p).vars) b (valid_at p k v (type_makes (body_of p) k b)) in
@@ -248,14 +248,14 @@ module _ (c : StateTree) (t : KnownTree) (es : List Element) (rest : List Symbol
 
   same_types : (k j : ℕ) → IsSymbolReplaced c.symbols xs o tried final k j → HasMappedTypes m (symbol_or xs k) (symbol_or xs j)
   same_types k j x =
-      signatures_agree (length xs) tried m (maps_agree c.symbols xs c.decls t sides source_sound (sides_read c.symbols o c.trees c.opened.scope es c.symbols) told below) u u
+      signatures_agree (length xs) tried m (maps_agree c.symbols xs c.decls t sides source_sound (sides_read c.symbols o c.opened.scope es c.symbols) told below) u u
       (λ i n e s q. subst (λ (v : ℕ). IsTypeIn u v e) (sym (type_vars xs i n s.1)) (trial_type i e q))
       (symbol_or xs k) (symbol_or xs j) refl (entry_types k) (entry_types j)
       (record { vars = sym x.vars; args = sym x.signature.args; result = sym x.signature.result })
 
   symbol_image : (p k j : ℕ) → Contains t.visible p → body_of p ≡ Makes k → Contains (symbols_replaced o sides) (k, j) → Image (Makes k) k
   symbol_image p k j v b z =
-      let read = sides_read c.symbols o c.trees c.opened.scope es c.symbols in
+      let read = sides_read c.symbols o c.opened.scope es c.symbols in
       let i = m.symbols k in
       let z2 = replaced_symbol c.symbols xs c.decls t sides source_sound read told below k j z in
       let x = symbol_from c.symbols xs c.decls t sides source_sound read told below k i z2 in
@@ -290,7 +290,7 @@ module _ (c : StateTree) (t : KnownTree) (es : List Element) (rest : List Symbol
       one k j (suc i, l, e) = absurd (omega (arith, l))
 
   fits_replaced : (p : ℕ) → Contains t.visible p → is_replaced (final p) ≡ true → StepFits xs m all path within first (leaves (decl_or c.decls p))
-  fits_replaced p v r = of (pair_of c.symbols xs c.decls t sides source_sound (sides_read c.symbols o c.trees c.opened.scope es c.symbols) told below p r)
+  fits_replaced p v r = of (pair_of c.symbols xs c.decls t sides source_sound (sides_read c.symbols o c.opened.scope es c.symbols) told below p r)
     where
       of : HasType o (types_replaced xs o sides) p ⊎ HasSymbol o (symbols_replaced o sides) p → StepFits xs m all path within first (leaves (decl_or c.decls p))
       of (inl h) = λ i d l. alone_image (MakesType h.symbol) (body_of p) h.symbol (get_or (made_by (body_of p)) i d) h.body refl (type_image p h.symbol h.type v h.body h.there) (Contains-get_or (made_by (body_of p)) i d l)

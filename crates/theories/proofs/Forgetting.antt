@@ -1,6 +1,5 @@
 -- What is typed soundly is typed.
 use Rattle.std.proofs.Common.{ℕ, List, [], ◌∷◌, inl, inr}
-use Rattle.tasks.specs.trees.Tree.{Tree}
 use Rattle.surface.specs.Declarations.{SyntaxDeclaration, SyntaxDeclarations, SyntaxTheory, type_decl, algebraic_decl, function_decl, predicate_decl, constant_decl, inductive_decl, prop_decl, use_decl, clone_decl, scope_decl, no_decls, more_decls}
 use Rattle.surface.specs.declared.declarations.File.{File}
 use Rattle.surface.specs.SurfaceDeclarations.{file_of}
@@ -64,17 +63,17 @@ embedded_forgotten path t c c' h = record { between = h.between; first = new_for
 pub file_forgotten : (f : List ℕ × File) (c c' : StateTree) → AreEmbeddedInBy AreSoundlyTyped f.0 (file_of f.1) c c' → AreEmbeddedIn f.0 (file_of f.1) c c'
 file_forgotten f c c' h = steps_so (IsEmbeddedBy AreSoundlyTyped f.0) (IsEmbedded f.0) (embedded_forgotten f.0) (file_of f.1) c c' h
 
-pub library_forgotten : (s : List Tree) (c : StateTree) → IsLibraryTypedBy AreSoundlyTyped s c → IsLibraryTyped s c
-library_forgotten s c h = record {
+pub library_forgotten : (c : StateTree) → IsLibraryTypedBy AreSoundlyTyped c → IsLibraryTyped c
+library_forgotten c h = record {
   files = h.files;
   are = h.are;
-  typed = steps_so (λ (f : List ℕ × File). AreEmbeddedInBy AreSoundlyTyped f.0 (file_of f.1)) (λ (f : List ℕ × File). AreEmbeddedIn f.0 (file_of f.1)) file_forgotten h.files (nothing_known s) c h.typed;
+  typed = steps_so (λ (f : List ℕ × File). AreEmbeddedInBy AreSoundlyTyped f.0 (file_of f.1)) (λ (f : List ℕ × File). AreEmbeddedIn f.0 (file_of f.1)) file_forgotten h.files nothing_known c h.typed;
 }
 
-pub forgotten : (s : List Tree) (source : List SyntaxTheory) (all : TheoriesTree) → SoundTheoriesOf s source all → TheoriesOf s source all
-forgotten s source all h = record {
+pub forgotten : (source : List SyntaxTheory) (all : TheoriesTree) → SoundTheoriesOf source all → TheoriesOf source all
+forgotten source all h = record {
   before = h.before;
-  library = library_forgotten s h.before h.library;
+  library = library_forgotten h.before h.library;
   after = h.after;
   typed = source_forgotten source h.before h.after h.typed;
   are = h.are;

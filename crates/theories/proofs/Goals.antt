@@ -32,7 +32,7 @@ use Rattle.theory_states.specs.declared.states.AxiomAt.{AxiomAt}
 use Rattle.theory_states.specs.States.{KnownTree, StateTree, visible_in, visible_now, with_declaration}
 use Rattle.elaboration_laws.specs.TypedStates.{state_setting, IsTypedState}
 use Rattle.elaboration_laws.specs.Sound.{is_other, others, IsSoundAmong, IsSoundAxiom, IsSoundKnown, IsApart, IsSoundState}
-use Rattle.elaboration_laws.proofs.Places.{there, further, places_agree}
+use Rattle.elaboration_laws.proofs.Places.{places_agree}
 use Rattle.elaboration_laws.proofs.Used.{among_more}
 use Rattle.elaboration_laws.specs.Cloning.{AreMadeRight, IsCloning, IsMadeRight}
 use Rattle.elaboration_laws.specs.Steps.{CopyStep, declaration_of, declarations_of, made_from, IsClone}
@@ -91,7 +91,6 @@ said_is b e q = subst IsSaid (sym q) tt
 
 -- a state with more entries of type variables, declarations, axioms and goals
 pub record IsGrown (s s' : StateTree) (vs : List Word) (ds : List DeclarationTree) (axioms : List AxiomAt) (goals : List GoalTree) : Type 0 where
-  pub trees : s'.trees ≡ s.trees
   pub symbols : s'.symbols ≡ s.symbols ++ map rigid_symbol vs
   pub decls : s'.decls ≡ s.decls ++ ds
   pub known : s'.known ≡ s.known
@@ -103,7 +102,6 @@ pub record IsGrown (s s' : StateTree) (vs : List Word) (ds : List DeclarationTre
 
 then_grown : (s s' r : StateTree) (vs us : List Word) (ds es : List DeclarationTree) (as_ bs : List AxiomAt) (gs hs : List GoalTree) → IsGrown s s' vs ds as_ gs → IsGrown s' r us es bs hs → IsGrown s r (vs ++ us) (ds ++ es) (as_ ++ bs) (gs ++ hs)
 then_grown s s' r vs us ds es as_ bs gs hs x y = record {
-  trees = y.trees ∙ x.trees;
   symbols = y.symbols ∙ (ap (λ (zs : List SymbolTree). zs ++ map rigid_symbol us) x.symbols ∙ (append_assoc s.symbols (map rigid_symbol vs) (map rigid_symbol us) ∙ sym (ap (λ (zs : List SymbolTree). s.symbols ++ zs) (map-append rigid_symbol vs us))));
   decls = y.decls ∙ (ap (λ (zs : List DeclarationTree). zs ++ es) x.decls ∙ append_assoc s.decls ds es);
   known = y.known ∙ x.known;
@@ -115,10 +113,9 @@ then_grown s s' r vs us ds es as_ bs gs hs x y = record {
 }
 
 -- ---- with one place
-none_grown : (s s' : StateTree) → s'.trees ≡ s.trees → s'.symbols ≡ s.symbols → s'.decls ≡ s.decls → s'.known ≡ s.known → s'.opened.path ≡ s.opened.path → s'.opened.scope ≡ s.opened.scope → s'.opened.moves ≡ s.opened.moves → s'.opened.axioms ≡ s.opened.axioms → s'.opened.goals ≡ s.opened.goals
+none_grown : (s s' : StateTree) → s'.symbols ≡ s.symbols → s'.decls ≡ s.decls → s'.known ≡ s.known → s'.opened.path ≡ s.opened.path → s'.opened.scope ≡ s.opened.scope → s'.opened.moves ≡ s.opened.moves → s'.opened.axioms ≡ s.opened.axioms → s'.opened.goals ≡ s.opened.goals
     → IsGrown s s' [] [] [] []
-none_grown s s' a b d e f g h i j = record {
-  trees = a;
+none_grown s s' b d e f g h i j = record {
   symbols = b ∙ sym (append-nil s.symbols);
   decls = d ∙ sym (append-nil s.decls);
   known = e;
@@ -130,14 +127,13 @@ none_grown s s' a b d e f g h i j = record {
 }
 
 itself_grown : (s : StateTree) → IsGrown s s [] [] [] []
-itself_grown s = none_grown s s refl refl refl refl refl refl refl refl refl
+itself_grown s = none_grown s s refl refl refl refl refl refl refl refl
 
 joined_grown : (k : ℕ) (s : StateTree) → IsGrown s (with_joined k s) [] [] [] []
-joined_grown k s = none_grown s (with_joined k s) refl refl refl refl refl refl refl refl refl
+joined_grown k s = none_grown s (with_joined k s) refl refl refl refl refl refl refl refl
 
 declared_grown : (d : DeclarationTree) (s : StateTree) → IsGrown s (with_declaration d s) [] (d ∷ []) [] []
 declared_grown d s = record {
-  trees = refl;
   symbols = sym (append-nil s.symbols);
   decls = refl;
   known = refl;
@@ -150,7 +146,6 @@ declared_grown d s = record {
 
 axiom_added : (vars : List Word) (d : DeclarationTree) (s : StateTree) → IsGrown s (with_copied_axiom vars d s) [] (d ∷ []) (axiom_at (length s.decls) vars ∷ []) []
 axiom_added vars d s = record {
-  trees = refl;
   symbols = sym (append-nil s.symbols);
   decls = refl;
   known = refl;
@@ -167,7 +162,6 @@ goal_here vars name e s = goal_of name (length s.opened.visible) e (next_numbers
 
 goal_added : (vars : List Word) (name : Word) (e : Tree) (s : StateTree) → IsGrown s (goal_with vars name (Says e) s) vars [] [] (goal_here vars name e s ∷ [])
 goal_added vars name e s = record {
-  trees = refl;
   symbols = refl;
   decls = sym (append-nil s.decls);
   known = refl;
@@ -180,7 +174,6 @@ goal_added vars name e s = record {
 
 lemma_added : (vars : List Word) (d : DeclarationTree) (e : Tree) (s : StateTree) → IsGrown s (with_declaration d (goal_with vars d.name (Says e) s)) vars (d ∷ []) [] (goal_here vars d.name e s ∷ [])
 lemma_added vars d e s = record {
-  trees = refl;
   symbols = refl;
   decls = refl;
   known = refl;
@@ -191,8 +184,8 @@ lemma_added vars d e s = record {
   goals_are = refl;
 }
 
-module _ (c : StateTree) (t : KnownTree) (es : List Element) (typed : IsTypedState c) (placed : ArePlaced c.symbols) (sound : IsSoundState c) (known : IsSoundKnown c.trees c.symbols c.decls t) (apart : IsApart c.decls c.opened.path t)
-    (names : rights_fault c.trees c.symbols c.opened.scope es ≡ None) (told : AreTold c t es None) (within : Word) (said : (p : ℕ) (vars : List Word) → axioms_at t.axioms p ≡ Some vars → IsSaidAt c.decls p vars) where
+module _ (c : StateTree) (t : KnownTree) (es : List Element) (typed : IsTypedState c) (placed : ArePlaced c.symbols) (sound : IsSoundState c) (known : IsSoundKnown c.symbols c.decls t) (apart : IsApart c.decls c.opened.path t)
+    (names : rights_fault c.symbols c.opened.scope es ≡ None) (told : AreTold c t es None) (within : Word) (said : (p : ℕ) (vars : List Word) → axioms_at t.axioms p ≡ Some vars → IsSaidAt c.decls p vars) where
   abbrev o : Origin
   o = origin_of c.decls t
 

@@ -1,5 +1,5 @@
 -- What is typed only adds entries, so that those of int.Int stay where they are.
-use Rattle.std.proofs.Common.{◌≡◌, ℕ, zero, suc, Bool, true, false, if◌then◌else◌, List, [], ◌∷◌, ◌++◌, map, Option, Some, None, slice_get, sym, subst}
+use Rattle.std.proofs.Common.{ℕ, Bool, true, false, if◌then◌else◌, List, [], ◌∷◌, ◌++◌, map, Option, Some, None, sym, subst}
 use Rattle.tasks.specs.Task.{SymbolTree, BodyTree, MakesType, Makes, Defines, Induces, Constructs, Says, DeclarationTree}
 use Rattle.tasks.specs.Rigid.{rigid_symbol}
 use Rattle.tasks.specs.Valid.{AreInts}
@@ -60,7 +60,7 @@ known_ints (Some p) rigid ds c h = proposed_ints p.0 (proposition_seen p.1).vars
 
 declared_ints : (d : SyntaxDeclaration) (c c' : StateTree) → IsDeclared d c c' → HasInts c → HasInts c'
 declared_ints d c c' e h =
-    subst HasInts (sym e.known) (known_ints (proposition_in d) e.outcome.rigid e.outcome.decls (with_named d e.outcome c'.trees c) (ints_more c.symbols e.outcome.symbols h))
+    subst HasInts (sym e.known) (known_ints (proposition_in d) e.outcome.rigid e.outcome.decls (with_named d e.outcome c) (ints_more c.symbols e.outcome.symbols h))
 
 -- ---- a clone
 goal_ints : (vars : List Word) (name : Word) (b : BodyTree) (c : StateTree) → HasInts c → HasInts (goal_with vars name b c)

@@ -1,12 +1,9 @@
 -- Lists of declarations that grow, and a theory that is found by its path.
-use Rattle.std.proofs.Common.{◌≡◌, ℕ, cond, Bool, true, false, List, [], ◌∷◌, ◌++◌, length, slice_get, All, Contains, Some, sym, ◌∙◌, arith, length-append}
-use Rattle.std.proofs.lemmas.List.Elements.{All-nil, All-cons, All-head, All-tail}
+use Rattle.std.proofs.Common.{◌≡◌, List, [], ◌∷◌, ◌++◌, length, slice_get, Some, sym, ◌∙◌, arith, length-append}
 use Rattle.tasks.specs.Task.{DeclarationTree}
 use Rattle.theory_states.specs.declared.states.AxiomAt.{AxiomAt}
-use Rattle.theory_states.specs.States.{KnownTree, known_has_path, known_named}
 use Rattle.elaboration_laws.proofs.Places.{there, further}
 use Rattle.theories.specs.Plain.{IsPlainAxiom}
-use Rattle.elaboration_laws.proofs.Numbers.{later}
 
 pub last_at : (ds : List DeclarationTree) (d e : DeclarationTree) → slice_get (ds ++ d ∷ []) (length ds) ≡ Some e → d ≡ e
 last_at [] d e q = cc

@@ -1,17 +1,15 @@
 -- What the left side of an element names: an own declaration of a theory that makes a type, or a symbol of the element's kind.
 use Rattle.std.proofs.Common.{◌≡◌, ◌≢◌, ℕ, if◌then◌else◌, Bool, true, false, List, [], ◌∷◌, ◌++◌, Contains, All, Option, Some, None, IfSome, refl, sym, ap, ◌∙◌, arith}
 use Rattle.std.proofs.lemmas.List.Elements.{All-nil, All-cons}
-use Rattle.tasks.specs.trees.Tree.{Tree}
 use Rattle.tasks.specs.declared.signature.SymbolKind.{SymbolKind}
 use Rattle.tasks.specs.declared.signature.SymbolKind.TheVariants as symbol
 use Rattle.tasks.specs.Task.{SymbolTree, symbol_or, BodyTree, MakesType, Makes, Defines, Induces, Constructs, Says}
 use Rattle.tasks.specs.Typing.{MakesTerms}
-use Rattle.elaboration_laws.specs.scopes.Names.{ScopeNames}
+use Rattle.elaboration_laws.specs.name_resolution.Where.{NamesTree}
 use Rattle.surface.specs.Lexeme.{Word}
 use Rattle.surface.specs.declared.declarations.SymbolWord.{SymbolWord}
 use Rattle.surface.specs.declared.declarations.SymbolWord.TheVariants as word
 use Rattle.surface.specs.Declarations.{Element, type_element, symbol_element, prop_element, all_axioms}
-use Rattle.elaboration_laws.proofs.Words.{same_word}
 use Rattle.elaboration_laws.specs.Morphisms.{KindBecomes}
 use Rattle.elaboration_laws.proofs.Places.{here}
 use Rattle.elaboration_laws.specs.clones.declared.clone_elements.left.Abstract.{Abstract}
@@ -188,15 +186,15 @@ module _ (symbols : List SymbolTree) (o : Origin) where
   left_of (prop_element i k c) = tt
   left_of (all_axioms i) = tt
 
-  module _ (s : List Tree) (names : ScopeNames) where
-    formed : (now : List SymbolTree) (e : Element) → IsFormed e (right_made s now names e)
+  module _ (names : NamesTree) where
+    formed : (now : List SymbolTree) (e : Element) → IsFormed e (right_made now names e)
     formed now (type_element i c vs f) = tt
     formed now (symbol_element i w c d) = tt
     formed now (prop_element i k c) = tt
     formed now (all_axioms i) = tt
 
-    pub sides_read : (es : List Element) (now : List SymbolTree) → All (IsRead symbols o) (sides_made places s now names es)
+    pub sides_read : (es : List Element) (now : List SymbolTree) → All (IsRead symbols o) (sides_made places now names es)
     sides_read [] now = All-nil (IsRead symbols o)
     sides_read (e ∷ es) now =
-        All-cons (IsRead symbols o) _ (sides_made places s (now ++ right_tuples now e) names es)
+        All-cons (IsRead symbols o) _ (sides_made places (now ++ right_tuples now e) names es)
         (record { left = left_of e; formed = formed now e }) (sides_read es (now ++ right_tuples now e))

@@ -1,7 +1,6 @@
 -- What the map of a clone takes each symbol and each type symbol to: of what is replaced one of its replacements, of what is copied
 -- its number among the copies, and else itself.
-use Rattle.std.proofs.Common.{◌≡◌, ◌⊎◌, inl, inr, ℕ, ◌+◌, ◌==◌, if◌then◌else◌, zero, suc, Bool, true, false, List, [], ◌∷◌, slice_get, Contains, Option, Some, None, refl, sym, ap, subst, ◌∙◌, arith}
-use Rattle.std.proofs.lemmas.Bool.Decides.{nat_tests}
+use Rattle.std.proofs.Common.{◌≡◌, ◌⊎◌, inl, inr, ℕ, ◌+◌, ◌==◌, if◌then◌else◌, suc, Bool, true, false, List, [], ◌∷◌, slice_get, Contains, Option, Some, None, refl, sym, ap, subst, ◌∙◌, arith}
 use Rattle.tasks.specs.trees.Tree.{Tree}
 use Rattle.elaboration_laws.specs.clones.Mapped.{Map}
 use Rattle.elaboration_laws.proofs.Places.{none_here, cases_of, here}

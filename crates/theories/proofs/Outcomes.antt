@@ -62,15 +62,15 @@ module _ (theory within : Word) (inner : IsScopedName within) where
       (constructors_words (length a.vars) (own_type y.symbol (length a.vars)) a.constructors y.cons h.0.constructors) (group_words ts ys h.1)
 
 -- ---- all declarations
-module _ (c : Setting) (s : List Tree) (inner : IsScopedName c.within) where
+module _ (c : Setting) (inner : IsScopedName c.within) where
   tuples_then : (o : Outcome) (ns : List ℕ) (own : List SymbolTree) → o.symbols ≡ wanting_tuples c.symbols ns ++ own → HaveWords own → HaveWords o.symbols
   tuples_then o ns own q h = rw q (All-append HasWord (wanting_tuples c.symbols ns) own (tuples_words ns c.symbols) h)
 
-  pub outcome_words : (d : Declaration) (o : Outcome) → IsOutcome c s d o → IsNamed d → HaveWords o.symbols
+  pub outcome_words : (d : Declaration) (o : Outcome) → IsOutcome c d o → IsNamed d → HaveWords o.symbols
   outcome_words (abstract_type x vs) o e h =
       let t = type_entry c.theory (full_name c x) (length vs) in
       tuples_then o [] (t ∷ []) (ap (λ (i : Outcome). i.symbols) e) (All-cons HasWord t [] (joined c.within x.name inner h) (All-nil HasWord))
-  outcome_words (alias x vs f) o e h = rw e.symbols (tuples_words (alias_seen f).widths c.symbols)
+  outcome_words (alias x vs f) o e h = let q : o.symbols ≡ wanting_tuples c.symbols (alias_seen f).widths = ap (λ (i : Outcome). i.symbols) e in rw q (tuples_words (alias_seen f).widths c.symbols)
   outcome_words (proposition_declaration k x y) o e h = let vs = rigid_names k (proposition_seen y).vars in tuples_then o (proposition_seen y).widths (map rigid_symbol vs) e.symbols (rigid_words vs (own_names k (proposition_seen y).vars h))
   outcome_words (algebraic ts) o e h =
       let T = type_entries c.theory c.within ts in

@@ -30,5 +30,5 @@ known_keeps (Some p) rigid ds c = proposed_keeps p.0 _ rigid ds c
 
 pub declared_placed : (d : SyntaxDeclaration) (c c' : StateTree) → is_empty c.opened.path ≡ false → IsDeclared d c c' → ArePlaced c.symbols → ArePlaced c'.symbols
 declared_placed d c c' n h p =
-    let e : c'.symbols ≡ c.symbols ++ h.outcome.symbols = ap (λ (z : StateTree). z.symbols) h.known ∙ known_keeps (proposition_in d) h.outcome.rigid h.outcome.decls (with_named d h.outcome c'.trees c) in
-    subst ArePlaced (sym e) (All-append IsPlacedEntry c.symbols h.outcome.symbols p (outcome_placed (state_setting c) c'.trees n h.parts h.outcome h.is))
+    let e : c'.symbols ≡ c.symbols ++ h.outcome.symbols = ap (λ (z : StateTree). z.symbols) h.known ∙ known_keeps (proposition_in d) h.outcome.rigid h.outcome.decls (with_named d h.outcome c) in
+    subst ArePlaced (sym e) (All-append IsPlacedEntry c.symbols h.outcome.symbols p (outcome_placed (state_setting c) n h.parts h.outcome h.is))

@@ -3,25 +3,26 @@ use Rattle.std.proofs.Common.{◌≡◌, ◌⊎◌, inl, inr, ℕ, ◌-◌, ◌<
 use Rattle.std.specs.Option.{is_some}
 use Rattle.std.specs.Str.{bytes_eq}
 use Rattle.std.proofs.lemmas.List.Elements.{All-nil, All-cons, All-head, All-tail, Contains-append_cases}
-use Rattle.tasks.specs.trees.Tree.{Tree}
 use Rattle.tasks.specs.declared.signature.SymbolKind.{SymbolKind}
 use Rattle.tasks.specs.declared.signature.SymbolKind.TheVariants.{Constructor}
 use Rattle.tasks.specs.Task.{SymbolTree, int_symbol, DeclarationTree}
 use Rattle.tasks.specs.Roles.{is_constructor, maker, role_by}
 use Rattle.tasks.specs.Vocabulary.{Vocabulary, passes, is_empty, is_constructor_kind}
 use Rattle.tasks.specs.Valid.{IsTypeIn}
-use Rattle.elaboration_laws.specs.scopes.Names.{ScopeNames, find_name, number_of, TypeName}
+use Rattle.elaboration_laws.specs.scopes.Names.{find_name, number_of}
 use Rattle.elaboration_laws.specs.scopes.declared.Table.TheVariants.{Symbols}
+use Rattle.elaboration_laws.specs.scopes.declared.Referent.TheVariants.{Entry, Alias}
 use Rattle.surface.specs.Lexeme.{Word}
 use Rattle.surface.specs.Declarations.{Element, type_element, symbol_element, prop_element, all_axioms}
 use Rattle.elaboration_laws.specs.name_resolution.Abstract.{texts_of_names, type_expression, text_of_own}
+use Rattle.elaboration_laws.specs.name_resolution.Where.{MeaningTree, NamesTree}
 use Rattle.elaboration_laws.specs.name_resolution.variables.Seen.{form_seen}
 use Rattle.elaboration_laws.specs.open_types.Pieces.{type_at}
 use Rattle.elaboration_laws.specs.elab_groups.parts.Elaborated.{unseen}
 use Rattle.elaboration_laws.specs.elab_groups.parts.Entries.{builtin, wanting_tuples}
 use Rattle.elaboration_laws.specs.elab_groups.parts.Outcomes.{Setting, over}
 use Rattle.elaboration_laws.specs.Signature.{with_entries}
-use Rattle.elaboration_laws.specs.Scopes.{is_projection_kind, IsNamedBy, NamesNew, IsSubvocabulary, AgreeBelow, IsSymbolNumber, IsTypedThing, AreTypedScopes}
+use Rattle.elaboration_laws.specs.Scopes.{is_projection_kind, IsNamedBy, NamesNew, IsSubvocabulary, AgreeBelow, IsSymbolNumber, IsNameOfSymbol, IsTypedThing, AreTypedScopes}
 use Rattle.elaboration_laws.proofs.Words.{self_word}
 use Rattle.elaboration_laws.proofs.Scopes.{found_thing}
 use Rattle.elaboration_laws.proofs.Extended.{further, in_either, slice_all, entries_part}
@@ -95,31 +96,31 @@ module _ (all : List SymbolTree) (ds : List DeclarationTree) where
   w = after all [] ds
 
   record IsTypedElement (c : Setting) (e : Element) : Type 0 where
-    right : IsTypedRight (with_entries w (c.symbols ++ right_tuples c.symbols e)) e (right_made c.trees c.symbols c.scope e)
+    right : IsTypedRight (with_entries w (c.symbols ++ right_tuples c.symbols e)) e (right_made c.symbols c.scope e)
     setting : IsTypedSetting w (record c { symbols = c.symbols ++ right_tuples c.symbols e })
 
   without : (c : Setting) → IsTypedSetting w c → IsTypedSetting w (record c { symbols = c.symbols ++ [] })
   without c h = subst (λ (es : List SymbolTree). IsTypedSetting w (record c { symbols = es })) (sym (append-nil c.symbols)) h
 
-  element_typed : (c : Setting) (e : Element) (rest : List SymbolTree) → (c.symbols ++ right_tuples c.symbols e) ++ rest ≡ all → IsTypedSetting w c → right_fault c.trees c.symbols c.scope e ≡ None → IsTypedElement c e
+  element_typed : (c : Setting) (e : Element) (rest : List SymbolTree) → (c.symbols ++ right_tuples c.symbols e) ++ rest ≡ all → IsTypedSetting w c → right_fault c.symbols c.scope e ≡ None → IsTypedElement c e
   element_typed c (type_element i d vs f) rest whole h q =
       let ys = wanting_tuples c.symbols (form_seen unseen (type_expression f)).widths in
       let news : NamesNew w (length c.symbols) (c.symbols ++ ys) =
       subst (λ (es : List SymbolTree). NamesNew (after es [] ds) (length c.symbols) (c.symbols ++ ys)) whole (tuples_named c.symbols ys rest ds (tuples_built c.symbols (form_seen unseen (type_expression f)).widths)) in
       let z = right_typed w c (texts_of_names vs) (type_expression f) h q news in
       record {
-        right = subst (λ (n : ℕ). IsTypeIn (with_entries w (c.symbols ++ ys)) n (type_at (over c.trees (c.symbols ++ ys) c.scope (texts_of_names vs)) (type_expression f))) (texts_count vs) z.type;
+        right = subst (λ (n : ℕ). IsTypeIn (with_entries w (c.symbols ++ ys)) n (type_at (over (c.symbols ++ ys) c.scope (texts_of_names vs)) (type_expression f))) (texts_count vs) z.type;
         setting = record { theory = h.theory; source = h.source; signature = z.signature; scopes = z.scopes };
       }
   element_typed c (symbol_element i s d e) rest whole h q = record { right = tt; setting = without c h }
   element_typed c (prop_element i k d) rest whole h q = record { right = tt; setting = without c h }
   element_typed c (all_axioms i) rest whole h q = record { right = tt; setting = without c h }
 
-  pub sides_after : (places : Word → Option ℕ) (es : List Element) (c : Setting) (rest : List SymbolTree) → (c.symbols ++ rights_tuples c.symbols es) ++ rest ≡ all → IsTypedSetting w c → rights_fault c.trees c.symbols c.scope es ≡ None
-      → All (IsTypedSide w) (sides_made places c.trees c.symbols c.scope es)
+  pub sides_after : (places : Word → Option ℕ) (es : List Element) (c : Setting) (rest : List SymbolTree) → (c.symbols ++ rights_tuples c.symbols es) ++ rest ≡ all → IsTypedSetting w c → rights_fault c.symbols c.scope es ≡ None
+      → All (IsTypedSide w) (sides_made places c.symbols c.scope es)
   sides_after places [] c rest whole h q = All-nil (IsTypedSide w)
   sides_after places (e ∷ es) c rest whole h q =
-      let p = first_none (right_fault c.trees c.symbols c.scope e) (rights_fault c.trees (c.symbols ++ right_tuples c.symbols e) c.scope es) q in
+      let p = first_none (right_fault c.symbols c.scope e) (rights_fault (c.symbols ++ right_tuples c.symbols e) c.scope es) q in
       let more = right_tuples c.symbols e in
       let now = c.symbols ++ more in
       let later = rights_tuples now es in
@@ -127,38 +128,39 @@ module _ (all : List SymbolTree) (ds : List DeclarationTree) where
       let split : now ++ (later ++ rest) ≡ all = sym (append_assoc now later rest) ∙ same in
       let x = element_typed c e (later ++ rest) split h p.0 in
       let part : IsSubvocabulary (with_entries w now) w = subst (λ (zs : List SymbolTree). IsSubvocabulary (with_entries w now) (with_entries w zs)) split (entries_part w now (later ++ rest)) in
-      All-cons (IsTypedSide w) _ (sides_made places c.trees now c.scope es)
-      (right_more (with_entries w now) w part e (right_made c.trees c.symbols c.scope e) x.right)
+      All-cons (IsTypedSide w) _ (sides_made places now c.scope es)
+      (right_more (with_entries w now) w part e (right_made c.symbols c.scope e) x.right)
       (sides_after places es (record c { symbols = now }) rest same x.setting p.1)
 
 -- ---- symbols on right sides
-module _ (v : Vocabulary) (s : List Tree) (names : ScopeNames) (scopes : AreTypedScopes v s names) where
+module _ (v : Vocabulary) (names : NamesTree) (scopes : AreTypedScopes v names) where
   abbrev RightSymbol : RightTree → Type 0
   RightSymbol (symbol_right k) = IsSymbolNumber v k
   RightSymbol r = Unit {0}
 
-  numbered : (o : Option TypeName) → IfSome o (IsTypedThing v s Symbols) → IfSome (option_map number_of o) (IsSymbolNumber v)
+  numbered : (o : Option MeaningTree) → IfSome o (IsNameOfSymbol v) → IfSome (option_map number_of o) (IsSymbolNumber v)
   numbered None h = tt
-  numbered (Some t) h = h
+  numbered (Some (Entry k)) h = h
+  numbered (Some (Alias vars t)) h = absurd h
 
   named_symbol : (token : ℕ) (o : Option ℕ) → symbol_missing token o ≡ None → IfSome o (IsSymbolNumber v) → IsSymbolNumber v (unwrap_or o 0)
   named_symbol token None q h = absurd (cc)
   named_symbol token (Some k) q h = h
 
-  right_symbol : (symbols : List SymbolTree) (e : Element) → right_fault s symbols names e ≡ None → RightSymbol (right_made s symbols names e)
+  right_symbol : (symbols : List SymbolTree) (e : Element) → right_fault symbols names e ≡ None → RightSymbol (right_made symbols names e)
   right_symbol symbols (type_element i c vs f) q = tt
-  right_symbol symbols (symbol_element i w c d) q = named_symbol d.at (called_symbol names d) q (numbered (find_name names Symbols (d.scopes ++ text_of_own d.own ∷ [])) (found_thing (IsTypedThing v s) names scopes Symbols (d.scopes ++ text_of_own d.own ∷ [])))
+  right_symbol symbols (symbol_element i w c d) q = named_symbol d.at (called_symbol names d) q (numbered (find_name names Symbols (d.scopes ++ text_of_own d.own ∷ [])) (found_thing (IsTypedThing v) names scopes Symbols (d.scopes ++ text_of_own d.own ∷ [])))
   right_symbol symbols (prop_element i k c) q = tt
   right_symbol symbols (all_axioms i) q = tt
 
   abbrev SideSymbol : SideTree → Type 0
   SideSymbol x = RightSymbol x.right
 
-  sides_symbols : (places : Word → Option ℕ) (es : List Element) (symbols : List SymbolTree) → rights_fault s symbols names es ≡ None → All SideSymbol (sides_made places s symbols names es)
+  sides_symbols : (places : Word → Option ℕ) (es : List Element) (symbols : List SymbolTree) → rights_fault symbols names es ≡ None → All SideSymbol (sides_made places symbols names es)
   sides_symbols places [] symbols q = All-nil SideSymbol
   sides_symbols places (e ∷ es) symbols q =
-      let p = first_none (right_fault s symbols names e) (rights_fault s (symbols ++ right_tuples symbols e) names es) q in
-      All-cons SideSymbol _ (sides_made places s (symbols ++ right_tuples symbols e) names es) (right_symbol symbols e p.0) (sides_symbols places es (symbols ++ right_tuples symbols e) p.1)
+      let p = first_none (right_fault symbols names e) (rights_fault (symbols ++ right_tuples symbols e) names es) q in
+      All-cons SideSymbol _ (sides_made places (symbols ++ right_tuples symbols e) names es) (right_symbol symbols e p.0) (sides_symbols places es (symbols ++ right_tuples symbols e) p.1)
 
   pair_symbol : (t : Origin) (left : Option ℕ) (r : RightTree) (p : ℕ × ℕ) → RightSymbol r → Contains (symbol_for t left r) p → IsSymbolNumber v p.1
   pair_symbol t (Some place) (symbol_right k) p h c = let e : (symbol_at_place t.decls place, k) ≡ p = only_here _ p c in subst (λ (q : ℕ × ℕ). IsSymbolNumber v q.1) e h
@@ -174,5 +176,5 @@ module _ (v : Vocabulary) (s : List Tree) (names : ScopeNames) (scopes : AreType
       of (inl z) f = pair_symbol t x.left x.right p (All-head SideSymbol x xs h) z
       of (inr z) f = f z
 
-  pub right_numbers : (places : Word → Option ℕ) (t : Origin) (es : List Element) (symbols : List SymbolTree) → rights_fault s symbols names es ≡ None → (p : ℕ × ℕ) → Contains (symbols_replaced t (sides_made places s symbols names es)) p → IsSymbolNumber v p.1
-  right_numbers places t es symbols q p c = pairs_symbols t (sides_made places s symbols names es) (sides_symbols places es symbols q) p c
+  pub right_numbers : (places : Word → Option ℕ) (t : Origin) (es : List Element) (symbols : List SymbolTree) → rights_fault symbols names es ≡ None → (p : ℕ × ℕ) → Contains (symbols_replaced t (sides_made places symbols names es)) p → IsSymbolNumber v p.1
+  right_numbers places t es symbols q p c = pairs_symbols t (sides_made places symbols names es) (sides_symbols places es symbols q) p c

@@ -25,7 +25,7 @@ all_valid all h =
     let c = h.state in
     let z = theories_of h.embedded c in
     let one : All (λ (k : KnownTree). HasValid z (visible_theory c k)) c.known =
-    λ i t l. λ j g m. let k = get_or c.known i t in goal_valid z c.trees c.decls k (get_or k.goals j g) (h.sound.known i t l) (Contains-get_or k.goals j g m) h.ints in
+    λ i t l. λ j g m. let k = get_or c.known i t in goal_valid z c.decls k (get_or k.goals j g) (h.sound.known i t l) (Contains-get_or k.goals j g m) h.ints in
     subst (λ (a : TheoriesTree). All (HasValid a) a.list) (sym h.are) (All-map (HasValid z) (visible_theory c) c.known one)
 
 pub task_valid : (all : TheoriesTree) (theory name : List ℕ) (t : TaskTree) → AreSoundIn all → IsTaskOf all theory name t → IsValid t

@@ -21,7 +21,6 @@ use Rattle.elaboration_laws.proofs.Quoted.{whole_in}
 use Rattle.elaboration_laws.specs.Placed.{ArePlaced}
 use Rattle.theory_states.specs.States.{OpenedTree, StateTree, visible_now}
 use Rattle.theory_states.specs.Uses.{IsTheoryUsed}
-use Rattle.elaboration_laws.specs.Unaliased.{IsPlainMove}
 use Rattle.elaboration_laws.specs.TypedStates.{IsTypedState}
 use Rattle.elaboration_laws.proofs.Keeping.{renamed_typed, used_typed}
 use Rattle.elaboration_laws.specs.Sound.{IsSoundState}
@@ -99,11 +98,11 @@ opened_good n c c' u h =
     let w = after c.symbols [] (visible_now c) in
     let o : OpenedTree = record c.opened { scope = with_scope n.text true c.opened.scope; within = c.opened.within ++ (n.text ++ codes "."); moves = c.opened.moves ++ Opens n.text ∷ [] } in
     subst IsGood (sym u.is) (record {
-      typed = renamed_typed c o (c.number + 1) refl (opened_typed v c.trees n.text true c.opened.scope h.typed.scopes) (All-push (IsTypedMove v c.trees) c.opened.moves (Opens n.text) h.typed.moves tt) h.typed;
+      typed = renamed_typed c o (c.number + 1) refl (opened_typed v n.text true c.opened.scope h.typed.scopes) (All-push (IsTypedMove v) c.opened.moves (Opens n.text) h.typed.moves tt) h.typed;
       placed = h.placed;
-      plain = scopes_plain c o.within o.scope (Opens n.text ∷ []) (c.number + 1) h.plain (All-cons IsPlainMove (Opens n.text) [] tt (All-nil IsPlainMove));
-      sound = scopes_kept c o.within o.scope (Opens n.text ∷ []) (c.number + 1) h.sound (opened_typed w c.trees n.text true c.opened.scope h.sound.opened.scopes)
-          (All-cons (IsTypedMove w c.trees) (Opens n.text) [] tt (All-nil (IsTypedMove w c.trees)));
+      plain = scopes_plain c o.within o.scope (Opens n.text ∷ []) (c.number + 1) h.plain;
+      sound = scopes_kept c o.within o.scope (Opens n.text ∷ []) (c.number + 1) h.sound (opened_typed w n.text true c.opened.scope h.sound.opened.scopes)
+          (All-cons (IsTypedMove w) (Opens n.text) [] tt (All-nil (IsTypedMove w)));
     })
 
 left_good : (outer : List ℕ) (c c' : StateTree) → IsLeft outer c c' → IsGood c → IsGood c'
@@ -112,11 +111,11 @@ left_good outer c c' u h =
     let w = after c.symbols [] (visible_now c) in
     let o : OpenedTree = record c.opened { scope = left c.opened.scope; within = outer; moves = c.opened.moves ++ Closes ∷ [] } in
     subst IsGood (sym u) (record {
-      typed = renamed_typed c o c.number refl (left_typed v c.trees c.opened.scope h.typed.scopes) (All-push (IsTypedMove v c.trees) c.opened.moves Closes h.typed.moves tt) h.typed;
+      typed = renamed_typed c o c.number refl (left_typed v c.opened.scope h.typed.scopes) (All-push (IsTypedMove v) c.opened.moves Closes h.typed.moves tt) h.typed;
       placed = h.placed;
-      plain = scopes_plain c outer o.scope (Closes ∷ []) c.number h.plain (All-cons IsPlainMove Closes [] tt (All-nil IsPlainMove));
-      sound = scopes_kept c outer o.scope (Closes ∷ []) c.number h.sound (left_typed w c.trees c.opened.scope h.sound.opened.scopes)
-          (All-cons (IsTypedMove w c.trees) Closes [] tt (All-nil (IsTypedMove w c.trees)));
+      plain = scopes_plain c outer o.scope (Closes ∷ []) c.number h.plain;
+      sound = scopes_kept c outer o.scope (Closes ∷ []) c.number h.sound (left_typed w c.opened.scope h.sound.opened.scopes)
+          (All-cons (IsTypedMove w) Closes [] tt (All-nil (IsTypedMove w)));
     })
 
 -- ---- declarations

@@ -1,10 +1,9 @@
 -- The theories of the embedded library are sound, and then those of a source.
-use Rattle.std.proofs.Common.{◌≡◌, ℕ, ◌+◌, Bool, true, false, List, [], ◌∷◌, ◌++◌, length, Option, Some, None, refl, sym, subst}
+use Rattle.std.proofs.Common.{◌≡◌, ℕ, ◌+◌, false, List, [], ◌∷◌, ◌++◌, length, Option, Some, None, refl, sym, subst}
 use Rattle.std.specs.Prelude.{◌||◌}
 use Rattle.std.specs.Str.{bytes_eq}
 use Rattle.std.specs.Option.{is_some}
 use Rattle.std.proofs.lemmas.List.Elements.{All-nil}
-use Rattle.tasks.specs.trees.Tree.{Tree}
 use Rattle.surface.specs.tokens_why.declared.token.Token.{Token}
 use Rattle.surface.specs.tokens_why.Tokens.{AreTokens}
 use Rattle.surface.specs.tokens_why.declared.terminal.Terminal.TheVariants as t
@@ -25,7 +24,7 @@ use Rattle.elaboration_laws.specs.TypedStates.{AreTypedTheories}
 use Rattle.elaboration_laws.proofs.Keeping.{theories_same, begun_typed, ended_typed}
 use Rattle.elaboration_laws.specs.Sound.{AreSoundTheories}
 use Rattle.elaboration_laws.proofs.Begun.{begins, ends, nothing_sound}
-use Rattle.theories.specs.Plain.{IsPlainKnown, ArePlainTheories}
+use Rattle.theories.specs.Plain.{ArePlainAxioms, ArePlainTheories}
 use Rattle.theories.proofs.Plain.{begins_plain, ends_plain}
 use Rattle.theories.specs.Files.{IsTheoryBegun, IsEnded, is_path_taken, IsNewTheoryBy, AreTypedInBy, IsRestarted, AreEmbeddedInBy, AreEmbeddedBy, nothing_known}
 use Rattle.theories.specs.Sound.{AreSoundlyTyped, SoundTheoriesOf}
@@ -43,7 +42,7 @@ pub record AreGood (c : StateTree) : Type 0 where
   pub typed : AreTypedTheories c
   pub placed : ArePlaced c.symbols
   pub plain : ArePlainTheories c.decls c.known
-  pub sound : AreSoundTheories c.trees c.symbols c.decls c.known
+  pub sound : AreSoundTheories c.symbols c.decls c.known
 
 none_of : (o : Option KnownTree) → is_some o ≡ false → o ≡ None
 none_of None q = refl
@@ -59,8 +58,8 @@ begun_good path c c' new e h =
     subst IsGood (sym e) (record {
       typed = begun_typed c path (c.number + 1) p.named p.other h.typed;
       placed = h.placed;
-      plain = begins_plain c.trees c.symbols c.decls c.known path (c.number + 1) h.plain;
-      sound = begins c.trees c.symbols c.decls c.known path (c.number + 1) h.sound p.named p.other (not_known path c.known new);
+      plain = begins_plain c.symbols c.decls c.known path (c.number + 1) h.plain;
+      sound = begins c.symbols c.decls c.known path (c.number + 1) h.sound p.named p.other (not_known path c.known new);
     })
 
 ended_good : (c c' : StateTree) → IsEnded c c' → IsGood c → AreGood c'
@@ -109,17 +108,17 @@ files_good (e ∷ es) (f ∷ fs) c c' a u h =
     files_good es fs u.between c' a.2 u.second
     (embedded_good f.0 (file_of f.1) c u.between a.1.only.of.right (quoted_file e.1 a.1.tokens (file_of f.1) a.1.are a.1.only) u.first h)
 
-nothing_good : (s : List Tree) → AreGood (nothing_known s)
-nothing_good s = record { typed = nothing_typed s; placed = int_placed; plain = All-nil (IsPlainKnown []); sound = nothing_sound s }
+nothing_good : AreGood nothing_known
+nothing_good = record { typed = nothing_typed; placed = int_placed; plain = All-nil (λ (t : KnownTree). ArePlainAxioms [] t.axioms); sound = nothing_sound }
 
-pub source_sound : (text : List ℕ) (ts : List Token) (file : List SyntaxTheory) (s : List Tree) (all : TheoriesTree) → AreTokens text ts → IsOnlyFile (rest text ts 0) file → SoundTheoriesOf s file all → AreSoundIn all
-source_sound text ts file s all are only h =
-    let b : AreGood h.before = files_good library h.library.files (nothing_known s) h.before h.library.are h.library.typed (nothing_good s) in
+pub source_sound : (text : List ℕ) (ts : List Token) (file : List SyntaxTheory) (all : TheoriesTree) → AreTokens text ts → IsOnlyFile (rest text ts 0) file → SoundTheoriesOf file all → AreSoundIn all
+source_sound text ts file all are only h =
+    let b : AreGood h.before = files_good library h.library.files nothing_known h.before h.library.are h.library.typed nothing_good in
     let a : AreGood h.after = theories_good file h.before h.after only.of.right (quoted_file text ts file are only) h.typed b in
     record {
       state = h.after;
       embedded = length h.before.known;
       are = h.are;
-      ints = source_ints file h.before h.after (source_forgotten file h.before h.after h.typed) (library_ints s h.before (library_forgotten s h.before h.library));
+      ints = source_ints file h.before h.after (source_forgotten file h.before h.after h.typed) (library_ints h.before (library_forgotten h.before h.library));
       sound = a.sound;
     }

@@ -6,7 +6,6 @@ use Rattle.surface.specs.Declarations.{SyntaxDeclaration, SyntaxDeclarations, ty
 use Rattle.surface.specs.SurfaceDeclarations.{decl_of, decls}
 use Rattle.elaboration_laws.specs.elab_declarations.Outcomes.{IsLogical}
 use Rattle.theory_states.specs.declared.fault.SourceFault.{SourceFault}
-use Rattle.theory_states.specs.declared.fault.SourceFault.TheVariants.{Memory, Unknown, Duplicate, WrongKind, Arity, Clash, Undetermined, NotExhaustive, BadClause, NotPositive, NotStructural, GroupTooWide, Uninhabited, BadSubstitution}
 use Rattle.theory_states.specs.States.{StateTree}
 use Rattle.theory_states.specs.Uses.{OrMemory}
 use Rattle.theories.specs.declaring.Declared.{IsDeclaredFault}

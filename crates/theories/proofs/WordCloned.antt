@@ -1,6 +1,5 @@
 -- After a clone names are still words: copies keep their names under those of scopes, and the goals of axioms have their type variables.
-use Rattle.std.proofs.Common.{◌≡◌, ℕ, ◌==◌, Bool, true, false, cond, if◌then◌else◌, codes, List, [], ◌∷◌, ◌++◌, map, length, All, Option, Some, None, refl, sym, subst}
-use Rattle.std.specs.List.{find}
+use Rattle.std.proofs.Common.{ℕ, ◌==◌, Bool, true, false, if◌then◌else◌, codes, List, [], ◌∷◌, ◌++◌, map, length, All, Option, Some, None, refl, sym, subst}
 use Rattle.std.specs.Option.{IfSome}
 use Rattle.std.proofs.lemmas.List.Elements.{All-nil, All-cons, All-append, All-push, All-head, All-tail}
 use Rattle.tasks.specs.Task.{SymbolTree, BodyTree, MakesType, Makes, Defines, Induces, Constructs, Says, DeclarationTree, symbol_or}
@@ -34,7 +33,7 @@ use Rattle.theories.proofs.Words.{written_name, joined}
 use Rattle.theories.proofs.Tuples.{HasWord, tuples_words, symbol_word}
 use Rattle.theories.proofs.Outcomes.{rigid_words}
 use Rattle.theories.proofs.Declared.{HasWordVariables}
-use Rattle.theories.proofs.cloning.TypedClone.{found_has}
+use Rattle.theories.proofs.SourceLists.{found_has}
 
 -- ---- the theory
 

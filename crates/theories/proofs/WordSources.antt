@@ -1,7 +1,6 @@
 -- The names of symbols in the task of a goal of a source.
 use Rattle.std.proofs.Common.{◌≡◌, ℕ, ◌+◌, codes, List, [], ◌∷◌, ◌++◌, Option, Some, None, IsSomeAnd, refl, sym, subst, ap}
 use Rattle.std.proofs.lemmas.List.Elements.{All-nil, All-cons, All-push, All-weaker}
-use Rattle.tasks.specs.trees.Tree.{Tree}
 use Rattle.surface.specs.tokens_why.declared.token.Token.{Token}
 use Rattle.surface.specs.tokens_why.declared.terminal.Terminal.TheVariants as t
 use Rattle.surface.specs.tokens_why.Tokens.{AreTokens}
@@ -79,12 +78,12 @@ library_words (e ∷ es) (f ∷ fs) c c' a s h =
     let q = file_words e.1 a.1.tokens (file_of f.1) a.1.are a.1.only in
     library_words es fs s.between c' a.2 s.second (embedded_words f.0 (file_of f.1) c s.between q s.first h)
 
-nothing_words : (s : List Tree) → HasWordNames (nothing_known s)
-nothing_words s = record { symbols = All-cons HasWord int_symbol [] (written_name (codes "int") refl) (All-nil HasWord); within = written_name [] refl; axioms = All-nil HasWordVariables; known = All-nil HasAxiomWords }
+nothing_words : HasWordNames nothing_known
+nothing_words = record { symbols = All-cons HasWord int_symbol [] (written_name (codes "int") refl) (All-nil HasWord); within = written_name [] refl; axioms = All-nil HasWordVariables; known = All-nil HasAxiomWords }
 
-theories_words : (text : List ℕ) (ts : List Token) (file : List SyntaxTheory) (s : List Tree) (all : TheoriesTree) → AreTokens text ts → IsOnlyFile (rest text ts 0) file → TheoriesOf s file all → HaveWords all.symbols
-theories_words text ts file s all h only of =
-    let before = library_words library of.library.files (nothing_known s) of.before of.library.are of.library.typed (nothing_words s) in
+theories_words : (text : List ℕ) (ts : List Token) (file : List SyntaxTheory) (all : TheoriesTree) → AreTokens text ts → IsOnlyFile (rest text ts 0) file → TheoriesOf file all → HaveWords all.symbols
+theories_words text ts file all h only of =
+    let before = library_words library of.library.files nothing_known of.before of.library.are of.library.typed nothing_words in
     let after = source_words file of.before of.after (file_words text ts file h only) of.typed before in
     subst HaveWords (sym (ap (λ (x : TheoriesTree). x.symbols) of.are)) after.symbols
 
@@ -97,8 +96,8 @@ task_words : (all : TheoriesTree) (o : Option KnownTheoryTree) (goal : List ℕ)
 task_words all None goal task e h = absurd e
 task_words all (Some th) goal task e h = goal_words all th (goal_named th goal) task e h
 
-pub names_scoped : (text : List ℕ) (ts : List Token) (file : List SyntaxTheory) (s : List Tree) (all : TheoriesTree) (theory goal : List ℕ) (task : TaskTree) → AreTokens text ts → IsOnlyFile (rest text ts 0) file → TheoriesOf s file all → IsTaskOf all theory goal task → NamesAreScoped task
-names_scoped text ts file s all theory goal task h only of is = task_words all (theory_named all theory) goal task is (theories_words text ts file s all h only of)
+pub names_scoped : (text : List ℕ) (ts : List Token) (file : List SyntaxTheory) (all : TheoriesTree) (theory goal : List ℕ) (task : TaskTree) → AreTokens text ts → IsOnlyFile (rest text ts 0) file → TheoriesOf file all → IsTaskOf all theory goal task → NamesAreScoped task
+names_scoped text ts file all theory goal task h only of is = task_words all (theory_named all theory) goal task is (theories_words text ts file all h only of)
 
-pub names_words : (text : List ℕ) (ts : List Token) (file : List SyntaxTheory) (s : List Tree) (all : TheoriesTree) (theory goal : List ℕ) (task : TaskTree) → AreTokens text ts → IsOnlyFile (rest text ts 0) file → TheoriesOf s file all → IsTaskOf all theory goal task → NamesAreWords task
-names_words text ts file s all theory goal task h only of is = All-weaker HasWord (λ (e : SymbolTree). IsLineWord e.name) (λ e w. line_word e.name w) task.symbols (names_scoped text ts file s all theory goal task h only of is)
+pub names_words : (text : List ℕ) (ts : List Token) (file : List SyntaxTheory) (all : TheoriesTree) (theory goal : List ℕ) (task : TaskTree) → AreTokens text ts → IsOnlyFile (rest text ts 0) file → TheoriesOf file all → IsTaskOf all theory goal task → NamesAreWords task
+names_words text ts file all theory goal task h only of is = All-weaker HasWord (λ (e : SymbolTree). IsLineWord e.name) (λ e w. line_word e.name w) task.symbols (names_scoped text ts file all theory goal task h only of is)

@@ -2,7 +2,7 @@ pub mod Faults
 mod Told
 mod Kept
 mod Fitting
-mod Putting
+mod Counted
 mod Stages
 mod Contents
 mod Begun

@@ -1,3 +1,4 @@
+mod MadeMoves
 mod Typed
 mod Named
 mod Refused

@@ -3,7 +3,6 @@
 use Rattle.std.specs.Prelude.{◌≡◌, ◌⊎◌, ℕ, ◌+◌, ◌||◌, Bool, true, false, List, [], ◌∷◌, ◌++◌, map, length, Some}
 use Rattle.std.specs.Option.{is_some}
 use Rattle.std.specs.Str.{bytes_eq}
-use Rattle.tasks.specs.trees.Tree.{Tree}
 use Rattle.tasks.specs.Task.{int_symbol}
 use Rattle.tasks.specs.Vocabulary.{is_empty}
 use Rattle.surface.specs.Declarations.{SyntaxDeclarations, SyntaxTheory}
@@ -103,10 +102,9 @@ AreEmbeddedFaulty = FirstFault (λ (f : List ℕ × File). AreEmbeddedIn f.0 (fi
     (λ (f : List ℕ × File). AreEmbeddedFaultyIn f.0 (file_of f.1))
 
 -- ---- a source
--- with `int` alone, over these trees of the store
-abbrev pub nothing_known : List Tree → StateTree
-nothing_known s = record {
-  trees = s;
+-- with `int` alone
+abbrev pub nothing_known : StateTree
+nothing_known = record {
   symbols = int_symbol ∷ [];
   decls = [];
   known = [];
@@ -117,12 +115,12 @@ nothing_known s = record {
 
 -- the theories of the library are known
 pub record IsLibraryTypedBy (T : SyntaxDeclarations → StateTree → StateTree → Type 0)
-    (s : List Tree) (c : StateTree) : Type 0 where
+    (c : StateTree) : Type 0 where
   pub files : List (List ℕ × File)
   pub are : AreFilesOf library files
-  pub typed : AreEmbeddedBy T files (nothing_known s) c
+  pub typed : AreEmbeddedBy T files nothing_known c
 
-abbrev pub IsLibraryTyped : List Tree → StateTree → Type 0
+abbrev pub IsLibraryTyped : StateTree → Type 0
 IsLibraryTyped = IsLibraryTypedBy AreDeclarationsTyped
 
 abbrev pub visible_theory : StateTree → KnownTree → KnownTheoryTree
@@ -138,28 +136,27 @@ theories_of embedded c = record {
 }
 
 -- the theories of a source, after those of the library
-pub record TheoriesBy (T : SyntaxDeclarations → StateTree → StateTree → Type 0) (s : List Tree)
+pub record TheoriesBy (T : SyntaxDeclarations → StateTree → StateTree → Type 0)
     (source : List SyntaxTheory) (all : TheoriesTree) : Type 0 where
   pub before : StateTree
-  pub library : IsLibraryTypedBy T s before
+  pub library : IsLibraryTypedBy T before
   pub after : StateTree
   pub typed : AreTypedInBy T source before after
   pub are : all ≡ theories_of (length before.known) after
 
-abbrev pub TheoriesOf : List Tree → List SyntaxTheory → TheoriesTree → Type 0
+abbrev pub TheoriesOf : List SyntaxTheory → TheoriesTree → Type 0
 TheoriesOf = TheoriesBy AreDeclarationsTyped
 
 -- the first fault: one of the library, which as rows show has none, or one of the source
-pub record IsLibraryFault (s : List Tree) (f : SourceFault) : Type 0 where
+pub record IsLibraryFault (f : SourceFault) : Type 0 where
   pub files : List (List ℕ × File)
   pub are : AreFilesOf library files
-  pub fault : AreEmbeddedFaulty files (nothing_known s) f
+  pub fault : AreEmbeddedFaulty files nothing_known f
 
-pub record IsSourceFault (s : List Tree) (source : List SyntaxTheory)
-    (f : SourceFault) : Type 0 where
+pub record IsSourceFault (source : List SyntaxTheory) (f : SourceFault) : Type 0 where
   pub before : StateTree
-  pub library : IsLibraryTyped s before
+  pub library : IsLibraryTyped before
   pub fault : AreFaultyIn source before f
 
-abbrev pub IsFirstSourceFault : List Tree → List SyntaxTheory → SourceFault → Type 0
-IsFirstSourceFault s source f = IsLibraryFault s f ⊎ IsSourceFault s source f
+abbrev pub IsFirstSourceFault : List SyntaxTheory → SourceFault → Type 0
+IsFirstSourceFault source f = IsLibraryFault f ⊎ IsSourceFault source f

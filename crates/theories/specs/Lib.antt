@@ -5,7 +5,6 @@ pub use Rattle.theory_states.specs as theory_states
 pub use Rattle.elaboration_laws.specs.checks as checks
 pub mod cloning
 pub mod declaring
-pub mod plain_theories
 pub mod side_conditions
 pub mod Ints
 pub mod Typing

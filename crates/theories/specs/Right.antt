@@ -21,13 +21,11 @@ pub record IsStateRight (s : List Tree) (t : Typed) (o : Opened) : Type 0 where
 -- between two theories, before the declaration of a number
 abbrev pub between_at : List Tree → Typed → ℕ → StateTree
 between_at s t n = record {
-  trees = s;
   symbols = symbols_at s t.sig.symbols;
-  decls =
-      declarations_at s t.decls;
-  known = map (known_at s) t.known;
-  opened =
-      opened_empty [];
+  decls = declarations_at s t.decls;
+  known =
+      map (known_at s) t.known;
+  opened = opened_empty [];
   number = n;
 }
 

@@ -1,7 +1,6 @@
 -- The theories of a source, typed so that what is known stays sound: for the laws, which know of
 -- one declaration what its typing ensures.
 use Rattle.std.specs.Prelude.{List, All}
-use Rattle.tasks.specs.trees.Tree.{Tree}
 use Rattle.surface.specs.Declarations.{SyntaxDeclaration, SyntaxDeclarations, SyntaxTheory, write_decl}
 use Rattle.elaboration_laws.specs.Lists.{IsGroupWhole}
 use Rattle.elaboration_laws.specs.Quoted.{IsQuotedLexeme}
@@ -26,5 +25,5 @@ IsSoundlyTyped = IsTypedBy IsSoundlyDeclared
 abbrev pub AreSoundlyTyped : SyntaxDeclarations → StateTree → StateTree → Type 0
 AreSoundlyTyped = AreTypedBy IsSoundlyDeclared
 
-abbrev pub SoundTheoriesOf : List Tree → List SyntaxTheory → TheoriesTree → Type 0
+abbrev pub SoundTheoriesOf : List SyntaxTheory → TheoriesTree → Type 0
 SoundTheoriesOf = TheoriesBy AreSoundlyTyped

@@ -13,4 +13,4 @@ pub record AreSoundIn (all : TheoriesTree) : Type 0 where
   pub embedded : ℕ
   pub are : all ≡ theories_of embedded state
   pub ints : AreInts state.symbols int_entries
-  pub sound : AreSoundTheories state.trees state.symbols state.decls state.known
+  pub sound : AreSoundTheories state.symbols state.decls state.known

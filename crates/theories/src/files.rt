@@ -168,7 +168,7 @@ fn type_embedded(
 
 // Nothing is known but `int`.
 fn begin_typed(alloc: Global) -> Result<Typed, AllocError>
-    ensures ok { IfOk result (λ t. (s : List Tree) → between_at s t 0 ≡ nothing_known s) }
+    ensures ok { IfOk result (λ t. (s : List Tree) → between_at s t 0 ≡ nothing_known) }
     ensures right { IfOk result (λ t. (s : List Tree) → AreTheoriesRight s t) }
 {
     let sig = begin(alloc)?;
@@ -202,12 +202,12 @@ fn type_files(
 
 // The theories of the library.
 fn type_library(alloc: Global, store: &mut Store, typed: &mut Typed) -> Result<(), SourceFault>
-    requires nothing { between_at store.old typed.old 0 ≡ nothing_known store.old }
+    requires nothing { between_at store.old typed.old 0 ≡ nothing_known }
     requires right { AreTheoriesRight store.old typed.old }
-    ensures ok { OnOk result (IsLibraryTypedBy AreSoundlyTyped store.old
+    ensures ok { OnOk result (IsLibraryTypedBy AreSoundlyTyped
         (between_at store.new typed.new 0)) }
     ensures right { OnOk result (AreTheoriesRight store.new typed.new) }
-    ensures err { IfErr result (OrMemory (IsLibraryFault store.old)) }
+    ensures err { IfErr result (OrMemory IsLibraryFault) }
     ensures grows { Grows store.old store.new }
 {
     let files = library_files(alloc)?;
@@ -284,13 +284,13 @@ fn collect(
 /// The theories of a file, after those of the embedded library, or the first thing that is wrong with one: its declaration's number
 /// and its place there. Beside these faults only want of memory refuses.
 pub fn type_file(alloc: Global, store: &mut Store, file: &File) -> Result<Theories, SourceFault>
-    ensures ok { IfOk result (λ all. TheoriesOf store.old (file_of file.now)
+    ensures ok { IfOk result (λ all. TheoriesOf (file_of file.now)
         (theories_at store.new all)) }
-    ensures sound { IfOk result (λ all. SoundTheoriesOf store.old (file_of file.now)
+    ensures sound { IfOk result (λ all. SoundTheoriesOf (file_of file.now)
         (theories_at store.new all)) }
     ensures held { IfOk result (AllTheoriesHeld store.new) }
     ensures tuples { IfOk result (λ all. AreTuples (symbols_at store.new all.sig.value.symbols)) }
-    ensures err { IfErr result (OrMemory (IsFirstSourceFault store.old (file_of file.now))) }
+    ensures err { IfErr result (OrMemory (IsFirstSourceFault (file_of file.now))) }
     ensures grows { Grows store.old store.new }
 {
     let mut typed = begin_typed(alloc)?;

@@ -1,7 +1,6 @@
 // The entries of int.Int, which is the first theory of the library.
 // They depend on the theories of a source, whose signature tells them.
 ghost use Rattle.std.specs.Prelude.{◌≡◌, List};
-ghost use Rattle.tasks.specs.trees.Tree.{Tree};
 ghost use Rattle.tasks.specs.Valid.{AreInts};
 ghost use Rattle.surface.specs.Declarations.{SyntaxTheory};
 ghost use Rattle.elaboration_laws.specs.theory_states.goal_tasks.Theories.{TheoriesTree};
@@ -29,8 +28,7 @@ pub(crate) fn int_entries() -> Ints
 
 /// A law: the entries 1 to 8 after the embedded library are those of int.Int, and so they are in the signature of each source.
 pub fn ints_known()
-    ensures library { (s : List Tree) (c : StateTree) → IsLibraryTyped s c
-        → AreInts c.symbols int_entries }
-    ensures source { (s : List Tree) (file : List SyntaxTheory) (all : TheoriesTree)
-        → TheoriesOf s file all → AreInts all.symbols int_entries }
+    ensures library { (c : StateTree) → IsLibraryTyped c → AreInts c.symbols int_entries }
+    ensures source { (file : List SyntaxTheory) (all : TheoriesTree) → TheoriesOf file all
+        → AreInts all.symbols int_entries }
 {}

@@ -1,5 +1,5 @@
 -- What a theory is copied by, in code, and what is known once its contents are copied.
-use Rattle.std.proofs.Common.{◌≡◌, ◌++◌, ℕ, ◌<◌, nat_eq, List, [], length, get_or, All, sym, ap, subst, ◌∙◌}
+use Rattle.std.proofs.Common.{◌≡◌, ◌++◌, ℕ, ◌<◌, nat_eq, List, map, length, get_or, All, sym, ap, subst, ◌∙◌}
 use Rattle.indexmap.specs.IndexMap.{get}
 use Rattle.tasks.specs.trees.Tree.{Tree}
 use Rattle.tasks.specs.trees.Node.{Grows}
@@ -16,7 +16,8 @@ use Rattle.theory_states.specs.declared.states.KnownTheory.{KnownTheory}
 use Rattle.theory_states.specs.declared.states.Opened.{Opened}
 use Rattle.theory_states.specs.declared.states.Typed.{Typed}
 use Rattle.theory_states.specs.States.{KnownTree, StateTree}
-use Rattle.theory_states.specs.Meaning.{known_at, state_at, StateHeld}
+use Rattle.theory_states.specs.Meaning.{move_at, known_at, state_at, MoveHeld, StateHeld}
+use Rattle.theory_states.proofs.Moving.{moves_stay}
 use Rattle.clones.specs.declared.clone_elements.elements.Plan.{Plan}
 use Rattle.clones.specs.declared.clone_elements.left.ClonedTheory.{ClonedTheory}
 use Rattle.clones.specs.clone_elements.Left.{Origin}
@@ -25,14 +26,12 @@ use Rattle.clones.specs.clone_elements.Meaning.{fates_at}
 use Rattle.clones.specs.clone_copies.Origins.{Axioms, origin_of}
 use Rattle.clones.specs.clone_copies.Entries.{entries_copied}
 use Rattle.clones.specs.clone_copies.Places.{Copying, with_places}
-use Rattle.clones.specs.clone_copies.Moves.{AreMovesMapped, MoveHeld}
-use Rattle.clones.specs.clone_copies.Meaning.{bare_at}
+use Rattle.clones.specs.clone_copies.Moves.{moves_mapped}
 use Rattle.theories.specs.declared.cloning.copying.Renaming.{Renaming}
 use Rattle.theories.specs.declared.cloning.own.Own.{Own}
 use Rattle.theories.specs.cloning.Owned.{known_theory_at}
 use Rattle.theories.specs.cloning.Planned.{planned_kept, planned_map, planned}
 use Rattle.theories.specs.cloning.Copied.{IsRenaming, IsPlannedRenaming, IsKeptEntry, entries_made, with_made, IsCopyReady, AreContents}
-use Rattle.theories.proofs.cloning.Kept.{moves_grow}
 use Rattle.theories.proofs.cloning.Stages.{theory_is, origin_is, state_tupled, held_tupled}
 
 -- the map that is made with what elements are read by
@@ -66,7 +65,7 @@ module _ (s : List Tree) (t : Typed) (o : Opened) (k : ℕ) (own : Own) (plan : 
   symbols_are = m.symbols
 
   pub moves_are_held : All (MoveHeld s) known.moves
-  moves_are_held = subst (λ (z : KnownTree). All (MoveHeld s) z.moves) here r.moves
+  moves_are_held = subst (λ (z : KnownTheory). All (MoveHeld s) z.moves) (sym is) (r.held.typed.known k known r.there).moves
 
   pub visible_below : All (λ (p : ℕ). p < length t.decls) own.visible
   visible_below =
@@ -92,11 +91,8 @@ module _ (s : List Tree) (t : Typed) (o : Opened) (k : ℕ) (own : Own) (plan : 
       pub held_made : StateHeld s1 t1 o
       held_made = held_tupled s s1 w t o r.held g copies ext
 
-      bare_made : bare_at s1 t1 o ≡ with_made theory x (bare_at s t o)
-      bare_made =
-          let bare : StateTree → StateTree = λ z. record z { trees = [] } in
-          let put : List SymbolTree → StateTree = λ es. record c { trees = []; symbols = c.symbols ++ es } in
-          ap bare (state_tupled s s1 w t o r.held g copies ext) ∙ ap put copies_are
+      state_made : state_at s1 t1 o ≡ with_made theory x c
+      state_made = state_tupled s s1 w t o r.held g copies ext ∙ ap (λ (es : List SymbolTree). let it : StateTree = record c { symbols = c.symbols ++ es } in it) copies_are
 
       -- what the job of the copies stands for
       abbrev job : Word → Copying
@@ -110,11 +106,10 @@ module _ (s : List Tree) (t : Typed) (o : Opened) (k : ℕ) (own : Own) (plan : 
             let map_there : map_at s1 made.morphism ≡ x.mapping = map_stays s s1 w made.morphism m.held ∙ map_is in
             λ i. mk (place_there i) (r.own.axioms i) (map_there i)
 
-        module _ (places : List ℕ) (places_are : places ≡ own.visible) (s2 : List Tree) (w2 : Grows s1 s2) (t2 : Typed) (o2 : Opened) (state : bare_at s2 t2 o2 ≡ with_places (job place) places (bare_at s1 t1 o))
-            (old new : List Move) (old_are : old ≡ known.moves) (held : All (MoveHeld s1) old) (mapped : AreMovesMapped s1 c.symbols (map_at s made.morphism) old new) where
-          pub contents : AreContents theory x new c (state_at s2 t2 o2)
-          contents = record {
-            mapped = subst (λ (ms : List Move). AreMovesMapped s2 c.symbols x.mapping ms new) (old_are ∙ sym (ap (λ (z : KnownTree). z.moves) here)) (subst (λ (f : Map). AreMovesMapped s2 c.symbols f old new) map_is (moves_grow s1 s2 w2 c.symbols (map_at s made.morphism) old new held mapped));
-            is = state ∙ (ap (λ (z : Copying). with_places z places (bare_at s1 t1 o)) copying_is
-                ∙ (ap (λ (ks : List ℕ). with_places x ks (bare_at s1 t1 o)) (places_are ∙ r.own.visible) ∙ ap (with_places x theory.visible) bare_made));
-          }
+        module _ (places : List ℕ) (places_are : places ≡ own.visible) (s2 : List Tree) (w2 : Grows s1 s2) (t2 : Typed) (o2 : Opened) (state : state_at s2 t2 o2 ≡ with_places (job place) places (state_at s1 t1 o))
+            (old new : List (Move ℕ)) (old_are : old ≡ known.moves) (held : All (MoveHeld s1) new) (mapped : map (move_at s1) new ≡ moves_mapped c.symbols (map_at s made.morphism) (map (move_at s) old)) where
+          pub contents : AreContents theory x (map (move_at s2) new) c (state_at s2 t2 o2)
+          contents =
+              let moves : map (move_at s) old ≡ theory.moves = ap (map (move_at s)) old_are ∙ sym (ap (λ (z : KnownTree). z.moves) here) in
+              let visible : places ≡ theory.visible = places_are ∙ r.own.visible in
+              record { mapped = moves_stay s1 s2 w2 new held ∙ (mapped ∙ (λ i. moves_mapped c.symbols (map_is i) (moves i))); is = state ∙ (λ i. with_places (copying_is i) (visible i) (state_made i)) }

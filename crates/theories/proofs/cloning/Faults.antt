@@ -27,6 +27,6 @@ or_weaker P Q g f h = g f h
 
 -- the elements of a theory that is known
 pub read_fault : (p : Path) (es : List Element) (c : StateTree) (t : KnownTree) → all_variables_fault es ≡ None → known_named c.known (path_text p.parts) ≡ Some t
-    → (f : SourceFault) → IsElementsFault c.number c.trees c.symbols c.opened.scope (origin_of c.decls t) es f → IsCloneFault p es c f
+    → (f : SourceFault) → IsElementsFault c.number c.symbols c.opened.scope (origin_of c.decls t) es f → IsCloneFault p es c f
 read_fault p es c t v q f (in_names h) = of_clone_names t v q h
 read_fault p es c t v q f (in_elements n h) = of_elements t v q n h

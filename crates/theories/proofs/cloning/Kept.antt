@@ -1,33 +1,25 @@
--- A signature with entries whose types are types at their own type variables, and moves that are mapped, over a later store.
-use Rattle.std.proofs.Common.{◌≡◌, List, [], ◌∷◌, ◌++◌, map, get_or, slice_get, All, Option, Some, None, IfSome, sym, ap, subst, ◌∙◌, arith}
+-- A signature with entries whose types are types at their own type variables, over a later store.
+use Rattle.std.proofs.Common.{◌≡◌, List, ◌++◌, get_or, slice_get, All, Option, Some, None, IfSome, sym, ap, subst, ◌∙◌}
 use Rattle.std.specs.Option.{option_map}
-use Rattle.std.proofs.lemmas.List.{get_or-map, length-map}
 use Rattle.std.proofs.lemmas.List.Elements.{All-append, All-map}
 use Rattle.tasks.specs.trees.declared.TermId.{TermId}
 use Rattle.tasks.specs.trees.declared.Sort.TheVariants.{Kind}
 use Rattle.tasks.specs.trees.Tree.{Tree}
-use Rattle.tasks.specs.trees.Node.{tree_at, Holds, Grows}
+use Rattle.tasks.specs.trees.Node.{tree_at, Holds}
 use Rattle.tasks.specs.trees.Sorts.{sort_of}
 use Rattle.tasks.specs.declared.signature.SymbolInfo.{SymbolInfo}
 use Rattle.tasks.specs.Task.{SymbolTree, int_symbol}
 use Rattle.tasks.specs.Meaning.{symbol_at, symbols_at, SymbolHeld}
-use Rattle.theory_states.specs.declared.moves.Move.{Move}
-use Rattle.clones.specs.Mapped.{Map}
 use Rattle.elab_groups.specs.open_types.Drafts.{HoldsType, SymbolTyped}
 use Rattle.elab_groups.specs.open_types.Scoped.{IsScopedEntry}
 use Rattle.elab_groups.specs.parts.Entries.{IsSignature}
-use Rattle.clones.specs.clone_copies.Moves.{MoveHeld, AreMovesMapped}
-use Rattle.clones.proofs.clone_copies.Moved.{move_grows, move_held_grows}
+use Rattle.elaboration_laws.proofs.Declarations.{unmap}
 use Rattle.theories.specs.cloning.Copied.{HasKinds, IsKeptEntry}
 use Rattle.elab_groups.proofs.parts.Entering.{first_stays}
-
-all_of_map : {X Y : Type 0} (P : Y → Type 0) (f : X → Y) (xs : List X) → All P (map f xs) → All (λ (x : X). P (f x)) xs
-all_of_map P f xs h = λ k d l. subst P (get_or-map f xs k d (f d) l) (h k (f d) (omega (arith, l, length-map xs f)))
 
 abbrev pub IsKind : Tree → Type 0
 IsKind t = sort_of t ≡ Kind
 
--- ---- entries in code
 module _ (s : List Tree) where
   result_kind : (r : Option TermId) → IfSome r (HoldsType s) → IfSome (option_map (tree_at s) r) IsKind
   result_kind None h = tt
@@ -45,7 +37,7 @@ module _ (s : List Tree) where
 
   entry_typed : (i : SymbolInfo) → SymbolHeld s i → HasKinds (symbol_at s i) → SymbolTyped s i
   entry_typed i h k = record {
-    args = λ j d l. record { held = h.args j d l; kind = all_of_map IsKind (tree_at s) i.args k.args j d l };
+    args = λ j d l. record { held = h.args j d l; kind = unmap IsKind (tree_at s) i.args k.args j d l };
     result = result_typed i.result h.result k.result;
   }
 
@@ -63,13 +55,6 @@ signature_made s t old new copies h is held kept =
     let there : All HasKinds (symbols_at t new) = subst (All HasKinds) (sym is) kinds in
     record {
       int = ap (λ (es : List SymbolTree). slice_get es 0) is ∙ first_stays (symbols_at s old) copies int_symbol h.int;
-      typed = λ k d l. entry_typed t (get_or new k d) (held k d l) (all_of_map HasKinds (symbol_at t) new there k d l);
+      typed = λ k d l. entry_typed t (get_or new k d) (held k d l) (unmap HasKinds (symbol_at t) new there k d l);
       scoped = subst (All IsScopedEntry) (sym is) (All-append IsScopedEntry (symbols_at s old) copies h.scoped (λ k d l. (kept k d l).scoped));
     }
-
--- ---- moves
-pub moves_held_later : (s t : List Tree) → Grows s t → (ms : List Move) → All (MoveHeld s) ms → All (MoveHeld t) ms
-moves_held_later s t w ms h = λ k d l. move_held_grows s t w (get_or ms k d) (h k d l)
-
-pub moves_grow : (s t : List Tree) → Grows s t → (symbols : List SymbolTree) (m : Map) (xs ys : List Move) → All (MoveHeld s) xs → AreMovesMapped s symbols m xs ys → AreMovesMapped t symbols m xs ys
-moves_grow s t w symbols m xs ys held h = record { count = h.count; each = λ k d l. move_grows s t w symbols m (get_or xs k d) (get_or ys k d) (held k d l) (h.each k d l) }

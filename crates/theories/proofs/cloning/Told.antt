@@ -2,7 +2,7 @@
 use Rattle.std.proofs.Common.{◌≡◌, ℕ, List, ◌++◌, None, subst}
 use Rattle.tasks.specs.trees.Tree.{Tree}
 use Rattle.tasks.specs.Task.{SymbolTree}
-use Rattle.elab_groups.specs.scopes.Names.{ScopeNames}
+use Rattle.elab_groups.specs.name_resolution.Where.{NamesTree}
 use Rattle.surface.specs.Declarations.{Element}
 use Rattle.theory_states.specs.declared.fault.SourceFault.{SourceFault}
 use Rattle.clones.specs.declared.clone_elements.elements.Plan.{Plan}
@@ -17,13 +17,13 @@ use Rattle.theories.specs.cloning.Planned.{AreElementsRead, IsElementsFault, in_
 pub along : {A B C : Type 0} (P : A → B → C → Type 0) {a a' : A} {b b' : B} {c c' : C} → a ≡ a' → b ≡ b' → c ≡ c' → P a b c → P a' b' c'
 along {A} {B} {C} P {a} {a'} {b} {b'} {c} {c'} p q r x = subst (λ (z : C). P a' b' z) r (subst (λ (y : B). P a' y c) q (subst (λ (y : A). P y b c) p x))
 
-module _ (s : List Tree) (symbols : List SymbolTree) (scope : ScopeNames) (o : Origin) (es : List Element) (names : rights_fault s symbols scope es ≡ None)
-    (a : List SymbolTree) (x : Origin) (xs : List SideTree) (p : a ≡ symbols ++ rights_tuples symbols es) (q : x ≡ o) (r : xs ≡ sides_over o s symbols scope es) where
+module _ (symbols : List SymbolTree) (scope : NamesTree) (o : Origin) (es : List Element) (names : rights_fault symbols scope es ≡ None)
+    (a : List SymbolTree) (x : Origin) (xs : List SideTree) (p : a ≡ symbols ++ rights_tuples symbols es) (q : x ≡ o) (r : xs ≡ sides_over o symbols scope es) where
   abbrev Right : List SymbolTree → Origin → List SideTree → Type 0
   Right b y ys = SidesTold b y (tried_map b y ys) no_fates ys None
 
-  pub is_read : (s' : List Tree) (plan : Plan) → Right a x xs → IsPlan s' a x xs plan → AreElementsRead s symbols scope o es s' plan
+  pub is_read : (s' : List Tree) (plan : Plan) → Right a x xs → IsPlan s' a x xs plan → AreElementsRead symbols scope o es s' plan
   is_read s' plan told h = record { names = names; right = along Right p q r told; plan = along (λ b y ys. IsPlan s' b y ys plan) p q r h }
 
-  pub is_read_fault : (number : ℕ) (f : SourceFault) → IsElementFault number a x xs f → IsElementsFault number s symbols scope o es f
+  pub is_read_fault : (number : ℕ) (f : SourceFault) → IsElementFault number a x xs f → IsElementsFault number symbols scope o es f
   is_read_fault number f h = in_elements names (along (λ b y ys. IsElementFault number b y ys f) p q r h)

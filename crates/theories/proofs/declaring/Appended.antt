@@ -1,5 +1,5 @@
 -- The moves of names after others.
-use Rattle.std.proofs.Common.{◌≡◌, List, [], ◌∷◌, ◌++◌, Option, Some, None, Result, Ok, Err, OnOk, refl, sym, ap, ◌∙◌, append_assoc, append-nil}
+use Rattle.std.proofs.Common.{◌≡◌, ℕ, List, [], ◌∷◌, ◌++◌, Option, Some, None, Result, Ok, Err, OnOk, refl, sym, ap, ◌∙◌, append_assoc, append-nil}
 use Rattle.elab_groups.specs.scopes.Names.{ScopeNames}
 use Rattle.elab_groups.specs.scopes.declared.Table.{Table}
 use Rattle.elab_groups.specs.scopes.declared.Table.TheVariants.{Types}
@@ -19,20 +19,20 @@ moves_made-append : (names : ScopeNames) (xs ys : List Made) → moves_made name
 moves_made-append names [] ys = refl
 moves_made-append names (makes table c ∷ xs) ys =
     let first = brought_as table c.name (thing_named names table c.name) in
-    ap (λ (ms : List Move). first ++ ms) (moves_made-append names xs ys) ∙ sym (append_assoc first (moves_made names xs) (moves_made names ys))
+    ap (λ (ms : List (Move ℕ)). first ++ ms) (moves_made-append names xs ys) ∙ sym (append_assoc first (moves_made names xs) (moves_made names ys))
 moves_made-append names (binds_names cs ∷ xs) ys = moves_made-append names xs ys
 
 -- a name, and others after it
-pub name_then : (names : ScopeNames) (table : Table) (c : TokenName) (vs : List TokenName) (xs : List Made) (old one new : List Move) → one ≡ old ++ moves_made names (makes table c ∷ []) → new ≡ one ++ moves_made names xs → new ≡ old ++ moves_made names (makes table c ∷ binds_names vs ∷ xs)
+pub name_then : (names : ScopeNames) (table : Table) (c : TokenName) (vs : List TokenName) (xs : List Made) (old one new : List (Move ℕ)) → one ≡ old ++ moves_made names (makes table c ∷ []) → new ≡ one ++ moves_made names xs → new ≡ old ++ moves_made names (makes table c ∷ binds_names vs ∷ xs)
 name_then names table c vs xs old one new p q =
     let first = brought_as table c.name (thing_named names table c.name) in
     let more = moves_made names xs in
-    q ∙ (ap (λ (ms : List Move). ms ++ more) p ∙ (append_assoc old (first ++ []) more ∙ ap (λ (ms : List Move). old ++ (ms ++ more)) (append-nil first)))
+    q ∙ (ap (λ (ms : List (Move ℕ)). ms ++ more) p ∙ (append_assoc old (first ++ []) more ∙ ap (λ (ms : List (Move ℕ)). old ++ (ms ++ more)) (append-nil first)))
 
-pub name_then_both : (names : ScopeNames) (table : Table) (c : TokenName) (vs : List TokenName) (xs ys : List Made) (old one two new : List Move) → one ≡ old ++ moves_made names (makes table c ∷ []) → two ≡ one ++ moves_made names xs → new ≡ two ++ moves_made names ys
+pub name_then_both : (names : ScopeNames) (table : Table) (c : TokenName) (vs : List TokenName) (xs ys : List Made) (old one two new : List (Move ℕ)) → one ≡ old ++ moves_made names (makes table c ∷ []) → two ≡ one ++ moves_made names xs → new ≡ two ++ moves_made names ys
     → new ≡ old ++ moves_made names (makes table c ∷ binds_names vs ∷ (xs ++ ys))
 name_then_both names table c vs xs ys old one two new p q r =
-    let both : new ≡ one ++ moves_made names (xs ++ ys) = r ∙ (ap (λ (ms : List Move). ms ++ moves_made names ys) q ∙ (append_assoc one (moves_made names xs) (moves_made names ys) ∙ ap (λ (ms : List Move). one ++ ms) (sym (moves_made-append names xs ys)))) in
+    let both : new ≡ one ++ moves_made names (xs ++ ys) = r ∙ (ap (λ (ms : List (Move ℕ)). ms ++ moves_made names ys) q ∙ (append_assoc one (moves_made names xs) (moves_made names ys) ∙ ap (λ (ms : List (Move ℕ)). one ++ ms) (sym (moves_made-append names xs ys)))) in
     name_then names table c vs (xs ++ ys) old one new p both
 
 -- of a type with or without a definition

@@ -11,7 +11,7 @@ use Rattle.theory_states.specs.declared.states.Opened.{Opened}
 use Rattle.theory_states.specs.declared.states.Typed.{Typed}
 use Rattle.theory_states.specs.States.{StateTree}
 use Rattle.theory_states.specs.Meaning.{state_at, StateHeld}
-use Rattle.theory_states.proofs.Growing.{held_grows, state_grows}
+use Rattle.theory_states.proofs.Growing.{state_grows, state_stays}
 
 -- a list's first item is taken out
 pub first_of : {X : Type 0} (xs ys : List X) (x : X) → slice_get xs 0 ≡ Some x → ys ≡ remove xs 0 → xs ≡ x ∷ ys
@@ -34,14 +34,14 @@ pub no_goals : (c : StateTree) → c ≡ with_goals [] c
 no_goals c = ap (λ (gs : List GoalTree). let it : StateTree = record c { opened = record c.opened { goals = gs } } in it) (sym (append-nil c.opened.goals))
 
 -- one, over a store that has grown
-pub goal_pushed : (s s' : List Tree) (g : Grows s s') (t : Typed) (o o' : Opened) (it : GoalAt) (x : GoalTree) → StateHeld s t o → o' ≡ record o { goals = o.goals ++ it ∷ [] } → goal_at s' it ≡ x → state_at s' t o' ≡ with_goals (x ∷ []) (record (state_at s t o) { trees = s' })
+pub goal_pushed : (s s' : List Tree) (g : Grows s s') (t : Typed) (o o' : Opened) (it : GoalAt) (x : GoalTree) → StateHeld s t o → o' ≡ record o { goals = o.goals ++ it ∷ [] } → goal_at s' it ≡ x → state_at s' t o' ≡ with_goals (x ∷ []) (state_at s t o)
 goal_pushed s s' g t o o' it x held q e =
     let mk : List GoalTree → StateTree = λ gs. let c = state_at s' t o in record c { opened = record c.opened { goals = gs } } in
     let all : map (goal_at s') (o.goals ++ it ∷ []) ≡ map (goal_at s') o.goals ++ x ∷ [] = map-append (goal_at s') o.goals (it ∷ []) ∙ ap (λ (y : GoalTree). map (goal_at s') o.goals ++ y ∷ []) e in
-    ap (state_at s' t) q ∙ (ap mk all ∙ ap (with_goals (x ∷ [])) (state_grows s s' g t o held))
+    ap (state_at s' t) q ∙ (ap mk all ∙ ap (with_goals (x ∷ [])) (state_stays s s' g t o held))
 
 pub goal_held : (s s' : List Tree) (g : Grows s s') (t : Typed) (o o' : Opened) (it : GoalAt) → StateHeld s t o → o' ≡ record o { goals = o.goals ++ it ∷ [] } → GoalHeld s' it → StateHeld s' t o'
 goal_held s s' g t o o' it held q e =
-    let h = held_grows s s' g t o held in
-    let more : StateHeld s' t (record o { goals = o.goals ++ it ∷ [] }) = record { typed = h.typed; opened = record { visible = h.opened.visible; goals = All-push (GoalHeld s') o.goals it h.opened.goals e } } in
+    let h = state_grows s s' g t o held in
+    let more : StateHeld s' t (record o { goals = o.goals ++ it ∷ [] }) = record { typed = h.typed; opened = record { visible = h.opened.visible; goals = All-push (GoalHeld s') o.goals it h.opened.goals e; scope = h.opened.scope; moves = h.opened.moves } } in
     subst (λ (x : Opened). StateHeld s' t x) (sym q) more

@@ -1,17 +1,17 @@
 -- What is known stays sound as a declaration becomes known: it is valid where it is, and so is a goal.
-use Rattle.std.proofs.Common.{◌≡◌, ℕ, ◌+◌, ◌≤◌, zero, suc, List, [], ◌∷◌, ◌++◌, map, take, length, get_or, slice_get, All, Option, Some, None, refl, sym, ap, subst, ◌∙◌, arith, append-nil, length-append}
+use Rattle.std.proofs.Common.{◌≡◌, ℕ, ◌+◌, ◌≤◌, zero, suc, List, [], ◌∷◌, ◌++◌, map, take, length, get_or, All, Option, Some, None, refl, sym, ap, subst, ◌∙◌, arith, append-nil, length-append}
 use Rattle.std.specs.List.{range_with_len}
 use Rattle.std.proofs.lemmas.List.Elements.{All-nil, All-cons}
 use Rattle.tasks.specs.trees.Tree.{Tree, Leaf, One, Two, Three, Head, HTyVar, HBound, HParam, binders_over}
-use Rattle.tasks.specs.trees.Node.{tree_at, Holds, Grows}
+use Rattle.tasks.specs.trees.Node.{tree_at, Holds}
 use Rattle.tasks.specs.trees.Sorts.{WellSorted}
 use Rattle.tasks.specs.trees.Binding.{change, typing, inst_types, leaf_by, one_by}
 use Rattle.tasks.specs.trees.declared.TermId.{TermId}
-use Rattle.tasks.proofs.trees.Nodes.{Grows_trans}
 use Rattle.tasks.specs.Task.{SymbolTree, Says, DeclarationTree, made}
 use Rattle.tasks.specs.Meaning.{symbols_at, declarations_at}
 use Rattle.tasks.specs.Valid.{VariablesBelow, LeafBelow, IsFormulaOver, IsValidDecl, IsQuoted}
-use Rattle.theory_states.specs.declared.moves.Move.{Move}
+use Rattle.theory_states.specs.Moves.{MoveTree}
+use Rattle.elab_groups.specs.name_resolution.Naming.{scope_at}
 use Rattle.surface.specs.Lexeme.{Word}
 use Rattle.surface.specs.declared.names.At.{At}
 use Rattle.surface.specs.Forms as surface
@@ -28,7 +28,6 @@ use Rattle.elab_declarations.specs.elab_groups.Groups.{group_decls}
 use Rattle.elab_declarations.specs.inductive_declarations.Inductives.{inductive_decls}
 use Rattle.elab_declarations.specs.Outcomes.{proposition_seen, rigid_types, said_as, schematic, names_fault, IsProposition, IsOutcome, IsElaborated}
 use Rattle.elaboration_laws.specs.Scopes.{IsTypedSignature, AreTypedScopes}
-use Rattle.elaboration_laws.proofs.Extended.{scopes_part}
 use Rattle.elaboration_laws.specs.Lists.{after, MakesBelow, IsGroupWhole, IsNoGoal, IsNextDeclaration, IsNextGoal}
 use Rattle.elaboration_laws.specs.Valid.{IsTypedSetting, HaveNoFault}
 use Rattle.elaboration_laws.proofs.Steps.{next_declaration}
@@ -54,7 +53,6 @@ use Rattle.theories.specs.declaring.Steps.{IsNextState, AreQuoted}
 use Rattle.theories.proofs.declaring.Typed.{declared_typed}
 use Rattle.theories.proofs.declaring.Named.{bodies_pass}
 use Rattle.elaboration_laws.proofs.PlaceSteps.{first_of as last_of}
-use Rattle.elaboration_laws.proofs.Used.{is_part_itself as same_part}
 
 -- ---- a formula without type variables at types
 module _ (tys : List Tree) where
@@ -138,16 +136,16 @@ inductive_single : (theory within : Word) (ds : List InductivePredicate) (k : �
 inductive_single theory within [] k bs = omega arith
 inductive_single theory within (d ∷ ds) k bs = omega arith
 
-single_of : (c : Setting) (s : List Tree) (x : Declaration) (o : Outcome) → IsOutcome c s x o → length o.decls ≤ 1
-single_of c s (abstract_type x vs) o h = let q = ap (λ (i : Outcome). length i.decls) h in omega (arith, q)
-single_of c s (alias x vs f) o h = let q = ap length h.decls in omega (arith, q)
-single_of c s (algebraic ts) o h = let q = ap (λ (i : Outcome). length i.decls) h in omega (arith, q)
-single_of c s (member_group ms) o h = rw h.decls (group_single c.theory c.within ms _ _ h.bodies)
-single_of c s (inductive ds) o h = rw h.decls (inductive_single c.theory c.within ds _ h.clauses)
-single_of c s (proposition_declaration k x e) o h = let q = ap length h.decls in omega (arith, q)
+single_of : (c : Setting) (x : Declaration) (o : Outcome) → IsOutcome c x o → length o.decls ≤ 1
+single_of c (abstract_type x vs) o h = let q = ap (λ (i : Outcome). length i.decls) h in omega (arith, q)
+single_of c (alias x vs f) o h = let q = ap (λ (i : Outcome). length i.decls) h in omega (arith, q)
+single_of c (algebraic ts) o h = let q = ap (λ (i : Outcome). length i.decls) h in omega (arith, q)
+single_of c (member_group ms) o h = rw h.decls (group_single c.theory c.within ms _ _ h.bodies)
+single_of c (inductive ds) o h = rw h.decls (inductive_single c.theory c.within ds _ h.clauses)
+single_of c (proposition_declaration k x e) o h = let q = ap length h.decls in omega (arith, q)
 
 -- ---- a state after a declaration
-module _ (s : List Tree) (t : Typed) (o : Opened) (d : source.SyntaxDeclaration) (s' : List Tree) (t' : Typed) (o1 : Opened) (it : Elaborated) (g : Grows s s') (n : IsNextState s t o d s' t' o1 it) (sorted : (id : TermId) → Holds s' id → WellSorted (tree_at s' id)) (s3 : List Tree) (later : Grows s' s3)
+module _ (s : List Tree) (t : Typed) (o : Opened) (d : source.SyntaxDeclaration) (s' : List Tree) (t' : Typed) (o1 : Opened) (it : Elaborated) (n : IsNextState s t o d s' t' o1 it) (sorted : (id : TermId) → Holds s' id → WellSorted (tree_at s' id))
     (whole : IsGroupWhole d) (quoted : AreQuoted d) (sound : IsSoundState (state_at s t o)) where
   abbrev c : StateTree
   c = state_at s t o
@@ -167,11 +165,11 @@ module _ (s : List Tree) (t : Typed) (o : Opened) (d : source.SyntaxDeclaration)
   abbrev S1 : List SymbolTree
   S1 = symbols_at s' t'.sig.symbols
 
-  abbrev ms : List Move
+  abbrev ms : List MoveTree
   ms = moves_declared out.scope d
 
   abbrev N : StateTree
-  N = with_named d out s3 c
+  N = with_named d out c
 
   typed : IsTypedSetting (after c.symbols [] ds) st
   typed = record { theory = sound.opened.named; source = sound.opened.source; signature = sound.opened.theory.signature; scopes = sound.opened.scopes }
@@ -193,15 +191,15 @@ module _ (s : List Tree) (t : Typed) (o : Opened) (d : source.SyntaxDeclaration)
   record Adds (new : List DeclarationTree) (goals : List GoalTree) : Type 0 where
     decls_sound : AreSound A (ds ++ new)
     signature_typed : IsTypedSignature (after A [] (ds ++ new)) A
-    scopes_typed : AreTypedScopes (after A [] (ds ++ new)) s3 out.scope
+    scopes_typed : AreTypedScopes (after A [] (ds ++ new)) out.scope
     goals_sound : All (IsSoundAmong A (ds ++ new)) goals
 
   finish : (dd : List DeclarationTree) (v : List ℕ) (ax : List AxiomAt) (gg : List GoalTree) (new : List DeclarationTree) (axs : List AxiomAt) (goals : List GoalTree) → dd ≡ c.decls ++ new → All (λ (x : DeclarationTree). x.theory ≡ c.opened.path) new
       → v ≡ c.opened.visible ++ range_with_len (length c.decls) (length new) → ax ≡ c.opened.axioms ++ axs → All (IsSoundAxiom dd) axs → gg ≡ c.opened.goals ++ goals → Adds new goals → IsSoundState (grown dd v ax gg)
   finish dd v ax gg new axs goals p of q assumed axioms r h =
       let x = grown dd v ax gg in
-      let a : IsAfter c x out.symbols new axs goals ms = record { trees = Grows_trans s s' s3 g later; symbols = refl; decls = p; of = of; known = refl; path = refl; visible = q; axioms_are = assumed; goals_are = r; moves_are = refl } in
-      let b : IsSoundAddition c x new axs goals ms = record { sound = h.decls_sound; signature = h.signature_typed; scopes = h.scopes_typed; typed_moves = declared_typed (after A [] (ds ++ new)) s3 out.scope h.scopes_typed d; sound_goals = h.goals_sound; sound_axioms = axioms } in
+      let a : IsAfter c x out.symbols new axs goals ms = record { symbols = refl; decls = p; of = of; known = refl; path = refl; visible = q; axioms_are = assumed; goals_are = r; moves_are = refl } in
+      let b : IsSoundAddition c x new axs goals ms = record { sound = h.decls_sound; signature = h.signature_typed; scopes = h.scopes_typed; typed_moves = declared_typed (after A [] (ds ++ new)) out.scope h.scopes_typed d; sound_goals = h.goals_sound; sound_axioms = axioms } in
       state_further c x out.symbols new axs goals ms sound a b
 
   -- without a further axiom
@@ -210,29 +208,26 @@ module _ (s : List Tree) (t : Typed) (o : Opened) (d : source.SyntaxDeclaration)
   plain dd v gg new goals p of q r h = finish dd v c.opened.axioms gg new [] goals p of q (sym (append-nil c.opened.axioms)) (All-nil (IsSoundAxiom dd)) r h
 
   of_theory : All (λ (x : DeclarationTree). x.theory ≡ c.opened.path) out.decls
-  of_theory = (outcome_once st s' n.parts out n.elaborated.is).of
-
-  stores : (new : List DeclarationTree) → AreTypedScopes (after A [] (ds ++ new)) s' out.scope → AreTypedScopes (after A [] (ds ++ new)) s3 out.scope
-  stores new h = let v = after A [] (ds ++ new) in scopes_part v v (same_part v) s' s3 later out.scope h
+  of_theory = (outcome_once st n.parts out n.elaborated.is).of
 
   -- no goal: with all that is it
   all_added : (goals : List GoalTree) → IsNoGoal d → All (IsSoundAmong A (ds ++ out.decls)) goals → Adds out.decls goals
   all_added goals p h =
       let e = n.elaborated in
       let new = declarations_at s' it.decls in
-      let next : IsNextDeclaration s' S1 o1.scope ds new = next_declaration st ds d n.parts t.sig s' t'.sig o1.scope it typed below g n.of whole p e sorted n.kept.decls passes in
-      let snd : AreSound S1 (ds ++ new) = next_sound st ds d n.parts t.sig s' t'.sig o1.scope it typed below g n.of whole p e sorted n.kept.decls passes sound.opened.theory.sound in
+      let next : IsNextDeclaration S1 (scope_at s' o1.scope) ds new = next_declaration st ds d n.parts t.sig s' t'.sig o1.scope it typed below n.of whole p e sorted n.kept.decls passes in
+      let snd : AreSound S1 (ds ++ new) = next_sound st ds d n.parts t.sig s' t'.sig o1.scope it typed below n.of whole p e sorted n.kept.decls passes sound.opened.theory.sound in
       record {
         decls_sound = subst (λ (xs : List DeclarationTree). AreSound A (ds ++ xs)) e.decls (subst (λ (es : List SymbolTree). AreSound es (ds ++ new)) e.symbols_are snd);
         signature_typed = subst (λ (xs : List DeclarationTree). IsTypedSignature (after A [] (ds ++ xs)) A) e.decls (subst (λ (es : List SymbolTree). IsTypedSignature (after es [] (ds ++ new)) es) e.symbols_are next.signature);
-        scopes_typed = stores out.decls (subst (AreTypedScopes (after A [] (ds ++ out.decls)) s') e.scope
-            (subst (λ (xs : List DeclarationTree). AreTypedScopes (after A [] (ds ++ xs)) s' o1.scope) e.decls (subst (λ (es : List SymbolTree). AreTypedScopes (after es [] (ds ++ new)) s' o1.scope) e.symbols_are next.scopes)));
+        scopes_typed = subst (AreTypedScopes (after A [] (ds ++ out.decls))) e.scope
+            (subst (λ (xs : List DeclarationTree). AreTypedScopes (after A [] (ds ++ xs)) (scope_at s' o1.scope)) e.decls (subst (λ (es : List SymbolTree). AreTypedScopes (after es [] (ds ++ new)) (scope_at s' o1.scope)) e.symbols_are next.scopes));
         goals_sound = h;
       }
 
   -- a declaration that is no proposition
   single : length out.decls ≤ 1
-  single = single_of st s' n.parts out n.elaborated.is
+  single = single_of st n.parts out n.elaborated.is
 
   plain_sound : (xs : List DeclarationTree) → out.decls ≡ xs → length xs ≤ 1 → IsNoGoal d → IsSoundState (known_by None out.rigid xs N)
   plain_sound [] q l p =
@@ -251,7 +246,7 @@ module _ (s : List Tree) (t : Typed) (o : Opened) (d : source.SyntaxDeclaration)
     abbrev E : IsElaborated st (proposition_declaration k y x) t.sig s' t'.sig o1.scope it
     E = record {
       outcome = out;
-      is = subst (λ (z : Declaration). IsOutcome st s' z out) same n.elaborated.is;
+      is = subst (λ (z : Declaration). IsOutcome st z out) same n.elaborated.is;
       named = subst (λ (z : Declaration). names_fault st z ≡ None) same n.elaborated.named;
       symbols_are = n.elaborated.symbols_are;
       ints = n.elaborated.ints;
@@ -262,7 +257,7 @@ module _ (s : List Tree) (t : Typed) (o : Opened) (d : source.SyntaxDeclaration)
     }
 
     P : IsProposition st k y x out
-    P = subst (λ (z : Declaration). IsOutcome st s' z out) same n.elaborated.is
+    P = subst (λ (z : Declaration). IsOutcome st z out) same n.elaborated.is
 
     abbrev formula : Tree
     formula = said_as k out.rigid P.formula
@@ -280,7 +275,7 @@ module _ (s : List Tree) (t : Typed) (o : Opened) (d : source.SyntaxDeclaration)
     goal_after i q =
         let of : IsGoalSaid (declarations_at s' it.decls) it.rigid goal =
         record { formula = formula; says = ap (map (λ (z : DeclarationTree). z.body)) (n.elaborated.decls ∙ are); prop = sym q; rigid = sym n.elaborated.rigid } in
-        proved_kept st ds d y x t.sig s' t'.sig o1.scope it typed below g sorted n.kept.decls passes (quoted k y x r) sound.opened.theory.sound goal of k i r E
+        proved_kept st ds d y x t.sig s' t'.sig o1.scope it typed below sorted n.kept.decls passes (quoted k y x r) sound.opened.theory.sound goal of k i r E
 
     among : (new : List DeclarationTree) → IsSoundAfter S1 ds goal → All (IsSoundAmong A (ds ++ new)) (goal ∷ [])
     among new h =
@@ -323,18 +318,18 @@ module _ (s : List Tree) (t : Typed) (o : Opened) (d : source.SyntaxDeclaration)
       let f = formula kind.Goal x y r in
       let own' = goal kind.Goal x y r in
       let own = it.rigid in
-      let next : IsNextGoal s' S1 o1.scope ds own (declarations_at s' it.decls) = next_goal st ds d y x t.sig s' t'.sig o1.scope it typed below g r (E kind.Goal x y r) sorted n.kept.decls passes in
+      let next : IsNextGoal S1 (scope_at s' o1.scope) ds own (declarations_at s' it.decls) = next_goal st ds d y x t.sig s' t'.sig o1.scope it typed below r (E kind.Goal x y r) sorted n.kept.decls passes in
       let valid : All (IsValidDecl (after S1 own ds)) (d1 ∷ []) = subst (All (IsValidDecl (after S1 own ds))) (e.decls ∙ q) next.valid in
       let closed : IsFormulaOver (after S1 own ds) [] 0 f = valid 0 d1 (omega arith) in
       let after' = goal_after kind.Goal x y r tt (tree_same (rigid_types own) 0 f closed.variables) in
       let nil = sym (append-nil ds) in
       let signature' : IsTypedSignature (after A [] ds) A = subst (λ (es : List SymbolTree). IsTypedSignature (after es [] ds) es) e.symbols_are next.signature in
-      let scopes' : AreTypedScopes (after A [] ds) s' out.scope = subst (AreTypedScopes (after A [] ds) s') e.scope (subst (λ (es : List SymbolTree). AreTypedScopes (after es [] ds) s' o1.scope) e.symbols_are next.scopes) in
+      let scopes' : AreTypedScopes (after A [] ds) out.scope = subst (AreTypedScopes (after A [] ds)) e.scope (subst (λ (es : List SymbolTree). AreTypedScopes (after es [] ds) (scope_at s' o1.scope)) e.symbols_are next.scopes) in
       let before' : AreSound A ds = subst (λ (es : List SymbolTree). AreSound es ds) e.symbols_are after'.before in
       let h : Adds [] (own' ∷ []) = record {
         decls_sound = subst (AreSound A) nil before';
         signature_typed = subst (λ (xs : List DeclarationTree). IsTypedSignature (after A [] xs) A) nil signature';
-        scopes_typed = stores [] (subst (λ (xs : List DeclarationTree). AreTypedScopes (after A [] xs) s' out.scope) nil scopes');
+        scopes_typed = subst (λ (xs : List DeclarationTree). AreTypedScopes (after A [] xs) out.scope) nil scopes';
         goals_sound = among kind.Goal x y r [] after';
       } in
       let z = plain c.decls c.opened.visible (c.opened.goals ++ own' ∷ []) [] (own' ∷ []) (sym (append-nil c.decls)) (All-nil (λ (u : DeclarationTree). u.theory ≡ c.opened.path)) (sym (append-nil c.opened.visible)) refl h in

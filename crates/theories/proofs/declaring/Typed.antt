@@ -1,10 +1,10 @@
 -- All that is known stays typed as a declaration becomes known.
 use Rattle.std.proofs.Common.{ℕ, List, [], ◌∷◌, Option, Some, None, IfSome, option_map}
 use Rattle.std.proofs.lemmas.List.Elements.{All-nil, All-cons, All-append}
-use Rattle.tasks.specs.trees.Tree.{Tree}
 use Rattle.tasks.specs.Task.{DeclarationTree}
 use Rattle.tasks.specs.Vocabulary.{Vocabulary, of_signature}
-use Rattle.elab_groups.specs.scopes.Names.{ScopeNames, find_name, number_of, TypeName}
+use Rattle.elab_groups.specs.scopes.Names.{find_name, number_of}
+use Rattle.elab_groups.specs.name_resolution.Where.{MeaningTree, NamesTree}
 use Rattle.elab_groups.specs.scopes.declared.Table.{Table}
 use Rattle.elab_groups.specs.scopes.declared.Table.TheVariants.{Types, Symbols, Propositions, Scopes}
 use Rattle.elab_groups.specs.scopes.declared.Referent.TheVariants as stands
@@ -26,37 +26,38 @@ use Rattle.theory_states.specs.declared.states.AxiomAt.{AxiomAt}
 use Rattle.theory_states.specs.States.{StateTree, with_declaration, with_declarations}
 use Rattle.elaboration_laws.specs.TypedStates.{state_setting, IsTypedState}
 use Rattle.theories.specs.declaring.Declared.{with_declared_goal, with_proposition, with_proposed, known_by}
-pub use Rattle.theories.proofs.cloning.TypedClone.{stored as trees_typed}
 
 -- ---- moves of names of a typed scope
-module _ (v : Vocabulary) (s : List Tree) (names : ScopeNames) (h : AreTypedScopes v s names) where
-  number_typed : (table : Table) (o : Option TypeName) → ((t : TypeName) → IsTypedThing v s table t → IsTypedThing v s table (stands.Entry (number_of t))) → IfSome o (IsTypedThing v s table) → IfSome (option_map stands.Entry (option_map number_of o)) (IsTypedThing v s table)
+module _ (v : Vocabulary) (names : NamesTree) (h : AreTypedScopes v names) where
+  number_typed : (table : Table) (o : Option MeaningTree) → ((t : MeaningTree) → IsTypedThing v table t → IsTypedThing v table (stands.Entry (number_of t))) → IfSome o (IsTypedThing v table) → IfSome (option_map stands.Entry (option_map number_of o)) (IsTypedThing v table)
   number_typed table None f x = tt
   number_typed table (Some t) f x = f t x
 
-  thing_typed : (table : Table) (x : Word) → IfSome (thing_named names table x) (IsTypedThing v s table)
-  thing_typed Types x = found_thing (IsTypedThing v s) names h Types (x ∷ [])
-  thing_typed Symbols x = number_typed Symbols (find_name names Symbols (x ∷ [])) (λ t z. z) (found_thing (IsTypedThing v s) names h Symbols (x ∷ []))
-  thing_typed Propositions x = number_typed Propositions (find_name names Propositions (x ∷ [])) (λ t z. tt) (found_thing (IsTypedThing v s) names h Propositions (x ∷ []))
-  thing_typed Scopes x = number_typed Scopes (find_name names Scopes (x ∷ [])) (λ t z. tt) (found_thing (IsTypedThing v s) names h Scopes (x ∷ []))
+  symbol_typed : (t : MeaningTree) → IsTypedThing v Symbols t → IsTypedThing v Symbols (stands.Entry (number_of t))
+  symbol_typed (stands.Entry k) z = z
+  symbol_typed (stands.Alias vars ty) z = absurd z
 
-  brought_typed : (table : Table) (x : Word) (o : Option TypeName) → IfSome o (IsTypedThing v s table) → AreTypedMoves v s (brought_as table x o)
-  brought_typed table x None z = All-nil (IsTypedMove v s)
-  brought_typed table x (Some t) z = All-cons (IsTypedMove v s) (Brings table x t) [] z (All-nil (IsTypedMove v s))
+  thing_typed : (table : Table) (x : Word) → IfSome (thing_named names table x) (IsTypedThing v table)
+  thing_typed Types x = found_thing (IsTypedThing v) names h Types (x ∷ [])
+  thing_typed Symbols x = number_typed Symbols (find_name names Symbols (x ∷ [])) symbol_typed (found_thing (IsTypedThing v) names h Symbols (x ∷ []))
+  thing_typed Propositions x = number_typed Propositions (find_name names Propositions (x ∷ [])) (λ t z. tt) (found_thing (IsTypedThing v) names h Propositions (x ∷ []))
+  thing_typed Scopes x = number_typed Scopes (find_name names Scopes (x ∷ [])) (λ t z. tt) (found_thing (IsTypedThing v) names h Scopes (x ∷ []))
 
-  made_typed : (ms : List Made) → AreTypedMoves v s (moves_made names ms)
-  made_typed [] = All-nil (IsTypedMove v s)
-  made_typed (makes table c ∷ ms) = All-append (IsTypedMove v s) (brought_as table c.name (thing_named names table c.name)) (moves_made names ms) (brought_typed table c.name (thing_named names table c.name) (thing_typed table c.name)) (made_typed ms)
+  brought_typed : (table : Table) (x : Word) (o : Option MeaningTree) → IfSome o (IsTypedThing v table) → AreTypedMoves v (brought_as table x o)
+  brought_typed table x None z = All-nil (IsTypedMove v)
+  brought_typed table x (Some t) z = All-cons (IsTypedMove v) (Brings table x t) [] z (All-nil (IsTypedMove v))
+
+  made_typed : (ms : List Made) → AreTypedMoves v (moves_made names ms)
+  made_typed [] = All-nil (IsTypedMove v)
+  made_typed (makes table c ∷ ms) = All-append (IsTypedMove v) (brought_as table c.name (thing_named names table c.name)) (moves_made names ms) (brought_typed table c.name (thing_named names table c.name) (thing_typed table c.name)) (made_typed ms)
   made_typed (binds_names cs ∷ ms) = made_typed ms
 
-  of_typed : (o : Option Declaration) → AreTypedMoves v s (moves_of names o)
-  of_typed None = All-nil (IsTypedMove v s)
+  of_typed : (o : Option Declaration) → AreTypedMoves v (moves_of names o)
+  of_typed None = All-nil (IsTypedMove v)
   of_typed (Some d) = made_typed (made_names d)
 
-  pub declared_typed : (d : source.SyntaxDeclaration) → AreTypedMoves v s (moves_declared names d)
+  pub declared_typed : (d : source.SyntaxDeclaration) → AreTypedMoves v (moves_declared names d)
   declared_typed d = of_typed (declaration d)
-
--- ---- more entries
 
 -- ---- states
 pub setting_typed : (c : StateTree) → IsTypedState c → IsTypedSetting (of_signature c.symbols) (state_setting c)

@@ -2,12 +2,9 @@
 -- element, the path, the names on the right of the elements, and an element that is wrong (Why3
 -- manual, "theory cloning").
 use Rattle.std.specs.Prelude.{◌≡◌, ℕ, List, ◌++◌, Option, Some, None, codes}
-use Rattle.tasks.specs.trees.Tree.{Tree}
-use Rattle.tasks.specs.trees.Node.{Grows}
 use Rattle.tasks.specs.Task.{SymbolTree}
-use Rattle.elab_groups.specs.scopes.Names.{ScopeNames}
-use Rattle.theory_states.specs.declared.moves.Move.{Move}
-use Rattle.theory_states.specs.Moves.{brought, handed, name_or}
+use Rattle.elab_groups.specs.name_resolution.Where.{NamesTree}
+use Rattle.theory_states.specs.Moves.{MoveTree, brought, handed, name_or}
 use Rattle.surface.specs.Lexeme.{Word}
 use Rattle.surface.specs.Declarations.{Element}
 use Rattle.surface.specs.declared.names.Name.{Name}
@@ -28,20 +25,19 @@ use Rattle.clones.specs.clone_elements.Elements.{SidesTold}
 use Rattle.clones.specs.clone_copies.Origins.{axioms_at, origin_of}
 use Rattle.clones.specs.clone_copies.Entries.{entries_copied}
 use Rattle.clones.specs.clone_copies.Places.{Copying, with_places}
-use Rattle.clones.specs.clone_copies.Moves.{AreMovesMapped}
+use Rattle.clones.specs.clone_copies.Moves.{moves_mapped}
 
 -- ---- what the elements stand for
 -- the signature with the tuples of the types on the right
 abbrev pub symbols_tupled : StateTree → List Element → List SymbolTree
 symbols_tupled c es = c.symbols ++ rights_tuples c.symbols es
 
-abbrev pub sides_over : Origin → List Tree → List SymbolTree → ScopeNames → List Element
-    → List SideTree
-sides_over o s symbols names es =
-    sides_made (λ x. last_place symbols o x None o.own) s symbols names es
+abbrev pub sides_over : Origin → List SymbolTree → NamesTree → List Element → List SideTree
+sides_over o symbols names es =
+    sides_made (λ x. last_place symbols o x None o.own) symbols names es
 
 abbrev pub sides_in : StateTree → KnownTree → List Element → List SideTree
-sides_in c t es = sides_over (origin_of c.decls t) c.trees c.symbols c.opened.scope es
+sides_in c t es = sides_over (origin_of c.decls t) c.symbols c.opened.scope es
 
 abbrev pub tried_in : StateTree → KnownTree → List Element → Map
 tried_in c t es = tried_map (symbols_tupled c es) (origin_of c.decls t) (sides_in c t es)
@@ -80,17 +76,17 @@ with_copied_entries c t es within = record c {
 }
 
 -- names come into scopes as by `use`
-abbrev pub with_names : Link → Word → Option Word → List Move → StateTree → StateTree
+abbrev pub with_names : Link → Word → Option Word → List MoveTree → StateTree → StateTree
 with_names l last alias ms c =
     record c {
       opened = record c.opened
           { scope = brought l last alias ms c.opened.scope; moves = c.opened.moves ++ handed l ms };
     }
 
-abbrev pub state_cloned : Link → Word → Option Word → List Element → KnownTree → List Move
-    → StateTree → StateTree
-state_cloned l last alias es t ms c =
-    with_names l last alias ms
+abbrev pub state_cloned : Link → Word → Option Word → List Element → KnownTree → StateTree
+    → StateTree
+state_cloned l last alias es t c =
+    with_names l last alias (moves_mapped (symbols_tupled c es) (map_in c t es) t.moves)
     (with_places (copying_in c t es (within_of l last alias c.opened.within)) t.visible
     (with_copied_entries c t es (within_of l last alias c.opened.within)))
 
@@ -99,13 +95,9 @@ pub record IsCloned (l : Link) (p : Path) (alias : Option Name) (es : List Eleme
   pub variables : all_variables_fault es ≡ None
   pub theory : KnownTree
   pub found : known_named c.known (path_text p.parts) ≡ Some theory
-  pub names : rights_fault c.trees c.symbols c.opened.scope es ≡ None
+  pub names : rights_fault c.symbols c.opened.scope es ≡ None
   pub right : AreTold c theory es None
-  pub grows : Grows c.trees c'.trees
-  pub moves : List Move
-  pub mapped : AreMovesMapped c'.trees (symbols_tupled c es) (map_in c theory es) theory.moves moves
-  pub is : c' ≡ record (state_cloned l (last_part p.parts) (alias_text alias) es theory moves c)
-      { trees = c'.trees }
+  pub is : c' ≡ state_cloned l (last_part p.parts) (alias_text alias) es theory c
 
 -- ---- its faults
 abbrev pub naming : ℕ → NamingFault → SourceFault
@@ -135,10 +127,10 @@ pub data IsCloneFault (p : Path) (es : List Element) (c : StateTree)
       → IsCloneFault p es c f
   of_clone_names : (t : KnownTree) → all_variables_fault es ≡ None
       → known_named c.known (path_text p.parts) ≡ Some t
-      → IsNamesFault c.number (rights_fault c.trees c.symbols c.opened.scope es) f
+      → IsNamesFault c.number (rights_fault c.symbols c.opened.scope es) f
       → IsCloneFault p es c f
   of_elements : (t : KnownTree) → all_variables_fault es ≡ None
       → known_named c.known (path_text p.parts) ≡ Some t
-      → rights_fault c.trees c.symbols c.opened.scope es ≡ None
+      → rights_fault c.symbols c.opened.scope es ≡ None
       → IsElementFault c.number (symbols_tupled c es) (origin_of c.decls t) (sides_in c t es) f
       → IsCloneFault p es c f

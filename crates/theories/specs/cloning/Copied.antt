@@ -1,12 +1,12 @@
 -- A theory that is copied in code: the map with the symbols that the copies make, what is asked
 -- before, and what is known after.
-use Rattle.std.specs.Prelude.{◌≡◌, ℕ, ◌<◌, List, [], ◌++◌, length, All, Option, IfSome}
+use Rattle.std.specs.Prelude.{◌≡◌, ℕ, ◌<◌, List, ◌++◌, length, All, Option, IfSome}
 use Rattle.tasks.specs.trees.Tree.{Tree}
 use Rattle.tasks.specs.trees.Sorts.{sort_of}
 use Rattle.tasks.specs.trees.declared.Sort.TheVariants.{Kind}
 use Rattle.tasks.specs.Task.{SymbolTree}
 use Rattle.tasks.specs.Meaning.{symbols_at, declarations_at}
-use Rattle.theory_states.specs.declared.moves.Move.{Move}
+use Rattle.theory_states.specs.Moves.{MoveTree}
 use Rattle.surface.specs.Lexeme.{Word}
 use Rattle.surface.specs.declared.declarations.Link.{Link}
 use Rattle.clones.specs.Mapped.{Map}
@@ -22,7 +22,7 @@ use Rattle.clones.specs.clone_elements.Meaning.{TypeForHeld}
 use Rattle.clones.specs.clone_copies.Origins.{origin_of}
 use Rattle.clones.specs.clone_copies.Entries.{entries_copied}
 use Rattle.clones.specs.clone_copies.Places.{Copying, with_places}
-use Rattle.clones.specs.clone_copies.Moves.{AreMovesMapped, MoveHeld}
+use Rattle.clones.specs.clone_copies.Moves.{moves_mapped}
 use Rattle.theories.specs.declared.cloning.copying.Renaming.{Renaming}
 use Rattle.theories.specs.declared.cloning.own.Own.{Own}
 use Rattle.theories.specs.cloning.Cloned.{with_names}
@@ -72,20 +72,16 @@ pub record IsCopyReady (s : List Tree) (t : Typed) (o : Opened) (k : ℕ) (it : 
   pub there : k < length t.known
   pub own : IsOwnOf (declarations_at s t.decls) (known_theory_at s t k) it
   pub types : All (TypeForHeld s) p.types.items
-  pub moves : All (MoveHeld s) (known_theory_at s t k).moves
   pub kept : All IsKeptEntry (entries_made (known_theory_at s t k)
       (planned s (state_at s t o) (known_theory_at s t k) p within) (state_at s t o))
 
 -- its contents are copied, and these names are passed on
-pub record AreContents (t : KnownTree) (x : Copying) (moves : List Move)
+pub record AreContents (t : KnownTree) (x : Copying) (moves : List MoveTree)
     (c c' : StateTree) : Type 0 where
-  pub mapped : AreMovesMapped c'.trees c.symbols x.mapping t.moves moves
-  pub is : record c' { trees = [] } ≡ with_theory_copies t x (record c { trees = [] })
+  pub mapped : moves ≡ moves_mapped c.symbols x.mapping t.moves
+  pub is : c' ≡ with_theory_copies t x c
 
 -- it is copied, and its names come into scopes
-pub record IsTheoryCopied (l : Link) (last : Word) (alias : Option Word) (t : KnownTree)
-    (x : Copying) (c c' : StateTree) : Type 0 where
-  pub moves : List Move
-  pub mapped : AreMovesMapped c'.trees c.symbols x.mapping t.moves moves
-  pub is : record c' { trees = [] }
-      ≡ with_names l last alias moves (with_theory_copies t x (record c { trees = [] }))
+abbrev pub with_theory : Link → Word → Option Word → KnownTree → Copying → StateTree → StateTree
+with_theory l last alias t x c =
+    with_names l last alias (moves_mapped c.symbols x.mapping t.moves) (with_theory_copies t x c)

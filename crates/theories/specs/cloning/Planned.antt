@@ -3,7 +3,7 @@
 use Rattle.std.specs.Prelude.{◌≡◌, ℕ, List, ◌++◌, length, None}
 use Rattle.tasks.specs.trees.Tree.{Tree}
 use Rattle.tasks.specs.Task.{SymbolTree}
-use Rattle.elab_groups.specs.scopes.Names.{ScopeNames}
+use Rattle.elab_groups.specs.name_resolution.Where.{NamesTree}
 use Rattle.surface.specs.Lexeme.{Word}
 use Rattle.surface.specs.Declarations.{Element}
 use Rattle.clones.specs.Mapped.{Map}
@@ -20,22 +20,22 @@ use Rattle.clones.specs.clone_copies.Places.{Copying}
 use Rattle.theories.specs.cloning.Cloned.{sides_over, IsNamesFault, IsElementFault}
 
 -- all are right over a signature, and replace this in a later store
-pub record AreElementsRead (s : List Tree) (symbols : List SymbolTree) (scope : ScopeNames)
-    (o : Origin) (es : List Element) (s' : List Tree) (p : Plan) : Type 0 where
-  pub names : rights_fault s symbols scope es ≡ None
+pub record AreElementsRead (symbols : List SymbolTree) (scope : NamesTree) (o : Origin)
+    (es : List Element) (s' : List Tree) (p : Plan) : Type 0 where
+  pub names : rights_fault symbols scope es ≡ None
   pub right : SidesTold (symbols ++ rights_tuples symbols es) o
-      (tried_map (symbols ++ rights_tuples symbols es) o (sides_over o s symbols scope es)) no_fates
-      (sides_over o s symbols scope es) None
-  pub plan : IsPlan s' (symbols ++ rights_tuples symbols es) o (sides_over o s symbols scope es) p
+      (tried_map (symbols ++ rights_tuples symbols es) o (sides_over o symbols scope es)) no_fates
+      (sides_over o symbols scope es) None
+  pub plan : IsPlan s' (symbols ++ rights_tuples symbols es) o (sides_over o symbols scope es) p
 
 -- the names on the right have a fault, or else an element is wrong
-pub data IsElementsFault (number : ℕ) (s : List Tree) (symbols : List SymbolTree)
-    (scope : ScopeNames) (o : Origin) (es : List Element) (f : SourceFault) : Type 0 where
-  in_names : IsNamesFault number (rights_fault s symbols scope es) f
-      → IsElementsFault number s symbols scope o es f
-  in_elements : rights_fault s symbols scope es ≡ None
+pub data IsElementsFault (number : ℕ) (symbols : List SymbolTree) (scope : NamesTree)
+    (o : Origin) (es : List Element) (f : SourceFault) : Type 0 where
+  in_names : IsNamesFault number (rights_fault symbols scope es) f
+      → IsElementsFault number symbols scope o es f
+  in_elements : rights_fault symbols scope es ≡ None
       → IsElementFault number (symbols ++ rights_tuples symbols es) o
-      (sides_over o s symbols scope es) f → IsElementsFault number s symbols scope o es f
+      (sides_over o symbols scope es) f → IsElementsFault number symbols scope o es f
 
 -- the symbols of the copies, and the map
 abbrev pub planned_kept : Origin → Plan → List ℕ

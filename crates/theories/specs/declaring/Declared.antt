@@ -3,7 +3,6 @@
 -- side conditions; and what becomes known by it.
 use Rattle.std.specs.Prelude.{◌≡◌, ℕ, List, [], ◌∷◌, ◌++◌, length, All, Option, Some, None}
 use Rattle.tasks.specs.trees.Tree.{Tree}
-use Rattle.tasks.specs.trees.Node.{Grows}
 use Rattle.tasks.specs.trees.Binding.{inst_types}
 use Rattle.tasks.specs.Task.{BodyTree, Says, DeclarationTree}
 use Rattle.surface.specs.Lexeme.{Word}
@@ -79,10 +78,9 @@ abbrev pub known_by : Option (PropKind × Expression) → List ℕ → List Decl
 known_by None rigid ds c = with_declarations ds c
 known_by (Some p) rigid ds c = with_proposed p.0 (proposition_seen p.1).vars rigid ds c
 
--- the entries and the names that it makes, over a store
-abbrev pub with_named : source.SyntaxDeclaration → Outcome → List Tree → StateTree → StateTree
-with_named d o s c = record c {
-  trees = s;
+-- the entries and the names that it makes
+abbrev pub with_named : source.SyntaxDeclaration → Outcome → StateTree → StateTree
+with_named d o c = record c {
   symbols = c.symbols ++ o.symbols;
   opened =
       record c.opened { scope = o.scope; moves = c.opened.moves ++ moves_declared o.scope d };
@@ -90,24 +88,22 @@ with_named d o s c = record c {
 
 -- ---- a declaration that is no use, clone or scope
 pub record IsDeclared (d : source.SyntaxDeclaration) (c c' : StateTree) : Type 0 where
-  pub grows : Grows c.trees c'.trees
   pub parts : Declaration
   pub of : declaration d ≡ Some parts
   pub outcome : Outcome
-  pub is : IsOutcome (state_setting c) c'.trees parts outcome
+  pub is : IsOutcome (state_setting c) parts outcome
   pub named : names_fault (state_setting c) parts ≡ None
   pub covered : All (IsCovered (c.symbols ++ outcome.symbols)) outcome.matches
   pub checked : All (HasNoFault (c.symbols ++ outcome.symbols)) (bodies outcome.decls)
   pub known : c' ≡ known_by (proposition_in d) outcome.rigid outcome.decls
-      (with_named d outcome c'.trees c)
+      (with_named d outcome c)
 
 -- its first fault: of its names and types; else, as it has an outcome, of its side conditions
 pub data IsDeclaredFault (d : source.SyntaxDeclaration) (c : StateTree)
     (f : SourceFault) : Type 0 where
   of_elaboration : (x : Declaration) (g : ElabFault) → declaration d ≡ Some x
       → IsRefusal (state_setting c) x g → f ≡ elaboration_fault g → IsDeclaredFault d c f
-  of_sides : (x : Declaration) (s : List Tree) (o : Outcome) (g : SideFault)
-      → declaration d ≡ Some x → Grows c.trees s → IsOutcome (state_setting c) s x o
-      → names_fault (state_setting c) x ≡ None
+  of_sides : (x : Declaration) (o : Outcome) (g : SideFault) → declaration d ≡ Some x
+      → IsOutcome (state_setting c) x o → names_fault (state_setting c) x ≡ None
       → IsSideFault (c.symbols ++ o.symbols) o.matches (bodies o.decls) g
       → f ≡ side_fault c.number g → IsDeclaredFault d c f

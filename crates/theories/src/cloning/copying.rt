@@ -1,20 +1,20 @@
 // The copies of a clone, from what its elements replace.
 // They depend on copies and on what is known of theories.
-ghost use Rattle.std.specs.Prelude.{All, IfOk, OnOk};
+ghost use Rattle.std.specs.Prelude.{◌≡◌, map, All, IfOk, OnOk};
 ghost use Rattle.std.specs.Option.{option_copied};
 ghost use Rattle.tasks.specs.trees.Node.{Grows};
 ghost use Rattle.tasks.specs.Meaning.{symbols_at};
 ghost use Rattle.clones.specs.Meaning.{map_at, MapHeld, AreKnown};
 ghost use Rattle.elab_groups.specs.parts.Entries.{IsSignature, IsExtended};
-ghost use Rattle.theory_states.specs.Meaning.{state_at, StateHeld};
+ghost use Rattle.theory_states.specs.Meaning.{move_at, state_at, MoveHeld, StateHeld};
 ghost use Rattle.clones.specs.clone_elements.Origins.{origin_at};
 ghost use Rattle.clones.specs.clone_elements.Meaning.{TypeForHeld};
 ghost use Rattle.clones.specs.clone_copies.Entries.{entries_copied};
-ghost use Rattle.clones.specs.clone_copies.Moves.{AreMovesMapped, MoveHeld};
+ghost use Rattle.clones.specs.clone_copies.Moves.{moves_mapped};
 ghost use Rattle.theories.specs.cloning.Cloned.{within_of};
 ghost use Rattle.theories.specs.cloning.Owned.{known_theory_at};
 ghost use Rattle.theories.specs.cloning.Planned.{planned_kept, planned_map, planned};
-ghost use Rattle.theories.specs.cloning.Copied.{IsRenaming, IsPlannedRenaming, IsKeptEntry, IsCopyReady, AreContents, IsTheoryCopied};
+ghost use Rattle.theories.specs.cloning.Copied.{IsRenaming, IsPlannedRenaming, IsKeptEntry, IsCopyReady, AreContents, with_theory};
 
 use crate::cloning::own::{Own, source_of, within_of};
 use clones::clone_copies::{
@@ -67,10 +67,10 @@ fn copy_symbols(
     sig: &mut Signature,
     made: &Renaming,
     trees: &mut Trees,
-    moves: &[Move],
+    moves: &[Move<usize>],
     path: &[u8],
     within: &[u8],
-) -> Result<Vec<Move>, AllocError>
+) -> Result<Vec<Move<usize>>, AllocError>
     requires signature { IsSignature store.old sig.old.symbols }
     requires map_held { MapHeld store.old made.now.morphism }
     requires known { AreKnown (map_at store.old made.now.morphism) store.old trees.old }
@@ -80,8 +80,10 @@ fn copy_symbols(
     ensures entries { OnOk result (IsExtended store.old sig.old store.new sig.new (entries_copied
         (symbols_at store.old sig.old.symbols) (map_at store.old made.now.morphism) path.now
         within.now made.now.symbols.items)) }
-    ensures moves { IfOk result (λ v. AreMovesMapped store.new (symbols_at store.old
-        sig.old.symbols) (map_at store.old made.now.morphism) moves.now v.items) }
+    ensures moves { IfOk result (λ v. map (move_at store.new) v.items ≡ moves_mapped
+        (symbols_at store.old sig.old.symbols) (map_at store.old made.now.morphism)
+        (map (move_at store.old) moves.now)) }
+    ensures moves_held { IfOk result (λ v. All (MoveHeld store.new) v.items) }
     ensures known { OnOk result (AreKnown (map_at store.old made.now.morphism) store.new
         trees.new) }
     ensures grows { Grows store.old store.new }
@@ -114,14 +116,16 @@ fn copy_renamed(
     within: &[u8],
     made: &Renaming,
     trees: &mut Trees,
-) -> Result<Vec<Move>, AllocError>
+) -> Result<Vec<Move<usize>>, AllocError>
     requires ready { IsCopyReady store.old typed.old open.old theory own.now plan.now within.now }
     requires made { IsPlannedRenaming store.old typed.old theory plan.now made.now }
     requires known { AreKnown (map_at store.old made.now.morphism) store.old trees.old }
     ensures copies { IfOk result (λ v. AreContents (known_theory_at store.old typed.old theory)
         (planned store.old (state_at store.old typed.old open.old)
-        (known_theory_at store.old typed.old theory) plan.now within.now) v.items
-        (state_at store.old typed.old open.old) (state_at store.new typed.new open.new)) }
+        (known_theory_at store.old typed.old theory) plan.now within.now)
+        (map (move_at store.new) v.items) (state_at store.old typed.old open.old)
+        (state_at store.new typed.new open.new)) }
+    ensures moves_held { IfOk result (λ v. All (MoveHeld store.new) v.items) }
     ensures held { OnOk result (StateHeld store.new typed.new open.new) }
     ensures grows { Grows store.old store.new }
 {
@@ -165,12 +169,14 @@ fn copy_contents(
     own: &Own,
     plan: &Plan,
     within: &[u8],
-) -> Result<Vec<Move>, AllocError>
+) -> Result<Vec<Move<usize>>, AllocError>
     requires { IsCopyReady store.old typed.old open.old theory own.now plan.now within.now }
     ensures copies { IfOk result (λ v. AreContents (known_theory_at store.old typed.old theory)
         (planned store.old (state_at store.old typed.old open.old)
-        (known_theory_at store.old typed.old theory) plan.now within.now) v.items
-        (state_at store.old typed.old open.old) (state_at store.new typed.new open.new)) }
+        (known_theory_at store.old typed.old theory) plan.now within.now)
+        (map (move_at store.new) v.items) (state_at store.old typed.old open.old)
+        (state_at store.new typed.new open.new)) }
+    ensures moves_held { IfOk result (λ v. All (MoveHeld store.new) v.items) }
     ensures held { OnOk result (StateHeld store.new typed.new open.new) }
     ensures grows { Grows store.old store.new }
 {
@@ -197,12 +203,11 @@ pub(crate) fn copy_theory(
 ) -> Result<(), AllocError>
     requires { IsCopyReady store.old typed.old open.old theory own.now plan.now
         (within_of link last.now (option_copied alias) open.old.within.items) }
-    ensures copied { OnOk result (IsTheoryCopied link last.now (option_copied alias.entry)
-        (known_theory_at store.old typed.old theory) (planned store.old
+    ensures copied { OnOk result (state_at store.new typed.new open.new ≡ with_theory link last.now
+        (option_copied alias.entry) (known_theory_at store.old typed.old theory) (planned store.old
         (state_at store.old typed.old open.old) (known_theory_at store.old typed.old theory)
-        plan.now
-        (within_of link last.now (option_copied alias.entry) open.old.within.items))
-        (state_at store.old typed.old open.old) (state_at store.new typed.new open.new)) }
+        plan.now (within_of link last.now (option_copied alias.entry) open.old.within.items))
+        (state_at store.old typed.old open.old)) }
     ensures held { OnOk result (StateHeld store.new typed.new open.new) }
     ensures grows { Grows store.old store.new }
 {

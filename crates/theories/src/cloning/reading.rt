@@ -3,6 +3,7 @@
 ghost use Rattle.std.specs.Prelude.{◌≡◌, None, length, map, All, IfOk, IfErr, OnOk};
 ghost use Rattle.tasks.specs.trees.Node.{Grows};
 ghost use Rattle.tasks.specs.Meaning.{symbols_at, DeclHeld};
+ghost use Rattle.elab_groups.specs.name_resolution.Naming.{scope_at};
 ghost use Rattle.surface.specs.SurfaceDeclarations.{element_of};
 ghost use Rattle.elab_groups.specs.parts.Entries.{IsSignature, IsExtended, AreScopes};
 ghost use Rattle.theory_states.specs.Uses.{OrMemory};
@@ -53,12 +54,13 @@ fn read_sides<'a>(
         (symbols_at store.old sig.old.symbols) (map element_of elements.now))) }
     ensures held { IfOk result (λ v. All (SideHeld store.new) v.items) }
     ensures sides { IfOk result (λ v. sides_at store.new v.items ≡ sides_over (origin_at store.old
-        source.now) store.old (symbols_at store.old sig.old.symbols) scope.now
+        source.now) (symbols_at store.old sig.old.symbols) (scope_at store.old scope.now)
         (map element_of elements.now)) }
-    ensures free { OnOk result (rights_fault store.old (symbols_at store.old sig.old.symbols)
-        scope.now (map element_of elements.now) ≡ None) }
-    ensures err { IfErr result (OrMemory (IsNamesFault number (rights_fault store.old
-        (symbols_at store.old sig.old.symbols) scope.now (map element_of elements.now)))) }
+    ensures free { OnOk result (rights_fault (symbols_at store.old sig.old.symbols)
+        (scope_at store.old scope.now) (map element_of elements.now) ≡ None) }
+    ensures err { IfErr result (OrMemory (IsNamesFault number (rights_fault
+        (symbols_at store.old sig.old.symbols) (scope_at store.old scope.now)
+        (map element_of elements.now)))) }
     ensures grows { Grows store.old store.new }
 {
     let names = LeftNames::new(alloc, sig, source)?;
@@ -116,11 +118,12 @@ pub(crate) fn plan_elements(
     requires decls { All (DeclHeld store.old) source.now.decls.now }
     ensures entries { OnOk result (IsExtended store.old sig.old store.new sig.new (rights_tuples
         (symbols_at store.old sig.old.symbols) (map element_of elements.now))) }
-    ensures read { IfOk result (AreElementsRead store.old (symbols_at store.old sig.old.symbols)
-        scope.now
-        (origin_at store.old source.now) (map element_of elements.now) store.new) }
-    ensures err { IfErr result (OrMemory (IsElementsFault number store.old
-        (symbols_at store.old sig.old.symbols) scope.now (origin_at store.old source.now)
+    ensures read { IfOk result (AreElementsRead (symbols_at store.old sig.old.symbols)
+        (scope_at store.old scope.now) (origin_at store.old source.now)
+        (map element_of elements.now) store.new) }
+    ensures err { IfErr result (OrMemory (IsElementsFault number
+        (symbols_at store.old sig.old.symbols) (scope_at store.old scope.now)
+        (origin_at store.old source.now)
         (map element_of elements.now))) }
     ensures grows { Grows store.old store.new }
 {

@@ -70,7 +70,7 @@ pub(crate) fn push_made(
     requires state { StateHeld store.old typed.old open.old }
     ensures state { OnOk result (state_at store.new typed.new open.new ≡ known_by
         (proposition_in (decl_of decl.now)) made.rigid (declarations_at store.old made.decls)
-        (record (state_at store.old typed.old open.old) { trees = store.new })) }
+        (state_at store.old typed.old open.old)) }
     ensures held { OnOk result (StateHeld store.new typed.new open.new) }
     ensures typed { OnOk result (typed.new ≡ record typed.old { decls = typed.new.decls }) }
     ensures grows { Grows store.old store.new }

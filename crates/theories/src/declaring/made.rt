@@ -41,7 +41,7 @@ fn push_name(
     scope: &Scope,
     table: Table,
     name: Text,
-    moves: &mut Vec<Move>,
+    moves: &mut Vec<Move<usize>>,
 ) -> Result<(), AllocError>
     ensures { OnOk result (moves.new.items ≡ moves.old.items ++ brought_as table name
         (thing_named scope.now table name)) }
@@ -60,7 +60,7 @@ fn push_plain(
     scope: &Scope,
     table: Table,
     name: &Name,
-    moves: &mut Vec<Move>,
+    moves: &mut Vec<Move<usize>>,
 ) -> Result<(), AllocError>
     ensures { OnOk result (moves.new.items ≡ moves.old.items ++ moves_made scope.now
         (makes table (word name.now) ∷ [])) }
@@ -74,7 +74,7 @@ fn push_symbol(
     alloc: Global,
     scope: &Scope,
     name: &OpName,
-    moves: &mut Vec<Move>,
+    moves: &mut Vec<Move<usize>>,
 ) -> Result<(), AllocError>
     ensures { OnOk result (moves.new.items ≡ moves.old.items ++ moves_made scope.now
         (makes Symbols (symbol (declared_name name.now)) ∷ [])) }
@@ -88,7 +88,7 @@ fn push_proposition(
     alloc: Global,
     scope: &Scope,
     name: &Name,
-    moves: &mut Vec<Move>,
+    moves: &mut Vec<Move<usize>>,
 ) -> Result<(), AllocError>
     ensures { OnOk result (moves.new.items ≡ moves.old.items ++ moves_made scope.now
         (makes Propositions (symbol (plain_name name.now)) ∷ [])) }
@@ -100,7 +100,7 @@ fn push_proposition(
 fn push_constructors(
     scope: &Scope,
     cons: &[ConTree],
-    moves: &mut Vec<Move>,
+    moves: &mut Vec<Move<usize>>,
 ) -> Result<(), AllocError>
     ensures { OnOk result (moves.new.items ≡ moves.old.items ++ moves_made scope.now
         (made_by_constructors (map constructor (map constructor_of cons.now)))) }
@@ -112,7 +112,11 @@ fn push_constructors(
     push_constructors(scope, rest, moves)
 }
 
-fn push_types(scope: &Scope, types: &[AlgTree], moves: &mut Vec<Move>) -> Result<(), AllocError>
+fn push_types(
+    scope: &Scope,
+    types: &[AlgTree],
+    moves: &mut Vec<Move<usize>>,
+) -> Result<(), AllocError>
     ensures { OnOk result (moves.new.items ≡ moves.old.items ++ moves_made scope.now
         (made_type_names (map algebraic_type (map algebraic_of types.now)))) }
 {
@@ -128,7 +132,7 @@ fn push_members(
     alloc: Global,
     scope: &Scope,
     members: &[MemberTree],
-    moves: &mut Vec<Move>,
+    moves: &mut Vec<Move<usize>>,
 ) -> Result<(), AllocError>
     ensures { OnOk result (moves.new.items ≡ moves.old.items ++ moves_made scope.now
         (made_by_members (map group_member (map member_of members.now)))) }
@@ -144,7 +148,7 @@ fn push_clauses(
     alloc: Global,
     scope: &Scope,
     clauses: &[ClauseTree],
-    moves: &mut Vec<Move>,
+    moves: &mut Vec<Move<usize>>,
 ) -> Result<(), AllocError>
     ensures { OnOk result (moves.new.items ≡ moves.old.items ++ moves_made scope.now
         (made_by_clauses (map clause (map clause_of clauses.now)))) }
@@ -160,7 +164,7 @@ fn push_inductives(
     alloc: Global,
     scope: &Scope,
     predicates: &[IndTree],
-    moves: &mut Vec<Move>,
+    moves: &mut Vec<Move<usize>>,
 ) -> Result<(), AllocError>
     ensures { OnOk result (moves.new.items ≡ moves.old.items ++ moves_made scope.now
         (made_by_inductives (map inductive_predicate (map inductive_of predicates.now)))) }
@@ -179,7 +183,7 @@ pub fn push_declared(
     alloc: Global,
     scope: &Scope,
     decl: &DeclTree,
-    moves: &mut Vec<Move>,
+    moves: &mut Vec<Move<usize>>,
 ) -> Result<(), AllocError>
     ensures { OnOk result (moves.new.items ≡ moves.old.items ++ moves_declared scope.now
         (decl_of decl.now)) }

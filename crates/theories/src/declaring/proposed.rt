@@ -113,8 +113,7 @@ fn push_goal(
     requires state { StateHeld store.old typed.now open.old }
     ensures state { OnOk result (state_at store.new typed.now open.new
         ≡ with_declared_goal kind rigid
-        (declaration_at store.old decl.now) (record (state_at store.old typed.now open.old)
-        { trees = store.new })) }
+        (declaration_at store.old decl.now) (state_at store.old typed.now open.old)) }
     ensures held { OnOk result (StateHeld store.new typed.now open.new) }
     ensures grows { Grows store.old store.new }
 {
@@ -163,8 +162,7 @@ fn push_lemma(
     requires decl { DeclHeld store.old decl }
     requires state { StateHeld store.old typed.old open.old }
     ensures state { OnOk result (state_at store.new typed.new open.new ≡ with_proposition Lemma []
-        rigid (declaration_at store.old decl) (record (state_at store.old typed.old open.old)
-        { trees = store.new })) }
+        rigid (declaration_at store.old decl) (state_at store.old typed.old open.old)) }
     ensures held { OnOk result (StateHeld store.new typed.new open.new) }
     ensures typed { OnOk result (typed.new ≡ record typed.old { decls = typed.new.decls }) }
     ensures grows { Grows store.old store.new }
@@ -189,7 +187,7 @@ pub(crate) fn push_proposed(
     requires state { StateHeld store.old typed.old open.old }
     ensures state { OnOk result (state_at store.new typed.new open.new ≡ with_proposed kind
         (proposition_seen (expression_of e.now)).vars rigid (declarations_at store.old decls.old)
-        (record (state_at store.old typed.old open.old) { trees = store.new })) }
+        (state_at store.old typed.old open.old)) }
     ensures held { OnOk result (StateHeld store.new typed.new open.new) }
     ensures typed { OnOk result (typed.new ≡ record typed.old { decls = typed.new.decls }) }
     ensures grows { Grows store.old store.new }

@@ -29,7 +29,7 @@ returns-clause-sound c =
     let after = between_at s' t' done.0 in
     let count : c.len-embedded.result ≡ length (map (known_at s) t.known) = c.len-embedded.ensures ∙ sym (length-map t.known (known_at s)) in
     let P : Theories → Type 0 = λ all. (n : ℕ) → theories_at s' all ≡ theories_of c.len-embedded.result (between_at s' t' n) in
-    let Q : Theories → Type 0 = λ all. SoundTheoriesOf c.args.store.now (file_of c.args.file.now) (theories_at s' all) in
+    let Q : Theories → Type 0 = λ all. SoundTheoriesOf (file_of c.args.file.now) (theories_at s' all) in
     let k : (all : Theories) → P all → Q all = λ all h. record {
       before = between_at s t 0;
       library = c.in_ok-type_library.ensures.ok;
@@ -44,9 +44,9 @@ returns-clause-ok c =
     let s = c.args.store.now in
     let s' = c.type_theories.new.store in
     let source = file_of c.args.file.now in
-    let P : Theories → Type 0 = λ all. SoundTheoriesOf s source (theories_at s' all) in
-    let Q : Theories → Type 0 = λ all. TheoriesOf s source (theories_at s' all) in
-    let k : (all : Theories) → P all → Q all = λ all h. forgotten s source (theories_at s' all) h in
+    let P : Theories → Type 0 = λ all. SoundTheoriesOf source (theories_at s' all) in
+    let Q : Theories → Type 0 = λ all. TheoriesOf source (theories_at s' all) in
+    let k : (all : Theories) → P all → Q all = λ all h. forgotten source (theories_at s' all) h in
     IfOk-weaker c.collect.result P Q k (returns-clause-sound c)
 
 pub returns-clause-held : goal.returns-clause-held
@@ -56,7 +56,7 @@ pub returns-clause-tuples : goal.returns-clause-tuples
 returns-clause-tuples c = c.collect.ensures.tuples
 
 pub returns-clause-err : goal.returns-clause-err
-returns-clause-err c = only_memory (IsFirstSourceFault c.args.store.now (file_of c.args.file.now)) c.collect.result c.collect.ensures.err
+returns-clause-err c = only_memory (IsFirstSourceFault (file_of c.args.file.now)) c.collect.result c.collect.ensures.err
 
 pub returns-clause-grows : goal.returns-clause-grows
 returns-clause-grows c = Grows_trans c.args.store.now c.type_library.new.store c.type_theories.new.store c.type_library.ensures.grows c.type_theories.ensures.grows
@@ -64,10 +64,9 @@ returns-clause-grows c = Grows_trans c.args.store.now c.type_library.new.store c
 pub returns-in_err-type_theories-clause-err : goal.returns-in_err-type_theories-clause-err
 returns-in_err-type_theories-clause-err c =
     let p = err_from_is_err_and c.from_residual-in_err-type_theories.result c.from_residual-in_err-type_theories.ensures.1 in
-    let s = c.args.store.now in
     let source = file_of c.args.file.now in
     let before = between_at c.type_library.new.store c.type_library.new.typed 0 in
-    let k : (f : SourceFault) → AreFaultyIn source before f → IsFirstSourceFault s source f = λ f h. inr (record { before = before; library = library_forgotten s before c.in_ok-type_library.ensures.ok; fault = h }) in
+    let k : (f : SourceFault) → AreFaultyIn source before f → IsFirstSourceFault source f = λ f h. inr (record { before = before; library = library_forgotten before c.in_ok-type_library.ensures.ok; fault = h }) in
     rw (p.1, p.2) (fault_so k c.in_err-type_theories.field-0.0 (rw c.as_slice.ensures at c.in_err-type_theories.ensures.err))
 
 pub returns-in_err-typed-clause-ok : goal.returns-in_err-typed-clause-ok
@@ -107,7 +106,7 @@ pub returns-in_err-type_theories-clause-tuples : goal.returns-in_err-type_theori
 returns-in_err-type_theories-clause-tuples c = no_value _ _ c.from_residual-in_err-type_theories.result c.from_residual-in_err-type_theories.ensures.1
 
 pub returns-in_err-typed-clause-err : goal.returns-in_err-typed-clause-err
-returns-in_err-typed-clause-err c = no_memory (IsFirstSourceFault c.args.store.now (file_of c.args.file.now)) c.from_residual.result c.from_residual.ensures.1
+returns-in_err-typed-clause-err c = no_memory (IsFirstSourceFault (file_of c.args.file.now)) c.from_residual.result c.from_residual.ensures.1
 
 pub returns-in_err-typed-clause-grows : goal.returns-in_err-typed-clause-grows
 returns-in_err-typed-clause-grows c = Grows_refl c.args.store.now
@@ -115,9 +114,8 @@ returns-in_err-typed-clause-grows c = Grows_refl c.args.store.now
 pub returns-in_err-type_library-clause-err : goal.returns-in_err-type_library-clause-err
 returns-in_err-type_library-clause-err c =
     let p = err_from_is_err_and c.from_residual-in_err-type_library.result c.from_residual-in_err-type_library.ensures.1 in
-    let s = c.args.store.now in
     let source = file_of c.args.file.now in
-    let k : (f : SourceFault) → IsLibraryFault s f → IsFirstSourceFault s source f = λ f h. inl h in
+    let k : (f : SourceFault) → IsLibraryFault f → IsFirstSourceFault source f = λ f h. inl h in
     rw (p.1, p.2) (fault_so k c.in_err-type_library.field-0.0 c.in_err-type_library.ensures.err)
 
 pub returns-in_err-type_library-clause-grows : goal.returns-in_err-type_library-clause-grows

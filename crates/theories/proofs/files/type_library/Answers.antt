@@ -22,9 +22,8 @@ pub returns-clause-err : goal.returns-clause-err
 returns-clause-err c =
     let xs = c.as_slice.result.now in
     let are : AreFilesOf library xs = subst (AreFilesOf library) (sym c.as_slice.ensures.value) c.in_ok-files.ensures in
-    let s = c.args.store.now in
-    let a = between_at s c.args.typed.now 0 in
-    answer_so (AreEmbeddedFaulty xs a) (IsLibraryFault s) (λ f h. record { files = xs; are = are; fault = subst (λ (z : StateTree). AreEmbeddedFaulty xs z f) c.requires.nothing h }) c.type_files-done.result c.type_files-done.ensures.err
+    let a = between_at c.args.store.now c.args.typed.now 0 in
+    answer_so (AreEmbeddedFaulty xs a) IsLibraryFault (λ f h. record { files = xs; are = are; fault = subst (λ (z : StateTree). AreEmbeddedFaulty xs z f) c.requires.nothing h }) c.type_files-done.result c.type_files-done.ensures.err
 
 pub returns-in_err-files-clause-ok : goal.returns-in_err-files-clause-ok
 returns-in_err-files-clause-ok c = no_ok _ _ c.from_residual.result c.from_residual.ensures.1
@@ -39,7 +38,7 @@ pub returns-clause-grows : goal.returns-clause-grows
 returns-clause-grows c = c.type_files-done.ensures.grows
 
 pub returns-in_err-files-clause-err : goal.returns-in_err-files-clause-err
-returns-in_err-files-clause-err c = no_memory (IsLibraryFault c.args.store.now) c.from_residual.result c.from_residual.ensures.1
+returns-in_err-files-clause-err c = no_memory IsLibraryFault c.from_residual.result c.from_residual.ensures.1
 
 pub returns-in_err-files-clause-grows : goal.returns-in_err-files-clause-grows
 returns-in_err-files-clause-grows c = Grows_refl c.args.store.now

@@ -30,7 +30,7 @@ plan_elements-requires-clause-scopes c =
     let is = c.args.typed.now.sig.symbols in
     let symbols = symbols_at s is in
     let scope = c.args.open.now.scope in
-    subst (λ (n : ℕ). AreScopes s n scope) (length-map is (symbol_at s)) (scopes_of (of_signature symbols) symbols s scope c.requires.typed.scopes)
+    subst (λ (n : ℕ). AreScopes s n scope) (length-map is (symbol_at s)) (scopes_of (of_signature symbols) s scope c.requires.held.opened.scope c.requires.typed.scopes)
 
 pub plan_elements-requires-clause-decls : goal.plan_elements-requires-clause-decls
 plan_elements-requires-clause-decls c = subst (λ (ds : List Decl). All (DeclHeld c.args.store.now) ds) (sym (c.source_of-source.ensures.decls ∙ c.as_slice-3.ensures)) c.requires.held.typed.decls
@@ -65,7 +65,7 @@ returns-clause-ok c =
     origin_is s (known_theory_at s t k) c.in_ok-own.own c.source_of-source.result (declarations_at s t.decls) (ap (declarations_at s) decls_are) c.source_of-source.ensures.own c.source_of-source.ensures.axioms is_own in
     let x = c.copy_theory in
     is_cloned c.args.store.now c.plan_elements.new.store c.plan_elements.ensures.grows c.args.typed.now c.args.open.now c.requires.held c.requires.typed c.requires.placed c.args.theory c.requires.there c.in_ok-own.own is_own (map element_of c.args.elements.now) c.plan_elements.new.sig c.in_ok-plan.ensures.entries (origin_at s c.source_of-source.result) same c.in_ok-plan.plan c.in_ok-plan.ensures.read c.args.path.now c.args.alias.now c.requires.variables c.requires.found c.args.link c.last_part.result.now (option_copied c.alias_text.result) c.last_part.ensures c.alias_text.ensures
-    (state_at x.new.store x.new.typed x.new.open) x.ensures.grows c.in_ok-copy_theory.ensures.copied
+    (state_at x.new.store x.new.typed x.new.open) c.in_ok-copy_theory.ensures.copied
 
 pub returns-in_err-plan-clause-err : goal.returns-in_err-plan-clause-err
 returns-in_err-plan-clause-err c =
@@ -83,7 +83,7 @@ returns-in_err-plan-clause-err c =
     let before = state_at s t c.args.open.now in
     let es = map element_of c.args.elements.now in
     let told = or_weaker _ (IsCloneFault c.args.path.now es before) (read_fault c.args.path.now es before (known_theory_at s t k) c.requires.variables c.requires.found) c.in_err-plan.field-0.0
-    (subst (λ (o : Origin). OrMemory (IsElementsFault before.number s before.symbols before.opened.scope o es) c.in_err-plan.field-0.0) same c.in_err-plan.ensures.err) in
+    (subst (λ (o : Origin). OrMemory (IsElementsFault before.number before.symbols before.opened.scope o es) c.in_err-plan.field-0.0) same c.in_err-plan.ensures.err) in
     if_err c.from_residual-in_err-plan.result _ (OrMemory (IsCloneFault c.args.path.now es before)) c.from_residual-in_err-plan.ensures.1 (λ e h. rw h told)
 
 pub returns-in_err-own-clause-ok : goal.returns-in_err-own-clause-ok

@@ -11,7 +11,7 @@ use Rattle.theories.specs.cloning.Cloned.{within_of, copying_in, with_copied_ent
 use Rattle.theories.specs.cloning.Owned.{no_theory}
 use Rattle.theories.proofs.cloning.Faults.{or_weaker}
 use Rattle.theories.proofs.cloning.TypedClone.{cloned_typed, cloned_placed}
-use Rattle.theories.proofs.cloning.Putting.{number_stays}
+use Rattle.theories.proofs.cloning.Counted.{number_stays}
 use Rattle.theories.proofs.cloning.cloning.clone_theory.Goals as goal
 use Rattle.tasks.proofs.outside.Passed.{no_ok}
 

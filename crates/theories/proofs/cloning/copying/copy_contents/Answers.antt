@@ -20,6 +20,9 @@ copy_renamed-requires-clause-known c = c.no_trees-trees.ensures (map_at c.args.s
 pub returns-clause-copies : goal.returns-clause-copies
 returns-clause-copies c = c.copy_renamed.ensures.copies
 
+pub returns-clause-moves_held : goal.returns-clause-moves_held
+returns-clause-moves_held c = c.copy_renamed.ensures.moves_held
+
 pub returns-clause-held : goal.returns-clause-held
 returns-clause-held c = c.copy_renamed.ensures.held
 
@@ -28,6 +31,9 @@ returns-clause-grows c = c.copy_renamed.ensures.grows
 
 pub returns-in_err-made-clause-copies : goal.returns-in_err-made-clause-copies
 returns-in_err-made-clause-copies c = no_value _ _ c.from_residual.result c.from_residual.ensures.1
+
+pub returns-in_err-made-clause-moves_held : goal.returns-in_err-made-clause-moves_held
+returns-in_err-made-clause-moves_held c = no_value _ _ c.from_residual.result c.from_residual.ensures.1
 
 pub returns-in_err-made-clause-held : goal.returns-in_err-made-clause-held
 returns-in_err-made-clause-held c = no_ok _ _ c.from_residual.result c.from_residual.ensures.1

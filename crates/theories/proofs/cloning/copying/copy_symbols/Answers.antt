@@ -7,7 +7,8 @@ use Rattle.clones.specs.Meaning.{map_at}
 use Rattle.clones.proofs.Steps.{map_held, map_stays, known_on, known_back}
 use Rattle.elab_groups.proofs.parts.Entering.{entries_stay, signature_grows}
 use Rattle.clones.specs.clone_copies.Entries.{entries_copied}
-use Rattle.theories.proofs.cloning.Kept.{all_held, signature_made, moves_held_later, moves_grow}
+use Rattle.theory_states.proofs.Moving.{moves_stay, moves_grow}
+use Rattle.theories.proofs.cloning.Kept.{all_held, signature_made}
 use Rattle.theories.proofs.cloning.copying.copy_symbols.Goals as goal
 use Rattle.tasks.proofs.outside.Passed.{no_ok, no_value}
 
@@ -48,10 +49,10 @@ returns-clause-entries c =
     }
 
 pub returns-clause-moves : goal.returns-clause-moves
-returns-clause-moves c =
-    let s = c.args.store.now in
-    moves_grow c.map_moves.new.store c.push_entries.new.store c.push_entries.ensures.grows (symbols_at s c.args.sig.now.symbols) (map_at s c.args.made.now.morphism) c.args.moves.now c.in_ok-mapped.mapped.items
-    (moves_held_later s c.map_moves.new.store c.map_moves.ensures.grows c.args.moves.now c.requires.moves) (c.in_ok-mapped.ensures.are s)
+returns-clause-moves c = moves_stay c.map_moves.new.store c.push_entries.new.store c.push_entries.ensures.grows c.in_ok-mapped.mapped.items c.in_ok-mapped.ensures.result_held ∙ c.in_ok-mapped.ensures.are c.args.store.now
+
+pub returns-clause-moves_held : goal.returns-clause-moves_held
+returns-clause-moves_held c = moves_grow c.map_moves.new.store c.push_entries.new.store c.push_entries.ensures.grows c.in_ok-mapped.mapped.items c.in_ok-mapped.ensures.result_held
 
 pub returns-clause-known : goal.returns-clause-known
 returns-clause-known c = known_back c.args.made.now.morphism c.args.store.now c.map_moves.new.store c.map_moves.ensures.grows c.requires.map_held c.push_entries.new.store c.push_entries.new.known c.in_ok-push_entries.ensures.known
@@ -62,6 +63,9 @@ returns-in_err-mapped-clause-entries c = no_ok _ _ c.from_residual.result c.from
 pub returns-in_err-mapped-clause-moves : goal.returns-in_err-mapped-clause-moves
 returns-in_err-mapped-clause-moves c = no_value _ _ c.from_residual.result c.from_residual.ensures.1
 
+pub returns-in_err-mapped-clause-moves_held : goal.returns-in_err-mapped-clause-moves_held
+returns-in_err-mapped-clause-moves_held c = no_value _ _ c.from_residual.result c.from_residual.ensures.1
+
 pub returns-in_err-mapped-clause-known : goal.returns-in_err-mapped-clause-known
 returns-in_err-mapped-clause-known c = no_ok _ _ c.from_residual.result c.from_residual.ensures.1
 
@@ -70,6 +74,9 @@ returns-in_err-push_entries-clause-entries c = no_ok _ _ c.from_residual-in_err-
 
 pub returns-in_err-push_entries-clause-moves : goal.returns-in_err-push_entries-clause-moves
 returns-in_err-push_entries-clause-moves c = no_value _ _ c.from_residual-in_err-push_entries.result c.from_residual-in_err-push_entries.ensures.1
+
+pub returns-in_err-push_entries-clause-moves_held : goal.returns-in_err-push_entries-clause-moves_held
+returns-in_err-push_entries-clause-moves_held c = no_value _ _ c.from_residual-in_err-push_entries.result c.from_residual-in_err-push_entries.ensures.1
 
 pub returns-in_err-push_entries-clause-known : goal.returns-in_err-push_entries-clause-known
 returns-in_err-push_entries-clause-known c = no_ok _ _ c.from_residual-in_err-push_entries.result c.from_residual-in_err-push_entries.ensures.1

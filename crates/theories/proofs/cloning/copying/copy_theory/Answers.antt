@@ -1,9 +1,8 @@
-use Rattle.std.proofs.Common.{◌≡◌, List, sym, ap, subst, ◌∙◌}
+use Rattle.std.proofs.Common.{◌≡◌, ℕ, List, map, All, sym, ap, subst, ◌∙◌}
 use Rattle.std.specs.Option.{option_copied}
 use Rattle.theory_states.specs.declared.moves.Move.{Move}
 use Rattle.surface.specs.Lexeme.{Word}
-use Rattle.clones.proofs.Steps.{ok_any}
-use Rattle.theory_states.specs.Meaning.{state_at}
+use Rattle.theory_states.specs.Meaning.{move_at, state_at, MoveHeld}
 use Rattle.theories.specs.cloning.Cloned.{within_of, with_names}
 use Rattle.theories.specs.cloning.Owned.{known_theory_at}
 use Rattle.theories.specs.cloning.Planned.{planned}
@@ -26,7 +25,7 @@ returns-clause-copied c =
     let x = c.copy_contents in
     let o2 = x.new.open in
     let o3 = c.bring_names.new.open in
-    let ms = c.in_ok-moves.moves.items in
+    let ms = map (move_at x.new.store) c.in_ok-moves.moves.items in
     let last = c.args.last.now in
     let alias = option_copied c.args.alias in
     let within = within_of c.args.link last alias c.args.open.now.within.items in
@@ -37,11 +36,15 @@ returns-clause-copied c =
     subst (λ (v : Word). AreContents theory (planned s before theory c.args.plan.now v) ms before after) is c.in_ok-moves.ensures.copies in
     ok_both c.bring_names.result _ _ _ (λ u p q.
     let named : state_at x.new.store x.new.typed o3 ≡ with_names c.args.link last alias ms after =
-    subst (λ (z : List Move). state_at x.new.store x.new.typed o3 ≡ with_names c.args.link last alias z after) c.as_slice-3.ensures.value (named_state x.new.store x.new.typed o2 o3 c.args.link last alias c.as_slice-3.result.now c.bring_names.ensures.others p q) in
+    subst (λ (z : List (Move ℕ)). state_at x.new.store x.new.typed o3 ≡ with_names c.args.link last alias (map (move_at x.new.store) z) after) c.as_slice-3.ensures.value (named_state x.new.store x.new.typed o2 o3 c.args.link last alias c.as_slice-3.result.now c.bring_names.ensures.others p q) in
     copied_by c.args.link last alias theory (planned s before theory c.args.plan.now within) ms before after (state_at x.new.store x.new.typed o3) contents named) c.bring_names.ensures.scope c.bring_names.ensures.moves
 
 pub returns-clause-held : goal.returns-clause-held
-returns-clause-held c = ok_any c.bring_names.result (named_held c.copy_contents.new.store c.copy_contents.new.typed c.copy_contents.new.open c.bring_names.new.open c.bring_names.ensures.others c.in_ok-moves.ensures.held)
+returns-clause-held c =
+    let x = c.copy_contents in
+    let held = subst (All (MoveHeld x.new.store)) (sym c.as_slice-3.ensures.value) c.in_ok-moves.ensures.moves_held in
+    ok_both c.bring_names.result _ _ _ (λ u p q. named_held x.new.store x.new.typed x.new.open c.bring_names.new.open c.args.link c.args.last.now (option_copied c.args.alias) c.as_slice-3.result.now c.bring_names.ensures.others p q held c.in_ok-moves.ensures.held)
+    c.bring_names.ensures.scope c.bring_names.ensures.moves
 
 pub returns-in_err-within-clause-copied : goal.returns-in_err-within-clause-copied
 returns-in_err-within-clause-copied c = no_ok _ _ c.from_residual.result c.from_residual.ensures.1

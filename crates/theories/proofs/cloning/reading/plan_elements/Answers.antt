@@ -2,6 +2,7 @@ use Rattle.std.proofs.Common.{◌≡◌, List, map, get_or, ap, ◌∙◌}
 use Rattle.std.proofs.lemmas.Result.{MatchResult-weaker}
 use Rattle.tasks.specs.Task.{DeclarationTree}
 use Rattle.tasks.specs.Meaning.{symbols_at}
+use Rattle.elab_groups.specs.name_resolution.Naming.{scope_at}
 use Rattle.tasks.proofs.Growth.{decl_held_later, declarations_later}
 use Rattle.surface.specs.SurfaceDeclarations.{element_of}
 use Rattle.clones.proofs.Steps.{ok_any}
@@ -29,7 +30,7 @@ returns-clause-read c =
     let source = c.args.source.now in
     let o = origin_at s source in
     let here : origin_at s1 source ≡ o = ap (λ (ds : List DeclarationTree). let it : Origin = record { decls = ds; own = source.own.now; axioms = o.axioms } in it) (declarations_later s s1 c.read_sides.ensures.grows source.decls.now c.requires.decls) in
-    let told = is_read s (symbols_at s c.args.sig.now.symbols) c.args.scope.now o (map element_of c.args.elements.now) c.in_ok-sides.ensures.free
+    let told = is_read (symbols_at s c.args.sig.now.symbols) (scope_at s c.args.scope.now) o (map element_of c.args.elements.now) c.in_ok-sides.ensures.free
     _ _ _ c.in_ok-sides.ensures.entries.symbols here (ap (sides_at s1) c.as_slice.ensures.value ∙ c.in_ok-sides.ensures.sides) c.plan_of.new.store in
     ok_both c.plan_of.result _ _ _ (λ plan right is. told plan right is) c.plan_of.ensures.right c.plan_of.ensures.plan
 
@@ -40,7 +41,7 @@ returns-clause-err c =
     let source = c.args.source.now in
     let o = origin_at s source in
     let here : origin_at s1 source ≡ o = ap (λ (ds : List DeclarationTree). let it : Origin = record { decls = ds; own = source.own.now; axioms = o.axioms } in it) (declarations_later s s1 c.read_sides.ensures.grows source.decls.now c.requires.decls) in
-    let told = is_read_fault s (symbols_at s c.args.sig.now.symbols) c.args.scope.now o (map element_of c.args.elements.now) c.in_ok-sides.ensures.free
+    let told = is_read_fault (symbols_at s c.args.sig.now.symbols) (scope_at s c.args.scope.now) o (map element_of c.args.elements.now) c.in_ok-sides.ensures.free
     _ _ _ c.in_ok-sides.ensures.entries.symbols here (ap (sides_at s1) c.as_slice.ensures.value ∙ c.in_ok-sides.ensures.sides) c.args.number in
     MatchResult-weaker c.plan_of.result c.plan_of.ensures.err (λ x h. h) (or_weaker _ _ told)
 

@@ -1,5 +1,6 @@
 use Rattle.std.proofs.Common.{◌≡◌, ℕ, Option, None, map, sym, ap, subst, ◌∙◌}
 use Rattle.tasks.specs.Meaning.{symbols_at}
+use Rattle.elab_groups.specs.name_resolution.Naming.{scope_at}
 use Rattle.surface.specs.Lexeme.{Word}
 use Rattle.surface.specs.SurfaceDeclarations.{element_of}
 use Rattle.theory_states.specs.Uses.{OrMemory}
@@ -18,12 +19,12 @@ returns-in-Ok-clause-sides c =
     let symbols = symbols_at s c.args.sig.now.symbols in
     let o = origin_at s c.args.source.now in
     let places : place_at c.in_ok-names.names ≡ (λ x. last_place symbols o x None o.own) = λ i x. c.in_ok-names.ensures s x i in
-    c.in-Ok.ensures.sides ∙ ap (λ (f : Word → Option ℕ). sides_made f s symbols c.args.scope.now (map element_of c.args.elements.now)) places
+    c.in-Ok.ensures.sides ∙ ap (λ (f : Word → Option ℕ). sides_made f symbols (scope_at s c.args.scope.now) (map element_of c.args.elements.now)) places
 
 pub returns-clause-err : goal.returns-clause-err
 returns-clause-err c =
     let s = c.args.store.now in
-    let found = rights_fault s (symbols_at s c.args.sig.now.symbols) c.args.scope.now (map element_of c.args.elements.now) in
+    let found = rights_fault (symbols_at s c.args.sig.now.symbols) (scope_at s c.args.scope.now) (map element_of c.args.elements.now) in
     subst (OrMemory (IsNamesFault c.args.number found)) (sym c.naming.ensures) (names_fault c.args.number c.in-Err.fault found c.in-Err.ensures.err)
 
 pub returns-in_err-names-clause-entries : goal.returns-in_err-names-clause-entries

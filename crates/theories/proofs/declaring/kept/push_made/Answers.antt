@@ -2,7 +2,6 @@ use Rattle.std.proofs.Common.{◌≡◌, Option, OnOk, subst}
 use Rattle.tasks.specs.Meaning.{declarations_at}
 use Rattle.surface.specs.declared.declarations.PropKind.{PropKind}
 use Rattle.elab_groups.specs.name_resolution.Abstract.{Expression}
-use Rattle.theory_states.specs.States.{StateTree}
 use Rattle.theory_states.specs.Meaning.{state_at}
 use Rattle.theories.specs.declaring.Declared.{known_by}
 use Rattle.theories.proofs.declaring.kept.push_made.Goals as goal
@@ -17,7 +16,7 @@ pub returns-in-Some-clause-state : goal.returns-in-Some-clause-state
 returns-in-Some-clause-state c =
     let s = c.args.store.now in
     let x = c.push_proposed in
-    let before : StateTree = record (state_at s c.args.typed.now c.args.open.now) { trees = x.new.store } in
+    let before = state_at s c.args.typed.now c.args.open.now in
     subst (λ (p : Option (PropKind × Expression)). OnOk x.result (state_at x.new.store x.new.typed x.new.open ≡ known_by p c.args.made.rigid (declarations_at s c.args.made.decls) before)) c.in-Some.ensures x.ensures.state
 
 pub returns-in-Some-clause-held : goal.returns-in-Some-clause-held

@@ -31,7 +31,7 @@ returns-clause-state c =
 pub returns-clause-held : goal.returns-clause-held
 returns-clause-held c =
     let h : StateHeld c.args.store.now c.push_decl.new.typed c.push_decl.new.open = c.in_ok-place.ensures.held c.args.store.now c.requires.state c.requires.decl in
-    record { typed = h.typed; opened = record { visible = h.opened.visible; goals = h.opened.goals } }
+    record { typed = h.typed; opened = record { visible = h.opened.visible; goals = h.opened.goals; scope = h.opened.scope; moves = h.opened.moves } }
 
 pub returns-in_err-place-clause-state : goal.returns-in_err-place-clause-state
 returns-in_err-place-clause-state c = no_ok _ _ c.from_residual.result c.from_residual.ensures.1

@@ -26,7 +26,7 @@ returns-clause-state c =
     let it : GoalAt = record { name = c.in_ok-name.name; before = n; prop = c.in_ok-prop.prop; rigid = rigid } in
     let x : GoalTree = record { name = d.name; before = n; prop = to_prove k rigid f; rigid = rigid } in
     let same : goal_at s1 it ≡ x = cc (c.in_ok-name.ensures.cases, c.in_ok-prop.ensures.tree, c.as_slice.ensures) in
-    let before = record (state_at s c.args.typed.now o) { trees = s1 } in
+    let before = state_at s c.args.typed.now o in
     let said : known_formula (declaration_at s d).body ≡ Some f = sym c.in-Some.ensures.tree in
     IfOk-weaker c.add_goal.result _ _ (λ u q. goal_pushed s s1 c.formula_to_prove.ensures.grows c.args.typed.now o c.add_goal.new.open it x c.requires.state q same ∙ ap (λ (p : Option Tree). with_goals (goals_said k n rigid d.name p) before) (sym said)) c.add_goal.ensures
 

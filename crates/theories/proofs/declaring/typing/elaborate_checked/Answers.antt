@@ -32,7 +32,7 @@ elaborate_next-requires-clause-scopes c =
     let is = c.args.typed.now.sig.symbols in
     let symbols = symbols_at s is in
     let scope = c.args.open.now.scope in
-    subst (λ (n : ℕ). AreScopes s n scope) (length-map is (symbol_at s)) (scopes_of (of_signature symbols) symbols s scope c.requires.typed.scopes)
+    subst (λ (n : ℕ). AreScopes s n scope) (length-map is (symbol_at s)) (scopes_of (of_signature symbols) s scope c.requires.state.opened.scope c.requires.typed.scopes)
 
 pub returns-in_err-made-clause-err : goal.returns-in_err-made-clause-err
 returns-in_err-made-clause-err c =
@@ -52,7 +52,7 @@ check_made-requires-clause-matches c =
     let made = c.in_ok-made.made in
     let p = logical_parts d c.requires.logical in
     let e : IsElaborated (state_setting before) p.0 sig s1 sig1 names made = told (λ (x : Declaration). IsElaborated (state_setting before) x sig s1 sig1 names made) d p.0 p.1 c.in_ok-made.ensures.ok in
-    matches_are s1 (symbols_at s1 sig1.symbols) made.matches c.in_ok-made.ensures.kept.matches (matches_fitting (state_setting before) p.0 sig s1 sig1 names made (setting_typed before c.requires.typed) c.elaborate_next.ensures.grows e)
+    matches_are s1 (symbols_at s1 sig1.symbols) made.matches c.in_ok-made.ensures.kept.matches (matches_fitting (state_setting before) p.0 sig s1 sig1 names made (setting_typed before c.requires.typed) e)
 
 pub returns-in_err-made-clause-ok : goal.returns-in_err-made-clause-ok
 returns-in_err-made-clause-ok c = no_value _ _ c.from_residual.result c.from_residual.ensures.1
@@ -108,7 +108,7 @@ returns-clause-err c =
     let number : c.elaborate_next.new.open.count ≡ c.args.open.now.count = ap (λ (i : Opened). i.count) c.elaborate_next.ensures.opened in
     IfErr-weaker c.check_made.result _ (OrMemory (IsDeclaredFault d before)) (λ f x.
     let side : IsSideFault (before.symbols ++ o.symbols) o.matches (bodies o.decls) x.0 = rw (e.symbols_are, e.matches, e.decls) at x.1 in
-    or_memory (IsDeclaredFault d before) f (of_sides p.0 s1 o x.0 p.1 c.elaborate_next.ensures.grows e.is e.named side (x.2 ∙ ap (λ (n : ℕ). side_fault n x.0) number))) c.check_made.ensures.refused
+    or_memory (IsDeclaredFault d before) f (of_sides p.0 o x.0 p.1 e.is e.named side (x.2 ∙ ap (λ (n : ℕ). side_fault n x.0) number))) c.check_made.ensures.refused
 
 pub returns-clause-count : goal.returns-clause-count
 returns-clause-count c = ap (λ (i : Opened). i.count) c.elaborate_next.ensures.opened

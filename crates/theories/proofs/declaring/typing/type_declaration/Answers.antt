@@ -49,7 +49,7 @@ returns-clause-ok c =
     let y = c.push_made in
     let o : Opened = record x.new.open { moves = c.push_declared.new.moves } in
     is_declared c.args.store.now c.args.typed.now c.args.open.now (decl_of c.args.decl.now) x.new.store x.new.typed x.new.open o c.in_ok-made.made x.ensures.grows c.requires.held c.in_ok-made.ensures.ok refl c.in_ok-push_declared.ensures
-    y.new.store y.new.typed y.new.open y.ensures.grows c.in_ok-push_made.ensures.state
+    y.new.store y.new.typed y.new.open c.in_ok-push_made.ensures.state
 
 pub returns-clause-typed : goal.returns-clause-typed
 returns-clause-typed c =
@@ -57,7 +57,7 @@ returns-clause-typed c =
     let y = c.push_made in
     let o : Opened = record x.new.open { moves = c.push_declared.new.moves } in
     is_typed c.args.store.now c.args.typed.now c.args.open.now (decl_of c.args.decl.now) x.new.store x.new.typed x.new.open o c.in_ok-made.made x.ensures.grows c.requires.held c.in_ok-made.ensures.ok refl c.in_ok-push_declared.ensures
-    y.new.store y.new.typed y.new.open y.ensures.grows c.in_ok-push_made.ensures.state c.laws.ensures.sorted c.requires.typed
+    y.new.store y.new.typed y.new.open c.in_ok-push_made.ensures.state c.laws.ensures.sorted c.requires.typed
 
 pub returns-clause-sound : goal.returns-clause-sound
 returns-clause-sound c =
@@ -67,8 +67,8 @@ returns-clause-sound c =
     let t = c.args.typed.now in
     let d = decl_of c.args.decl.now in
     let o : Opened = record x.new.open { moves = c.push_declared.new.moves } in
-    let known = known_state s t c.args.open.now d x.new.store x.new.typed x.new.open o c.in_ok-made.made x.ensures.grows c.requires.held c.in_ok-made.ensures.ok refl c.in_ok-push_declared.ensures y.new.store y.new.typed y.new.open y.ensures.grows c.in_ok-push_made.ensures.state in
-    λ w q h. subst IsSoundState (sym known) (declared_sound s t c.args.open.now d x.new.store x.new.typed x.new.open c.in_ok-made.made x.ensures.grows c.in_ok-made.ensures.ok c.laws.ensures.sorted y.new.store y.ensures.grows w (λ k i e r. quoted_in d k i e r q) h)
+    let known = known_state s t c.args.open.now d x.new.store x.new.typed x.new.open o c.in_ok-made.made x.ensures.grows c.requires.held c.in_ok-made.ensures.ok refl c.in_ok-push_declared.ensures y.new.store y.new.typed y.new.open c.in_ok-push_made.ensures.state in
+    λ w q h. subst IsSoundState (sym known) (declared_sound s t c.args.open.now d x.new.store x.new.typed x.new.open c.in_ok-made.made c.in_ok-made.ensures.ok c.laws.ensures.sorted w (λ k i e r. quoted_in d k i e r q) h)
 
 pub returns-in_err-made-clause-ok : goal.returns-in_err-made-clause-ok
 returns-in_err-made-clause-ok c = no_ok _ _ c.from_residual.result c.from_residual.ensures.1
@@ -169,7 +169,7 @@ returns-clause-count c =
     let o : Opened = record x.new.open { moves = c.push_declared.new.moves } in
     let made = c.in_ok-made.made in
     ap (λ (t : StateTree). t.number) c.in_ok-push_made.ensures.state
-    ∙ known_number (proposition_in (decl_of c.args.decl.now)) made.rigid (declarations_at x.new.store made.decls) (record (state_at x.new.store x.new.typed o) { trees = c.push_made.new.store })
+    ∙ known_number (proposition_in (decl_of c.args.decl.now)) made.rigid (declarations_at x.new.store made.decls) (state_at x.new.store x.new.typed o)
     ∙ x.ensures.count
 
 pub returns-clause-ints : goal.returns-clause-ints

@@ -1,5 +1,5 @@
-use Rattle.theories.proofs.plain_theories.One.{one_theories, theories_apart, one_fault}
-use Rattle.theories.proofs.plain_theories.laws.plain_theories_determined.Goals as goal
+use Rattle.theories.proofs.determined.One.{one_theories, theories_apart, one_fault}
+use Rattle.theories.proofs.determined.theories_determined.Goals as goal
 
 pub returns : goal.returns
 returns u = record {

@@ -2,16 +2,16 @@
 use Rattle.std.proofs.Common.{◌≡◌, ◌≢◌, ℕ, ◌<◌, ◌≤◌, List, [], ◌∷◌, All, refl, sym, ap, ◌∙◌, arith, inl, inr}
 use Rattle.std.proofs.lemmas.List.Elements.{All-head, All-tail}
 use Rattle.tasks.specs.trees.Tree.{Tree}
-use Rattle.tasks.specs.Task.{SymbolTree, DefinitionTree, AlgebraicTree, BodyTree, MakesType, Makes, Defines, Induces, Constructs, Says}
+use Rattle.tasks.specs.Task.{SymbolTree, DefinitionTree, AlgebraicTree, BodyTree}
 use Rattle.elaboration_laws.specs.checks.decl_checks.Structure.{IsStructural, IsRecursive, choices}
 use Rattle.elaboration_laws.specs.checks.decl_checks.Values.{AreInhabited}
-use Rattle.elaboration_laws.specs.checks.decl_checks.Checks.{OwnClause, group_of, all_clauses, ClauseHasForm, ClauseIsPositive, IsFirstWithout, ClausesHaveFault, DefinitionsHaveFault, TypesHaveFault, HasNoFault, HasFault}
+use Rattle.elaboration_laws.specs.checks.decl_checks.Checks.{OwnClause, ClauseHasForm, ClauseIsPositive, IsFirstWithout, ClausesHaveFault, DefinitionsHaveFault, TypesHaveFault, HasNoFault}
 use Rattle.elaboration_laws.specs.checks.declared.decl_checks.fault.CheckFault.{CheckFault}
 use Rattle.elaboration_laws.specs.checks.declared.decl_checks.fault.CheckFault.TheVariants as check
 use Rattle.theories.specs.declared.side_conditions.sides.SideFault.{SideFault}
 use Rattle.theories.specs.declared.side_conditions.sides.SideFault.TheVariants as side
 use Rattle.theories.specs.side_conditions.Sides.{IsCovered, IsFirstOpenMatch, IsFirstCheckFault, IsSideFault}
-use Rattle.theories.proofs.plain_theories.StateLists.{without_or, one_without}
+use Rattle.theories.proofs.determined.FirstWithout.{without_or, one_without}
 use Rattle.elaboration_laws.proofs.checks.decl_checks.Exact.{one_fault, right_not as fault_or}
 
 -- ---- what is wrong with clauses, definitions and types
