@@ -11,9 +11,9 @@ use Rattle.program.specs.source_goals.Sources.{IsSourceTask}
 pub valid_task : (t : TaskTree) → IsSourceTask t → IsValid t
 valid_task t h =
     let s = h.theories in
-    task_valid h.all h.theory h.goal t (source_sound s.text s.tokens s.file s.trees h.all s.lexes s.parses s.typed) h.is
+    task_valid h.all h.theory h.goal t (source_sound s.text s.tokens s.file h.all s.lexes s.parses s.typed) h.is
 
 pub word_task : (t : TaskTree) → IsSourceTask t → NamesAreWords t
 word_task t h =
     let s = h.theories in
-    names_words s.text s.tokens s.file s.trees h.all h.theory h.goal t s.lexes s.parses (forgotten s.trees s.file h.all s.typed) h.is
+    names_words s.text s.tokens s.file h.all h.theory h.goal t s.lexes s.parses (forgotten s.file h.all s.typed) h.is

@@ -2,7 +2,7 @@
 use Rattle.std.proofs.Common.{Ok, Err, sym, ap, ◌∙◌}
 use Rattle.theories.specs.theory_states.goal_tasks.Theories.{TheoriesTree}
 use Rattle.statuses.specs.fault_order.Order.{RunStop}
-use Rattle.theories.proofs.plain_theories.One.{one_theories, theories_apart, one_fault}
+use Rattle.theories.proofs.determined.One.{one_theories, theories_apart, one_fault}
 use Rattle.program.specs.source_goals.Order.{AreDetermined}
 use Rattle.program.proofs.source_goals.Faults.{source_stop, first_stop}
 

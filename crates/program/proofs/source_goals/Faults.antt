@@ -1,6 +1,5 @@
 -- What a refusal of a step says, at the fault that is told.
 use Rattle.std.proofs.Common.{◌≡◌, ◌≢◌, ◌↔◌, ℕ, List, Result, Err, refl, subst}
-use Rattle.tasks.specs.trees.Tree.{Tree}
 use Rattle.surface.specs.tokens_why.Tokens.{LexicalAt, BigLiteralAt, UnlessMemory}
 use Rattle.surface.specs.tokens_why.declared.fault.LexFault.{LexFault}
 use Rattle.surface.specs.tokens_why.declared.fault.LexFault.TheVariants.{Lexical, BigLiteral}
@@ -9,8 +8,6 @@ use Rattle.theories.specs.theory_states.declared.fault.SourceFault.{SourceFault}
 use Rattle.theories.specs.theory_states.declared.fault.SourceFault.TheVariants as of_source
 use Rattle.theories.specs.theory_states.Uses.{OrMemory}
 use Rattle.theories.specs.Files.{IsFirstSourceFault}
-use Rattle.theories.specs.plain_theories.Files.{IsPlainFirstFault}
-use Rattle.theories.proofs.plain_theories.Typed.{fault_plainly}
 use Rattle.statuses.specs.fault_order.Answers.{IsStageAnswer}
 use Rattle.statuses.specs.fault_order.Order.{RunStop, refused, misused}
 use Rattle.statuses.specs.declared.fault_order.faults.Fault.TheVariants as of_run
@@ -34,21 +31,21 @@ pub big_literal_at : (V : Type 0) (bytes : List ℕ) (fault : LexFault) (byte : 
 big_literal_at V bytes fault byte is says = let at : SaysBig V bytes (BigLiteral byte) = subst (SaysBig V bytes) is says in (at byte).0 refl
 
 -- the first fault of a file's theories
-pub no_theories : (s : List Tree) (file : List SyntaxTheory) (f : SourceFault) → OrMemory (IsFirstSourceFault s file) f → IsStageAnswer (Declares file) (Err (source_fault f))
-no_theories s file of_source.Memory h = tt
-no_theories s file (of_source.Unknown decl token) h = fault_plainly s file (of_source.Unknown decl token) h
-no_theories s file (of_source.Duplicate decl token) h = fault_plainly s file (of_source.Duplicate decl token) h
-no_theories s file (of_source.WrongKind decl token) h = fault_plainly s file (of_source.WrongKind decl token) h
-no_theories s file (of_source.Arity decl token) h = fault_plainly s file (of_source.Arity decl token) h
-no_theories s file (of_source.Clash decl k) h = fault_plainly s file (of_source.Clash decl k) h
-no_theories s file (of_source.Undetermined decl token) h = fault_plainly s file (of_source.Undetermined decl token) h
-no_theories s file (of_source.NotExhaustive decl token) h = fault_plainly s file (of_source.NotExhaustive decl token) h
-no_theories s file (of_source.BadClause decl clause) h = fault_plainly s file (of_source.BadClause decl clause) h
-no_theories s file (of_source.NotPositive decl clause) h = fault_plainly s file (of_source.NotPositive decl clause) h
-no_theories s file (of_source.NotStructural decl) h = fault_plainly s file (of_source.NotStructural decl) h
-no_theories s file (of_source.GroupTooWide decl) h = fault_plainly s file (of_source.GroupTooWide decl) h
-no_theories s file (of_source.Uninhabited decl) h = fault_plainly s file (of_source.Uninhabited decl) h
-no_theories s file (of_source.BadSubstitution decl token) h = fault_plainly s file (of_source.BadSubstitution decl token) h
+pub no_theories : (file : List SyntaxTheory) (f : SourceFault) → OrMemory (IsFirstSourceFault file) f → IsStageAnswer (Declares file) (Err (source_fault f))
+no_theories file of_source.Memory h = tt
+no_theories file (of_source.Unknown decl token) h = h
+no_theories file (of_source.Duplicate decl token) h = h
+no_theories file (of_source.WrongKind decl token) h = h
+no_theories file (of_source.Arity decl token) h = h
+no_theories file (of_source.Clash decl k) h = h
+no_theories file (of_source.Undetermined decl token) h = h
+no_theories file (of_source.NotExhaustive decl token) h = h
+no_theories file (of_source.BadClause decl clause) h = h
+no_theories file (of_source.NotPositive decl clause) h = h
+no_theories file (of_source.NotStructural decl) h = h
+no_theories file (of_source.GroupTooWide decl) h = h
+no_theories file (of_source.Uninhabited decl) h = h
+no_theories file (of_source.BadSubstitution decl token) h = h
 
 -- the stop of a run that a fault of a source is; none is want of memory
 abbrev pub source_stop : SourceFault → RunStop
@@ -71,7 +68,7 @@ source_stop (of_source.BadSubstitution decl token) = refused (of_run.BadSubstitu
 pub record FirstStop (file : List SyntaxTheory) (stop : RunStop) : Type 0 where
   pub its : SourceFault
   pub told : its ≢ of_source.Memory
-  pub first : IsPlainFirstFault file its
+  pub first : IsFirstSourceFault file its
   pub is : stop ≡ source_stop its
 
 pub first_stop : (file : List SyntaxTheory) (stop : RunStop) → HasNoTheories file stop → FirstStop file stop

@@ -18,7 +18,7 @@ use Rattle.drivers.specs.driver_files.Reading as driver
 use Rattle.theories.specs.theory_states.goal_tasks.Theories.{GoalTree, KnownTheoryTree, TheoriesTree, theory_named, goal_named}
 use Rattle.theories.specs.theory_states.goal_tasks.Tasks.{task_for}
 use Rattle.theories.specs.theory_states.declared.fault.SourceFault.TheVariants as source_fault
-use Rattle.theories.specs.plain_theories.Files.{PlainTheoriesOf, IsPlainFirstFault}
+use Rattle.theories.specs.Files.{TheoriesOf, IsFirstSourceFault}
 use Rattle.statuses.specs.declared.fault_order.faults.Fault.TheVariants as fault
 use Rattle.statuses.specs.fault_order.Order.{RunStop, refused, absent, unread, Stage, Answer, After, HasOneAnswer, StageMeaning, ShortFile}
 use Rattle.program.specs.source_goals.Known.{KnownByDriver, known_of, IsKnownAs}
@@ -53,36 +53,36 @@ Parses xs (Err stop) = IsNoFile xs stop
 -- why a file has no theories: 20 to 40, at its first fault
 abbrev pub HasNoTheories : List SyntaxTheory → RunStop → Type 0
 HasNoTheories file (refused (fault.Unknown decl token)) =
-    IsPlainFirstFault file (source_fault.Unknown decl token)
+    IsFirstSourceFault file (source_fault.Unknown decl token)
 HasNoTheories file (refused (fault.Duplicate decl token)) =
-    IsPlainFirstFault file (source_fault.Duplicate decl token)
+    IsFirstSourceFault file (source_fault.Duplicate decl token)
 HasNoTheories file (refused (fault.WrongKind decl token)) =
-    IsPlainFirstFault file (source_fault.WrongKind decl token)
+    IsFirstSourceFault file (source_fault.WrongKind decl token)
 HasNoTheories file (refused (fault.Arity decl token)) =
-    IsPlainFirstFault file (source_fault.Arity decl token)
+    IsFirstSourceFault file (source_fault.Arity decl token)
 HasNoTheories file (refused (fault.Clash decl k)) =
-    IsPlainFirstFault file (source_fault.Clash decl k)
+    IsFirstSourceFault file (source_fault.Clash decl k)
 HasNoTheories file (refused (fault.Undetermined decl token)) =
-    IsPlainFirstFault file (source_fault.Undetermined decl token)
+    IsFirstSourceFault file (source_fault.Undetermined decl token)
 HasNoTheories file (refused (fault.NotExhaustive decl token)) =
-    IsPlainFirstFault file (source_fault.NotExhaustive decl token)
+    IsFirstSourceFault file (source_fault.NotExhaustive decl token)
 HasNoTheories file (refused (fault.BadClause decl clause)) =
-    IsPlainFirstFault file (source_fault.BadClause decl clause)
+    IsFirstSourceFault file (source_fault.BadClause decl clause)
 HasNoTheories file (refused (fault.NotPositive decl clause)) =
-    IsPlainFirstFault file (source_fault.NotPositive decl clause)
+    IsFirstSourceFault file (source_fault.NotPositive decl clause)
 HasNoTheories file (refused (fault.NotStructural decl)) =
-    IsPlainFirstFault file (source_fault.NotStructural decl)
+    IsFirstSourceFault file (source_fault.NotStructural decl)
 HasNoTheories file (refused (fault.GroupTooWide decl)) =
-    IsPlainFirstFault file (source_fault.GroupTooWide decl)
+    IsFirstSourceFault file (source_fault.GroupTooWide decl)
 HasNoTheories file (refused (fault.Uninhabited decl)) =
-    IsPlainFirstFault file (source_fault.Uninhabited decl)
+    IsFirstSourceFault file (source_fault.Uninhabited decl)
 HasNoTheories file (refused (fault.BadSubstitution decl token)) =
-    IsPlainFirstFault file (source_fault.BadSubstitution decl token)
+    IsFirstSourceFault file (source_fault.BadSubstitution decl token)
 HasNoTheories file _ = ⊥
 
 -- the theories of a file
 abbrev pub Declares : List SyntaxTheory → Stage TheoriesTree
-Declares file (Ok all) = PlainTheoriesOf file all
+Declares file (Ok all) = TheoriesOf file all
 Declares file (Err stop) = HasNoTheories file stop
 
 -- the theories of each file, or its first fault, are one

@@ -1,6 +1,5 @@
 -- Theories and tasks that come from a source.
 use Rattle.std.specs.Prelude.{ℕ, List}
-use Rattle.tasks.specs.trees.Tree.{Tree}
 use Rattle.tasks.specs.Task.{TaskTree}
 use Rattle.surface.specs.tokens_why.declared.token.Token.{Token}
 use Rattle.surface.specs.tokens_why.Tokens.{AreTokens}
@@ -16,10 +15,9 @@ pub record AreSourceTheories (all : TheoriesTree) : Type 0 where
   pub text : List ℕ
   pub tokens : List Token
   pub file : List SyntaxTheory
-  pub trees : List Tree
   pub lexes : AreTokens text tokens
   pub parses : IsOnlyFile (rest text tokens 0) file
-  pub typed : SoundTheoriesOf trees file all
+  pub typed : SoundTheoriesOf file all
 
 -- the task is that of a goal of some text
 pub record IsSourceTask (t : TaskTree) : Type 0 where

@@ -88,7 +88,7 @@ fn source_fault(fault: SourceFault) -> RunFault
 // The theories of a file.
 fn theories_of(alloc: Global, store: &mut Store, file: &File) -> Result<Theories, RunFault>
     ensures declares { IsStageAnswer (Declares (file_of file.now)) (theories_in store.new result) }
-    ensures sound { IfOk result (λ all. SoundTheoriesOf store.old (file_of file.now)
+    ensures sound { IfOk result (λ all. SoundTheoriesOf (file_of file.now)
         (theories_at store.new all)) }
     ensures held { IfOk result (AllTheoriesHeld store.new) }
     ensures tuples { IfOk result (λ all. AreTuples (symbols_at store.new all.sig.value.symbols)) }
