@@ -1,6 +1,6 @@
 pub mod Left
 pub mod Rights
-pub mod Plans
+pub mod Replacements
 pub mod Elements
 pub mod Origins
 pub mod Meaning

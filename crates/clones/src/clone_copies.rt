@@ -12,4 +12,4 @@ pub use crate::{MappedTrees, SymbolMap, no_trees};
 pub use entries::push_entries;
 pub use moves::map_moves;
 pub use origins::{axioms_of, own_places};
-pub use places::{Job, copy_places};
+pub use places::{CopiedBy, copy_places};

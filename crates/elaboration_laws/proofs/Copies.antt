@@ -21,7 +21,7 @@ use Rattle.elaboration_laws.specs.Morphisms.{MapsTypes}
 use Rattle.elaboration_laws.proofs.CopiedTypes.{types_copied}
 use Rattle.clones.specs.clone_elements.Left.{Origin}
 use Rattle.clones.specs.clone_elements.Rights.{right_tuples, rights_tuples, rights_fault}
-use Rattle.clones.specs.clone_elements.Plans.{fates_of, kept, clone_map}
+use Rattle.clones.specs.clone_elements.Replacements.{effects_of, kept, clone_map}
 use Rattle.elaboration_laws.specs.Placed.{IsPlacedEntry, ArePlaced}
 use Rattle.elaboration_laws.specs.Sides.{with_rights, left_sides_at, copies_made, with_copies}
 use Rattle.elaboration_laws.proofs.Rights.{all_typed}
@@ -76,10 +76,10 @@ copies_typed v w m theory within symbols maps h (k ∷ ks) =
 
 pub entries_typed : (c : Setting) (t : Origin) (es : List Element) (theory within : Word) (h : IsTypedSetting (of_signature (with_rights c es).symbols) (with_rights c es)) → ArePlaced (with_rights c es).symbols
     → MapsTypes (of_signature (with_rights c es).symbols) (of_signature (with_copies c t es theory within)) (clone_map (with_rights c es).symbols t (left_sides_at c t es))
-    → All (IsTypedEntry (of_signature (with_copies c t es theory within))) (map (λ k. entry_copied (clone_map (with_rights c es).symbols t (left_sides_at c t es)) theory within (symbol_or (with_rights c es).symbols k)) (kept t (fates_of (left_sides_at c t es))))
+    → All (IsTypedEntry (of_signature (with_copies c t es theory within))) (map (λ k. entry_copied (clone_map (with_rights c es).symbols t (left_sides_at c t es)) theory within (symbol_or (with_rights c es).symbols k)) (kept t (effects_of (left_sides_at c t es))))
 entries_typed c t es theory within h placed maps =
     let all = (with_rights c es).symbols in
-    copies_typed (of_signature all) (of_signature (with_copies c t es theory within)) (clone_map all t (left_sides_at c t es)) theory within all maps (or_typed all h.signature placed) (kept t (fates_of (left_sides_at c t es)))
+    copies_typed (of_signature all) (of_signature (with_copies c t es theory within)) (clone_map all t (left_sides_at c t es)) theory within all maps (or_typed all h.signature placed) (kept t (effects_of (left_sides_at c t es)))
 
 -- ---- entries with a theory
 pub theory_placed : (theory : Word) → is_empty theory ≡ false → (es : List SymbolTree) → All (λ (e : SymbolTree). e.theory ≡ theory) es → ArePlaced es
@@ -116,7 +116,7 @@ module _ (c : Setting) (t : Origin) (es : List Element) (theory within : Word) (
   all_placed n =
       let all = (with_rights c es).symbols in
       let m = clone_map all t (left_sides_at c t es) in
-      let ks = kept t (fates_of (left_sides_at c t es)) in
+      let ks = kept t (effects_of (left_sides_at c t es)) in
       All-append IsPlacedEntry all (map (λ k. entry_copied m theory within (symbol_or all k)) ks) tupled_placed (copies_placed m theory within all n ks)
 
   pub all_copies_typed : IsTypedSetting (of_signature c.symbols) c → rights_fault c.symbols c.scope es ≡ None → is_empty theory ≡ false → All (IsTypedEntry (of_signature (with_copies c t es theory within))) (copies_made c t es theory within)

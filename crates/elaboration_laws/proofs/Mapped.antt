@@ -20,7 +20,7 @@ use Rattle.elaboration_laws.proofs.Extended.{type_more}
 use Rattle.elaboration_laws.specs.Valid.{IsTypedSetting}
 use Rattle.clones.specs.clone_elements.Left.{Origin, symbol_at_place, called_text, last_place}
 use Rattle.clones.specs.clone_elements.Rights.{RightTree, type_right, symbol_right, no_right, right_tuples, rights_fault}
-use Rattle.clones.specs.clone_elements.Plans.{SideTree, PlacedFates, no_fates, with_side, fates_of, type_with, type_for, replaced_types, types_replaced, symbol_for, symbols_replaced, kept, clone_map, sides_made}
+use Rattle.clones.specs.clone_elements.Replacements.{SideTree, PlacedEffects, no_effects, with_side, effects_of, type_with, type_for, replaced_types, types_replaced, symbol_for, symbols_replaced, kept, clone_map, sides_made}
 use Rattle.elaboration_laws.specs.Morphisms.{TypeBecomes, MapsTypes}
 use Rattle.elaboration_laws.specs.Sides.{IsTypedRight, IsTypedSide, with_rights, left_sides_at, with_copies}
 use Rattle.elaboration_laws.proofs.Numbers.{symbol_of, type_of}
@@ -120,34 +120,34 @@ module _ (symbols : List SymbolTree) (t : Origin) where
   same_number : (a b : ℕ) → (a == b) ≡ true → a ≡ b
   same_number a b q = grind (arith, nat_tests)
 
-  with_fits : (fates : PlacedFates) (place n : ℕ) (ty : Tree) (p : ℕ × Tree) → IsTypeIn v n ty → Contains (type_with symbols t fates place n ty) p → Fits p
-  with_fits fates place n ty p h c = of (is_none (fates place) && ((symbol_or symbols (symbol_at_place t.decls place)).vars == n)) refl c
+  with_fits : (effects : PlacedEffects) (place n : ℕ) (ty : Tree) (p : ℕ × Tree) → IsTypeIn v n ty → Contains (type_with symbols t effects place n ty) p → Fits p
+  with_fits effects place n ty p h c = of (is_none (effects place) && ((symbol_or symbols (symbol_at_place t.decls place)).vars == n)) refl c
     where
       k : ℕ
       k = symbol_at_place t.decls place
 
-      of : (b : Bool) → (is_none (fates place) && ((symbol_or symbols k).vars == n)) ≡ b → Contains (if b then (k, ty) ∷ [] else []) p → Fits p
+      of : (b : Bool) → (is_none (effects place) && ((symbol_or symbols k).vars == n)) ≡ b → Contains (if b then (k, ty) ∷ [] else []) p → Fits p
       of true q z =
           let e : (k, ty) ≡ p = only_here (k, ty) p z in
-          let m : (symbol_or symbols k).vars ≡ n = same_number (symbol_or symbols k).vars n (both_of (is_none (fates place)) ((symbol_or symbols k).vars == n) q) in
+          let m : (symbol_or symbols k).vars ≡ n = same_number (symbol_or symbols k).vars n (both_of (is_none (effects place)) ((symbol_or symbols k).vars == n) q) in
           subst Fits e (subst (λ (i : ℕ). IsTypeIn v i ty) (sym m) h)
       of false q z = absurd (none_here p z)
 
-  for_fits : (fates : PlacedFates) (e : Element) (left : Option ℕ) (r : RightTree) (p : ℕ × Tree) → IsTypedRight v e r → Contains (type_for symbols t fates e left r) p → Fits p
-  for_fits fates (type_element i c vs f) (Some place) (type_right ty) p h z = with_fits fates place (length vs) ty p h z
-  for_fits fates (type_element i c vs f) (Some place) (symbol_right k) p h z = absurd (none_here p z)
-  for_fits fates (type_element i c vs f) (Some place) no_right p h z = absurd (none_here p z)
-  for_fits fates (type_element i c vs f) None r p h z = absurd (none_here p z)
-  for_fits fates (symbol_element i w c d) left r p h z = absurd (none_here p z)
-  for_fits fates (prop_element i k c) left r p h z = absurd (none_here p z)
-  for_fits fates (all_axioms i) left r p h z = absurd (none_here p z)
+  for_fits : (effects : PlacedEffects) (e : Element) (left : Option ℕ) (r : RightTree) (p : ℕ × Tree) → IsTypedRight v e r → Contains (type_for symbols t effects e left r) p → Fits p
+  for_fits effects (type_element i c vs f) (Some place) (type_right ty) p h z = with_fits effects place (length vs) ty p h z
+  for_fits effects (type_element i c vs f) (Some place) (symbol_right k) p h z = absurd (none_here p z)
+  for_fits effects (type_element i c vs f) (Some place) no_right p h z = absurd (none_here p z)
+  for_fits effects (type_element i c vs f) None r p h z = absurd (none_here p z)
+  for_fits effects (symbol_element i w c d) left r p h z = absurd (none_here p z)
+  for_fits effects (prop_element i k c) left r p h z = absurd (none_here p z)
+  for_fits effects (all_axioms i) left r p h z = absurd (none_here p z)
 
-  after_fits : (xs : List SideTree) (fates : PlacedFates) → All (IsTypedSide v) xs → (p : ℕ × Tree) → Contains (replaced_types symbols t fates xs) p → Fits p
-  after_fits [] fates h p c = absurd (none_here p c)
-  after_fits (x ∷ xs) fates h p c = of (Contains-append_cases (type_for symbols t fates x.element x.left x.right) (replaced_types symbols t (with_side x fates) xs) p c) (λ z. after_fits xs (with_side x fates) (All-tail (IsTypedSide v) x xs h) p z)
+  after_fits : (xs : List SideTree) (effects : PlacedEffects) → All (IsTypedSide v) xs → (p : ℕ × Tree) → Contains (replaced_types symbols t effects xs) p → Fits p
+  after_fits [] effects h p c = absurd (none_here p c)
+  after_fits (x ∷ xs) effects h p c = of (Contains-append_cases (type_for symbols t effects x.element x.left x.right) (replaced_types symbols t (with_side x effects) xs) p c) (λ z. after_fits xs (with_side x effects) (All-tail (IsTypedSide v) x xs h) p z)
     where
-      of : Contains (type_for symbols t fates x.element x.left x.right) p ⊎ Contains (replaced_types symbols t (with_side x fates) xs) p → (Contains (replaced_types symbols t (with_side x fates) xs) p → Fits p) → Fits p
-      of (inl z) f = for_fits fates x.element x.left x.right p (All-head (IsTypedSide v) x xs h) z
+      of : Contains (type_for symbols t effects x.element x.left x.right) p ⊎ Contains (replaced_types symbols t (with_side x effects) xs) p → (Contains (replaced_types symbols t (with_side x effects) xs) p → Fits p) → Fits p
+      of (inl z) f = for_fits effects x.element x.left x.right p (All-head (IsTypedSide v) x xs h) z
       of (inr z) f = f z
 
 -- ---- the map
@@ -162,7 +162,7 @@ module _ (c : Setting) (t : Origin) (es : List Element) (theory within : Word) (
   m = clone_map all t xs
 
   abbrev ks : List ℕ
-  ks = kept t (fates_of xs)
+  ks = kept t (effects_of xs)
 
   copy : ℕ → SymbolTree
   copy k = entry_copied m theory within (symbol_or all k)
@@ -214,7 +214,7 @@ module _ (c : Setting) (t : Origin) (es : List Element) (theory within : Word) (
       let k = kind_at all p.0 n h in
       let same : (symbol_or all p.0).vars ≡ n = ap (λ (s : SymbolTree). s.vars) (or_at all p.0 k.is k.at) ∙ sym k.vars in
       let sides : All (IsTypedSide before') xs = rights_typed (λ x. last_place c.symbols t x None t.own) es c typed right in
-      let fits : IsTypeIn before' (symbol_or all p.0).vars p.1 = after_fits all t xs no_fates sides p z in
+      let fits : IsTypeIn before' (symbol_or all p.0).vars p.1 = after_fits all t xs no_effects sides p z in
       type_more before' after' part n p.1 (subst (λ (i : ℕ). IsTypeIn before' i p.1) same fits)
 
   becomes : (k n : ℕ) (o : Option Tree) → IfSome o (BecomesType k) → IsTypeSymbol before' k n → Becomes k (m.symbols k) → TypeBecomes after' n (m.symbols k) o

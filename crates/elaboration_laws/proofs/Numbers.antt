@@ -3,7 +3,7 @@ use Rattle.std.proofs.Common.{◌≡◌, ℕ, ◌+◌, ◌==◌, if◌then◌els
 use Rattle.std.specs.List.{Contains}
 use Rattle.elab_groups.specs.trees.Tree.{Tree}
 use Rattle.clones.specs.Mapped.{Map}
-use Rattle.clones.specs.clone_elements.Plans.{same_map, with_symbol, with_type, with_numbers, with_symbols, with_mapped_types, map_of}
+use Rattle.clones.specs.clone_elements.Replacements.{same_map, with_symbol, with_type, with_numbers, with_symbols, with_mapped_types, map_of}
 use Rattle.elab_groups.proofs.plain_laws.Bools.{same_number}
 pub use Rattle.elab_groups.proofs.plain_laws.Lists.{first_contained as here}
 

@@ -13,7 +13,7 @@ use Rattle.elaboration_laws.proofs.Words.{same_word, self_word}
 use Rattle.elaboration_laws.specs.Joined.{has_theory}
 use Rattle.elaboration_laws.proofs.Distinct.{IsDistinct, distinct_pairs, distinct_both}
 use Rattle.clones.specs.clone_elements.Left.{decl_or}
-use Rattle.clones.specs.clone_elements.Plans.{is_replaced, kind_or}
+use Rattle.clones.specs.clone_elements.Replacements.{is_replaced, kind_or}
 use Rattle.clones.specs.clone_copies.Origins.{is_own}
 use Rattle.clones.specs.clone_copies.Places.{Copying, goal_with, with_copied_goal, with_kind, with_copy, copy_of, with_joined, with_place, with_places}
 use Rattle.elaboration_laws.specs.Cloned.{AreClonedPlaces}
@@ -227,15 +227,15 @@ module _ (x : Copying) (c0 : StateTree) (whole : IsWhole c0.decls c0.opened.visi
 
     copied_here : is_own old x.path k ≡ true → (o : Option (List (List ℕ))) → IsReached (done ++ k ∷ []) (with_copy x k o (copy_of x c k) c) (made ++ made_of x.mapping path x.within first (step_of x k o own_decl))
     copied_here own None = subst (λ (e : DeclarationTree). IsReached (done ++ k ∷ []) (with_copy x k None (copy_of x c k) c) (made ++ e ∷ [])) copy_is (added own (copy_of x c k) (with_copy x k None (copy_of x c k) c) refl refl refl)
-    copied_here own (Some vars) = by_kind own (kind_or (x.fates k) x.all) vars
+    copied_here own (Some vars) = by_kind own (kind_or (x.effects k) x.all) vars
 
     own_same : is_own c.decls x.path k ≡ is_own old x.path k
     own_same = ap (λ (e : DeclarationTree). bytes_eq e.theory x.path) same_here
 
     placed : IsReached (done ++ k ∷ []) (with_place x k c) (made ++ made_of x.mapping path x.within first (copy_step_at x old k))
     placed =
-        subst (λ (b : Bool). IsReached (done ++ k ∷ []) (with_place x k c) (made ++ made_of x.mapping path x.within first (cond b (cond (is_replaced (x.fates k)) (leaves own_decl) (step_of x k (x.axioms k) own_decl)) (joins own_decl)))) own_same
-        (of (is_own c.decls x.path k) (is_replaced (x.fates k)) (sym own_same))
+        subst (λ (b : Bool). IsReached (done ++ k ∷ []) (with_place x k c) (made ++ made_of x.mapping path x.within first (cond b (cond (is_replaced (x.effects k)) (leaves own_decl) (step_of x k (x.axioms k) own_decl)) (joins own_decl)))) own_same
+        (of (is_own c.decls x.path k) (is_replaced (x.effects k)) (sym own_same))
       where
         of : (a r : Bool) → is_own old x.path k ≡ a → IsReached (done ++ k ∷ []) (cond a (cond r c (with_copy x k (x.axioms k) (copy_of x c k) c)) (with_joined k c))
             (made ++ made_of x.mapping path x.within first (cond a (cond r (leaves own_decl) (step_of x k (x.axioms k) own_decl)) (joins own_decl)))

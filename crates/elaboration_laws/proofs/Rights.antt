@@ -26,7 +26,7 @@ use Rattle.elaboration_laws.proofs.Settings.{inside_scopes, inside_typed, world,
 use Rattle.elaboration_laws.specs.Built.{IsBuiltRight}
 use Rattle.elaboration_laws.proofs.Kept.{all_kept}
 use Rattle.clones.specs.clone_elements.Rights.{RightTree, type_right, symbol_right, no_right, right_tuples, right_fault, right_made, rights_tuples, rights_fault}
-use Rattle.clones.specs.clone_elements.Plans.{sides_made}
+use Rattle.clones.specs.clone_elements.Replacements.{sides_made}
 use Rattle.elaboration_laws.specs.Sides.{IsTypedRight, IsTypedSide, with_rights}
 use Rattle.std.proofs.lemmas.Option.{slice_get-get_or as some_at}
 use Rattle.elaboration_laws.proofs.Declarations.{below as slice_below}

@@ -4,7 +4,7 @@ use Rattle.elab_groups.specs.tasks.Task.{DeclarationTree}
 use Rattle.elab_groups.specs.surface.declared.declarations.PropKind.{PropKind}
 use Rattle.elab_groups.specs.surface.declared.declarations.PropKind.TheVariants as kind
 use Rattle.clones.specs.clone_elements.Left.{decl_or}
-use Rattle.clones.specs.clone_elements.Plans.{is_replaced, kind_or}
+use Rattle.clones.specs.clone_elements.Replacements.{is_replaced, kind_or}
 use Rattle.clones.specs.clone_copies.Origins.{is_own}
 use Rattle.clones.specs.clone_copies.Places.{Copying}
 use Rattle.elaboration_laws.specs.Steps.{CopyStep, copies, leaves, joins}
@@ -17,11 +17,11 @@ step_as kind.Lemma d = copies d
 
 abbrev pub step_of : Copying → ℕ → Option (List (List ℕ)) → DeclarationTree → CopyStep
 step_of x k None d = copies d
-step_of x k (Some vars) d = step_as (kind_or (x.fates k) x.all) d
+step_of x k (Some vars) d = step_as (kind_or (x.effects k) x.all) d
 
 abbrev pub copy_step_at : Copying → List DeclarationTree → ℕ → CopyStep
 copy_step_at x ds k = if is_own ds x.path k
-    then (if is_replaced (x.fates k) then leaves (decl_or ds k) else step_of x k (x.axioms k)
+    then (if is_replaced (x.effects k) then leaves (decl_or ds k) else step_of x k (x.axioms k)
     (decl_or ds k)) else joins (decl_or ds k)
 
 abbrev pub copy_steps_at : Copying → List DeclarationTree → List ℕ → List CopyStep

@@ -10,7 +10,7 @@ use Rattle.elab_groups.specs.parts.Outcomes.{Setting}
 use Rattle.clones.specs.Copies.{entry_copied}
 use Rattle.clones.specs.clone_elements.Left.{Origin, last_place}
 use Rattle.clones.specs.clone_elements.Rights.{RightTree, type_right, rights_tuples}
-use Rattle.clones.specs.clone_elements.Plans.{SideTree, sides_made, fates_of, kept, clone_map}
+use Rattle.clones.specs.clone_elements.Replacements.{SideTree, sides_made, effects_of, kept, clone_map}
 
 -- with the entries of the tuples on the right
 abbrev pub with_rights : Setting → List Element → Setting
@@ -35,7 +35,7 @@ copies_made c t es theory within =
     let symbols = (with_rights c es).symbols in
     let xs = left_sides_at c t es in
     map (λ k. entry_copied (clone_map symbols t xs) theory within (symbol_or symbols k))
-    (kept t (fates_of xs))
+    (kept t (effects_of xs))
 
 -- the signature with them
 abbrev pub with_copies : Setting → Origin → List Element → Word → Word → List SymbolTree

@@ -13,7 +13,7 @@ ghost use Rattle.elaboration_laws.specs.Valid.{IsTypedSetting};
 ghost use Rattle.elaboration_laws.specs.Built.{IsBuiltRight};
 ghost use Rattle.clones.specs.clone_elements.Left.{Origin};
 ghost use Rattle.clones.specs.clone_elements.Rights.{rights_tuples, rights_fault};
-ghost use Rattle.clones.specs.clone_elements.Plans.{clone_map};
+ghost use Rattle.clones.specs.clone_elements.Replacements.{clone_map};
 ghost use Rattle.elaboration_laws.specs.Morphisms.{MapsTypes};
 ghost use Rattle.elaboration_laws.specs.Placed.{ArePlaced};
 ghost use Rattle.elaboration_laws.specs.Sides.{IsTypedSide, with_rights, left_sides_at, copies_made, with_copies};

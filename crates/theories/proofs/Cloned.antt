@@ -30,7 +30,7 @@ use Rattle.elaboration_laws.specs.Cloned.{IsAfterClone, IsSoundClone}
 use Rattle.elaboration_laws.proofs.Cloned.{state_cloned}
 use Rattle.elaboration_laws.specs.clones.clone_elements.Left.{no_declaration, decl_or}
 use Rattle.elaboration_laws.specs.clones.clone_elements.Rights.{rights_tuples, rights_fault}
-use Rattle.elaboration_laws.specs.clones.clone_elements.Plans.{fates_of, kept}
+use Rattle.elaboration_laws.specs.clones.clone_elements.Replacements.{effects_of, kept}
 use Rattle.elaboration_laws.specs.clones.clone_copies.Origins.{Axioms, no_axioms, with_axioms, axioms_at, origin_of}
 use Rattle.elaboration_laws.specs.clones.clone_copies.Entries.{entries_copied}
 use Rattle.elaboration_laws.specs.clones.clone_copies.Moves.{moves_mapped}
@@ -114,7 +114,7 @@ module _ (c : StateTree) (t : KnownTree) (es : List Element) (typed : IsTypedSta
   path = c.opened.path
 
   abbrev copies : List SymbolTree
-  copies = entries_copied xs m path within (kept (origin_of c.decls t) (fates_of (sides_in c t es)))
+  copies = entries_copied xs m path within (kept (origin_of c.decls t) (effects_of (sides_in c t es)))
 
   abbrev x : Copying
   x = copying_in c t es within

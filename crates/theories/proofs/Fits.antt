@@ -38,7 +38,7 @@ use Rattle.elaboration_laws.proofs.Vocabularies.{made_below}
 use Rattle.elaboration_laws.proofs.Trials.{signatures_agree}
 use Rattle.elaboration_laws.specs.clones.clone_elements.Left.{Origin, no_declaration, decl_or, last_place}
 use Rattle.elaboration_laws.specs.clones.clone_elements.Rights.{rights_tuples, rights_fault}
-use Rattle.elaboration_laws.specs.clones.clone_elements.Plans.{SideTree, PlacedFates, no_fates, fates_of, is_replaced, kind_or, has_all, types_replaced, symbols_replaced, kept}
+use Rattle.elaboration_laws.specs.clones.clone_elements.Replacements.{SideTree, PlacedEffects, no_effects, effects_of, is_replaced, kind_or, has_all, types_replaced, symbols_replaced, kept}
 use Rattle.elaboration_laws.specs.clones.clone_copies.Origins.{is_own, axioms_at, origin_of}
 use Rattle.elaboration_laws.specs.clones.clone_copies.Entries.{entries_copied}
 use Rattle.elaboration_laws.specs.clones.clone_copies.Places.{Copying}
@@ -99,8 +99,8 @@ module _ (c : StateTree) (t : KnownTree) (es : List Element) (rest : List Symbol
   abbrev tried : Map
   tried = tried_in c t es
 
-  abbrev final : PlacedFates
-  final = fates_of sides
+  abbrev final : PlacedEffects
+  final = effects_of sides
 
   abbrev path : Word
   path = c.opened.path
@@ -224,7 +224,7 @@ module _ (c : StateTree) (t : KnownTree) (es : List Element) (rest : List Symbol
   type_image p k e v b z =
       let read = sides_read c.symbols o c.opened.scope es c.symbols in
       let r = replaced_type c.symbols xs c.decls t sides source_sound read told below k e z in
-      let i : IsTypeIn w (symbol_or xs k).vars r.type = types_fit xs o w sides no_fates types_there (k, r.type) r.there in
+      let i : IsTypeIn w (symbol_or xs k).vars r.type = types_fit xs o w sides no_effects types_there (k, r.type) r.there in
       let x : IsTypeEntry (after xs [] (visible_in c t)) k = subst (IsValidBody (after xs [] (visible_in c t)) (decl_or c.decls p).vars) b (valid_at p k v (type_makes (body_of p) k b)) in
       record {
         type = λ q. subst (TypeBecomes w (symbol_or xs k).vars (m.symbols k)) (sym r.is) i;
@@ -234,13 +234,13 @@ module _ (c : StateTree) (t : KnownTree) (es : List Element) (rest : List Symbol
 
   -- signatures that were compared by a trial are those under the map
   trial_type : (k : ℕ) (e : Tree) → tried.types k ≡ Some e → IsTypeIn u (symbol_or xs k).vars e
-  trial_type k e q = of (type_cases (types_replaced xs o sides) [] (length xs) (kept o no_fates) k)
+  trial_type k e q = of (type_cases (types_replaced xs o sides) [] (length xs) (kept o no_effects) k)
     where
       of : IsReplacedBy (types_replaced xs o sides) k (tried.types k) ⊎ (((x : Tree) → Contains (types_replaced xs o sides) (k, x) → ⊥) × (tried.types k ≡ None)) → IsTypeIn u (symbol_or xs k).vars e
       of (inl r) =
           let s : Some r.type ≡ Some e = sym r.is ∙ q in
           let y : r.type ≡ e = cc in
-          subst (IsTypeIn u (symbol_or xs k).vars) y (types_fit xs o u sides no_fates types_tupled (k, r.type) r.there)
+          subst (IsTypeIn u (symbol_or xs k).vars) y (types_fit xs o u sides no_effects types_tupled (k, r.type) r.there)
       of (inr z) = absurd (let y : None ≡ Some e = sym z.1 ∙ q in cc)
 
   entry_types : (k : ℕ) → HasTypes u (symbol_or xs k)

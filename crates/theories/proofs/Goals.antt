@@ -45,7 +45,7 @@ use Rattle.elaboration_laws.specs.Entries.{IsGrounded}
 use Rattle.elaboration_laws.proofs.Entries.{further_typed, variables_built}
 use Rattle.elaboration_laws.specs.clones.clone_elements.Left.{Origin, decl_or}
 use Rattle.elaboration_laws.specs.clones.clone_elements.Rights.{rights_tuples, rights_fault}
-use Rattle.elaboration_laws.specs.clones.clone_elements.Plans.{fates_of, is_replaced, kind_or, kept}
+use Rattle.elaboration_laws.specs.clones.clone_elements.Replacements.{effects_of, is_replaced, kind_or, kept}
 use Rattle.elaboration_laws.specs.clones.clone_copies.Origins.{is_own, axioms_at, origin_of}
 use Rattle.elaboration_laws.specs.clones.clone_copies.Entries.{entries_copied}
 use Rattle.elaboration_laws.specs.clones.clone_copies.Places.{Copying, axiom_at, with_copied_axiom, next_numbers, goal_of, goal_with, with_kind, with_copy, copy_of, with_joined, with_place, with_places}
@@ -199,7 +199,7 @@ module _ (c : StateTree) (t : KnownTree) (es : List Element) (typed : IsTypedSta
   path = c.opened.path
 
   abbrev ks : List ℕ
-  ks = kept o (fates_of (sides_in c t es))
+  ks = kept o (effects_of (sides_in c t es))
 
   abbrev copies : List SymbolTree
   copies = entries_copied xs m path within ks
@@ -481,10 +481,10 @@ module _ (c : StateTree) (t : KnownTree) (es : List Element) (typed : IsTypedSta
 
     by_axiom : (a : Option (List Word)) → axioms_at t.axioms k ≡ a → IsReached (done ++ k ∷ []) (with_copy x k a copy s)
     by_axiom None q = copied_next
-    by_axiom (Some vars) q = by_kind vars (said k vars q) (kind_or (x.fates k) x.all)
+    by_axiom (Some vars) q = by_kind vars (said k vars q) (kind_or (x.effects k) x.all)
 
     place_next : IsReached (done ++ k ∷ []) (with_place x k s)
-    place_next = of (is_own s.decls x.path k) (is_replaced (x.fates k))
+    place_next = of (is_own s.decls x.path k) (is_replaced (x.effects k))
       where
         of : (a r : Bool) → IsReached (done ++ k ∷ []) (if a then (if r then s else with_copy x k (axioms_at t.axioms k) copy s) else with_joined k s)
         of true true = nothing_added done k s s h (itself_grown s)

@@ -18,7 +18,7 @@ use Rattle.theory_states.specs.States.{StateTree, with_declaration, with_declara
 use Rattle.theory_states.specs.Uses.{last_part, alias_text}
 use Rattle.theories.specs.declaring.Declared.{with_proposed, proposition_in, known_by, with_named, IsDeclared}
 use Rattle.elaboration_laws.specs.clones.clone_elements.Rights.{rights_tuples}
-use Rattle.elaboration_laws.specs.clones.clone_elements.Plans.{fates_of, kept, kind_or, is_replaced}
+use Rattle.elaboration_laws.specs.clones.clone_elements.Replacements.{effects_of, kept, kind_or, is_replaced}
 use Rattle.elaboration_laws.specs.clones.clone_copies.Origins.{origin_of, is_own}
 use Rattle.elaboration_laws.specs.clones.clone_copies.Entries.{entries_copied}
 use Rattle.elaboration_laws.specs.clones.clone_copies.Places.{Copying, goal_with, with_kind, with_copy, copy_of, with_joined, with_own, with_place, with_places}
@@ -79,14 +79,14 @@ kind_ints kind.Goal vars d c h = goal_ints vars d.name d.body c h
 module _ (x : Copying) where
   copy_ints : (k : ℕ) (o : Option (List Word)) (d : DeclarationTree) (c : StateTree) → HasInts c → HasInts (with_copy x k o d c)
   copy_ints k None d c h = h
-  copy_ints k (Some vars) d c h = kind_ints (kind_or (x.fates k) x.all) vars d c h
+  copy_ints k (Some vars) d c h = kind_ints (kind_or (x.effects k) x.all) vars d c h
 
   own_ints : (k : ℕ) (b : Bool) (c : StateTree) → HasInts c → HasInts (if b then c else with_copy x k (x.axioms k) (copy_of x c k) c)
   own_ints k true c h = h
   own_ints k false c h = copy_ints k (x.axioms k) (copy_of x c k) c h
 
   place_ints : (k : ℕ) (b : Bool) (c : StateTree) → HasInts c → HasInts (if b then with_own x k c else with_joined k c)
-  place_ints k true c h = own_ints k (is_replaced (x.fates k)) c h
+  place_ints k true c h = own_ints k (is_replaced (x.effects k)) c h
   place_ints k false c h = h
 
   places_ints : (ks : List ℕ) (c : StateTree) → HasInts c → HasInts (with_places x ks c)
@@ -97,7 +97,7 @@ cloned_ints : (l : Link) (p : Path) (alias : Option Name) (es : List Element) (c
 cloned_ints l p alias es c c' e h =
     let within = within_of l (last_part p.parts) (alias_text alias) c.opened.within in
     let tupled = symbols_tupled c es in
-    let copies = entries_copied tupled (map_in c e.theory es) c.opened.path within (kept (origin_of c.decls e.theory) (fates_of (sides_in c e.theory es))) in
+    let copies = entries_copied tupled (map_in c e.theory es) c.opened.path within (kept (origin_of c.decls e.theory) (effects_of (sides_in c e.theory es))) in
     let entered = ints_more tupled copies (ints_more c.symbols (rights_tuples c.symbols es) h) in
     subst HasInts (sym e.is) (places_ints (copying_in c e.theory es within) e.theory.visible (with_copied_entries c e.theory es within) entered)
 

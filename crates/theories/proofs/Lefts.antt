@@ -16,7 +16,7 @@ use Rattle.elaboration_laws.specs.clones.declared.clone_elements.left.Abstract.{
 use Rattle.elaboration_laws.specs.clones.declared.clone_elements.left.Abstract.TheVariants as abstract
 use Rattle.elaboration_laws.specs.clones.clone_elements.Left.{Origin, decl_or, called_text, kind_of_symbol, kind_of_word, kind_of_proposition, kind_of_body, kind_letter, key, key_with, left_key, element_key, is_key, place_after, last_place, place_by}
 use Rattle.elaboration_laws.specs.clones.clone_elements.Rights.{RightTree, type_right, symbol_right, no_right, right_made, right_tuples}
-use Rattle.elaboration_laws.specs.clones.clone_elements.Plans.{SideTree, sides_made}
+use Rattle.elaboration_laws.specs.clones.clone_elements.Replacements.{SideTree, sides_made}
 use Rattle.elaboration_laws.specs.clones.clone_elements.Elements.{is_kind_of_word}
 use Rattle.elaboration_laws.proofs.Lefts.{keyed, not_axiom, not_type}
 use Rattle.elaboration_laws.proofs.Numbers.{later}

@@ -9,9 +9,9 @@ use Rattle.theory_states.specs.States.{KnownTree, at_places}
 use Rattle.elaboration_laws.proofs.Places.{none_here, here}
 use Rattle.elaboration_laws.specs.Cloning.{IsFixed}
 use Rattle.elaboration_laws.specs.Trials.{AgreeOn}
-use Rattle.elaboration_laws.specs.clones.declared.clone_elements.plans.Fate.TheVariants.{Replaced}
+use Rattle.elaboration_laws.specs.clones.declared.clone_elements.replacements.Effect.TheVariants.{Replaced}
 use Rattle.elaboration_laws.specs.clones.clone_elements.Left.{Origin, decl_or}
-use Rattle.elaboration_laws.specs.clones.clone_elements.Plans.{SideTree, PlacedFates, no_fates, fates_of, is_replaced, types_replaced, symbols_replaced, kept, clone_map, tried_map}
+use Rattle.elaboration_laws.specs.clones.clone_elements.Replacements.{SideTree, PlacedEffects, no_effects, effects_of, is_replaced, types_replaced, symbols_replaced, kept, clone_map, tried_map}
 use Rattle.elaboration_laws.specs.clones.clone_elements.Elements.{SidesTold}
 use Rattle.elaboration_laws.specs.clones.clone_copies.Origins.{origin_of}
 use Rattle.theories.proofs.Numbers.{IsAt, contained, IsReplacedBy, IsOther, symbol_cases, type_cases, types_alike}
@@ -32,7 +32,7 @@ pub symbol_makes : (b : BodyTree) (k : ℕ) → b ≡ Makes k → Contains (made
 symbol_makes b k q = subst (λ (x : BodyTree). Contains (made_by x) k) (sym q) (here k [])
 
 module _ (table xs : List SymbolTree) (ds : List DeclarationTree) (t : KnownTree) (sides : List SideTree) (sound : AreSound xs (at_places ds t.visible))
-    (read : All (IsRead table (origin_of ds t)) sides) (told : SidesTold xs (origin_of ds t) (tried_map xs (origin_of ds t) sides) no_fates sides None)
+    (read : All (IsRead table (origin_of ds t)) sides) (told : SidesTold xs (origin_of ds t) (tried_map xs (origin_of ds t) sides) no_effects sides None)
     (below : (q : ℕ × ℕ) → Contains (symbols_replaced (origin_of ds t) sides) q → q.1 < length xs) where
   abbrev o : Origin
   o = origin_of ds t
@@ -43,8 +43,8 @@ module _ (table xs : List SymbolTree) (ds : List DeclarationTree) (t : KnownTree
   abbrev tried : Map
   tried = tried_map xs o sides
 
-  abbrev final : PlacedFates
-  final = fates_of sides
+  abbrev final : PlacedEffects
+  final = effects_of sides
 
   abbrev types : List (ℕ × Tree)
   types = types_replaced xs o sides
@@ -56,10 +56,10 @@ module _ (table xs : List SymbolTree) (ds : List DeclarationTree) (t : KnownTree
   MakesAt p k = Contains (made_by (decl_or ds p).body) k
 
   pub type_from : (k : ℕ) (e : Tree) → Contains types (k, e) → IsTypeReplaced o final k
-  type_from k e c = types_from table xs o tried sides no_fates read told (k, e) c
+  type_from k e c = types_from table xs o tried sides no_effects read told (k, e) c
 
   pub symbol_from : (k j : ℕ) → Contains symbols (k, j) → IsSymbolReplaced table xs o tried final k j
-  symbol_from k j c = symbols_from table xs o tried sides no_fates read told (k, j) c
+  symbol_from k j c = symbols_from table xs o tried sides no_effects read told (k, j) c
 
   type_own : (k : ℕ) (e : Tree) → Contains types (k, e) → IsMadeOwn o k
   type_own k e c = let x = type_from k e c in record { place = x.place; own = x.own; makes = type_makes (decl_or ds x.place).body k x.body }
@@ -67,8 +67,8 @@ module _ (table xs : List SymbolTree) (ds : List DeclarationTree) (t : KnownTree
   symbol_own : (k j : ℕ) → Contains symbols (k, j) → IsMadeOwn o k
   symbol_own k j c = let x = symbol_from k j c in record { place = x.place; own = x.own; makes = symbol_makes (decl_or ds x.place).body k x.body }
 
-  kept_own : (fates : PlacedFates) (k : ℕ) → Contains (kept o fates) k → IsMadeOwn o k
-  kept_own fates k c = let x = kept_in o fates o.own k c in record { place = x.place; own = x.among; makes = x.makes }
+  kept_own : (effects : PlacedEffects) (k : ℕ) → Contains (kept o effects) k → IsMadeOwn o k
+  kept_own effects k c = let x = kept_in o effects o.own k c in record { place = x.place; own = x.among; makes = x.makes }
 
   -- ---- what no own declaration makes stays
   pub fixed : (k : ℕ) → (IsMadeOwn o k → ⊥) → IsFixed m k
@@ -94,12 +94,12 @@ module _ (table xs : List SymbolTree) (ds : List DeclarationTree) (t : KnownTree
     no_type : (e : Tree) → Contains types (k, e) → ⊥
     no_type e c =
         let x = type_from k e c in
-        not_both x.place p (one_place xs ds t sound x.place p k (own_visible xs ds t sound x.place x.own) (own_visible xs ds t sound p own) (type_makes (decl_or ds x.place).body k x.body) makes) x.fate free
+        not_both x.place p (one_place xs ds t sound x.place p k (own_visible xs ds t sound x.place x.own) (own_visible xs ds t sound p own) (type_makes (decl_or ds x.place).body k x.body) makes) x.effect free
 
     no_symbol : (j : ℕ) → Contains symbols (k, j) → ⊥
     no_symbol j c =
         let x = symbol_from k j c in
-        not_both x.place p (one_place xs ds t sound x.place p k (own_visible xs ds t sound x.place x.own) (own_visible xs ds t sound p own) (symbol_makes (decl_or ds x.place).body k x.body) makes) x.fate free
+        not_both x.place p (one_place xs ds t sound x.place p k (own_visible xs ds t sound x.place x.own) (own_visible xs ds t sound p own) (symbol_makes (decl_or ds x.place).body k x.body) makes) x.effect free
 
     pub copied_type : m.types k ≡ None
     copied_type = of (type_cases types symbols (length xs) (kept o final) k)
@@ -138,9 +138,9 @@ module _ (table xs : List SymbolTree) (ds : List DeclarationTree) (t : KnownTree
 
   -- ---- what is replaced
   pub pair_of : (p : ℕ) → is_replaced (final p) ≡ true → HasType o types p ⊎ HasSymbol o symbols p
-  pair_of p r = of (pair_there table xs o tried sides no_fates read told p (is_replaced_as (final p) r))
+  pair_of p r = of (pair_there table xs o tried sides no_effects read told p (is_replaced_as (final p) r))
     where
-      of : (no_fates p ≡ Some Replaced) ⊎ (HasType o types p ⊎ HasSymbol o symbols p) → HasType o types p ⊎ HasSymbol o symbols p
+      of : (no_effects p ≡ Some Replaced) ⊎ (HasType o types p ⊎ HasSymbol o symbols p) → HasType o types p ⊎ HasSymbol o symbols p
       of (inl z) = absurd (cc)
       of (inr z) = z
 
@@ -161,19 +161,19 @@ module _ (table xs : List SymbolTree) (ds : List DeclarationTree) (t : KnownTree
       of (inr z) = absurd (z.0 j c)
 
   -- ---- the map by which signatures were compared
-  free_made : (k : ℕ) → IsMadeOwn o k → Contains (kept o no_fates) k
-  free_made k x = kept_there o no_fates o.own x.place k x.own refl x.makes
+  free_made : (k : ℕ) → IsMadeOwn o k → Contains (kept o no_effects) k
+  free_made k x = kept_there o no_effects o.own x.place k x.own refl x.makes
 
   pub agrees : AgreeOn (length xs) tried m
   agrees = record {
-    types = λ k. types_alike types [] symbols (length xs) (length xs) (kept o no_fates) (kept o final) k;
-    symbols = λ k n l. of k l (symbol_cases types [] (length xs) (kept o no_fates) k);
+    types = λ k. types_alike types [] symbols (length xs) (length xs) (kept o no_effects) (kept o final) k;
+    symbols = λ k n l. of k l (symbol_cases types [] (length xs) (kept o no_effects) k);
   }
     where
-      other : (k : ℕ) → tried.symbols k < length xs → IsAt (length xs) (kept o no_fates) k (tried.symbols k) ⊎ ((Contains (kept o no_fates) k → ⊥) × (tried.symbols k ≡ k)) → tried.symbols k ≡ m.symbols k
+      other : (k : ℕ) → tried.symbols k < length xs → IsAt (length xs) (kept o no_effects) k (tried.symbols k) ⊎ ((Contains (kept o no_effects) k → ⊥) × (tried.symbols k ≡ k)) → tried.symbols k ≡ m.symbols k
       other k l (inl a) = absurd (let x = a.is in omega (arith, x, l))
       other k l (inr a) = a.1 ∙ sym (fixed k (λ x. a.0 (free_made k x))).symbol
 
-      of : (k : ℕ) → tried.symbols k < length xs → Contains {X = ℕ × ℕ} [] (k, tried.symbols k) ⊎ IsOther [] (length xs) (kept o no_fates) k (tried.symbols k) → tried.symbols k ≡ m.symbols k
+      of : (k : ℕ) → tried.symbols k < length xs → Contains {X = ℕ × ℕ} [] (k, tried.symbols k) ⊎ IsOther [] (length xs) (kept o no_effects) k (tried.symbols k) → tried.symbols k ≡ m.symbols k
       of k l (inl c) = absurd (none_here (k, tried.symbols k) c)
       of k l (inr z) = other k l z.1

@@ -4,7 +4,7 @@ use Rattle.std.proofs.Common.{◌≡◌, ◌⊎◌, inl, inr, ℕ, ◌+◌, ◌=
 use Rattle.tasks.specs.trees.Tree.{Tree}
 use Rattle.elaboration_laws.specs.clones.Mapped.{Map}
 use Rattle.elaboration_laws.proofs.Places.{none_here, cases_of, here}
-use Rattle.elaboration_laws.specs.clones.clone_elements.Plans.{same_map, with_symbol, with_type, with_numbers, with_symbols, with_mapped_types, map_of}
+use Rattle.elaboration_laws.specs.clones.clone_elements.Replacements.{same_map, with_symbol, with_type, with_numbers, with_symbols, with_mapped_types, map_of}
 use Rattle.tasks.proofs.plain_laws.Bools.{same_number}
 use Rattle.elaboration_laws.proofs.Numbers.{types_leave, symbols_leave, numbers_leave, later}
 use Rattle.elaboration_laws.proofs.Widths.{same_width as itself}

@@ -10,7 +10,7 @@ use Rattle.theory_states.specs.States.{KnownTree, at_places}
 use Rattle.elaboration_laws.proofs.Places.{none_here, cases_of, here, in_places}
 use Rattle.elaboration_laws.proofs.Vocabularies.{made_below}
 use Rattle.elaboration_laws.specs.clones.clone_elements.Left.{Origin, no_declaration, decl_or}
-use Rattle.elaboration_laws.specs.clones.clone_elements.Plans.{PlacedFates, is_replaced, kept_at, kept_of}
+use Rattle.elaboration_laws.specs.clones.clone_elements.Replacements.{PlacedEffects, is_replaced, kept_at, kept_of}
 use Rattle.elaboration_laws.specs.clones.clone_copies.Origins.{is_own, own_at, own_among, origin_of}
 use Rattle.elaboration_laws.proofs.Joined.{distinct_last as back_distinct, into_made, distinct_apart as apart_from}
 use Rattle.std.proofs.lemmas.Option.{slice_get-get_or as some_at}
@@ -42,32 +42,32 @@ module _ (ds : List DeclarationTree) (path : Word) where
       of (inr z) f = Contains-append_right (own_at ds path k) (own_among ds path ks) p (f z)
 
 -- ---- symbols that are kept
-pub record IsMadeAt (o : Origin) (fates : PlacedFates) (ks : List ℕ) (k : ℕ) : Type 0 where
+pub record IsMadeAt (o : Origin) (effects : PlacedEffects) (ks : List ℕ) (k : ℕ) : Type 0 where
   pub place : ℕ
   pub among : Contains ks place
-  pub free : is_replaced (fates place) ≡ false
+  pub free : is_replaced (effects place) ≡ false
   pub makes : Contains (made_by (decl_or o.decls place).body) k
 
-module _ (o : Origin) (fates : PlacedFates) where
-  pub kept_in : (ks : List ℕ) (k : ℕ) → Contains (kept_of o fates ks) k → IsMadeAt o fates ks k
+module _ (o : Origin) (effects : PlacedEffects) where
+  pub kept_in : (ks : List ℕ) (k : ℕ) → Contains (kept_of o effects ks) k → IsMadeAt o effects ks k
   kept_in [] k c = absurd (none_here k c)
-  kept_in (p ∷ ks) k c = of (is_replaced (fates p)) refl (Contains-append_cases (kept_at o fates p) (kept_of o fates ks) k c) (λ z. kept_in ks k z)
+  kept_in (p ∷ ks) k c = of (is_replaced (effects p)) refl (Contains-append_cases (kept_at o effects p) (kept_of o effects ks) k c) (λ z. kept_in ks k z)
     where
-      of : (b : Bool) → is_replaced (fates p) ≡ b → Contains (if b then [] else made_by (decl_or o.decls p).body) k ⊎ Contains (kept_of o fates ks) k → (Contains (kept_of o fates ks) k → IsMadeAt o fates ks k) → IsMadeAt o fates (p ∷ ks) k
+      of : (b : Bool) → is_replaced (effects p) ≡ b → Contains (if b then [] else made_by (decl_or o.decls p).body) k ⊎ Contains (kept_of o effects ks) k → (Contains (kept_of o effects ks) k → IsMadeAt o effects ks k) → IsMadeAt o effects (p ∷ ks) k
       of true q (inl z) f = absurd (none_here k z)
       of false q (inl z) f = record { place = p; among = here p ks; free = q; makes = z }
       of b q (inr z) f = let x = f z in record { place = x.place; among = later p x.place ks x.among; free = x.free; makes = x.makes }
 
-  pub kept_there : (ks : List ℕ) (p k : ℕ) → Contains ks p → is_replaced (fates p) ≡ false → Contains (made_by (decl_or o.decls p).body) k → Contains (kept_of o fates ks) k
+  pub kept_there : (ks : List ℕ) (p k : ℕ) → Contains ks p → is_replaced (effects p) ≡ false → Contains (made_by (decl_or o.decls p).body) k → Contains (kept_of o effects ks) k
   kept_there [] p k c q z = absurd (none_here p c)
   kept_there (j ∷ ks) p k c q z = of (cases_of j p ks c) (λ x. kept_there ks p k x q z)
     where
-      of : (j ≡ p) ⊎ Contains ks p → (Contains ks p → Contains (kept_of o fates ks) k) → Contains (kept_at o fates j ++ kept_of o fates ks) k
+      of : (j ≡ p) ⊎ Contains ks p → (Contains ks p → Contains (kept_of o effects ks) k) → Contains (kept_at o effects j ++ kept_of o effects ks) k
       of (inl e) f =
-          let r : is_replaced (fates j) ≡ false = subst (λ (i : ℕ). is_replaced (fates i) ≡ false) (sym e) q in
+          let r : is_replaced (effects j) ≡ false = subst (λ (i : ℕ). is_replaced (effects i) ≡ false) (sym e) q in
           let y : Contains (made_by (decl_or o.decls j).body) k = subst (λ (i : ℕ). Contains (made_by (decl_or o.decls i).body) k) (sym e) z in
-          Contains-append_left (kept_at o fates j) (kept_of o fates ks) k (subst (λ (b : Bool). Contains (if b then [] else made_by (decl_or o.decls j).body) k) (sym r) y)
-      of (inr x) f = Contains-append_right (kept_at o fates j) (kept_of o fates ks) k (f x)
+          Contains-append_left (kept_at o effects j) (kept_of o effects ks) k (subst (λ (b : Bool). Contains (if b then [] else made_by (decl_or o.decls j).body) k) (sym r) y)
+      of (inr x) f = Contains-append_right (kept_at o effects j) (kept_of o effects ks) k (f x)
 
 -- ---- places of symbols
 

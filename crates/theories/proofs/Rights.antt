@@ -34,7 +34,7 @@ use Rattle.elaboration_laws.proofs.Places.{none_here}
 use Rattle.elaboration_laws.proofs.CopiedRights.{right_typed}
 use Rattle.elaboration_laws.specs.clones.clone_elements.Left.{Origin, symbol_at_place}
 use Rattle.elaboration_laws.specs.clones.clone_elements.Rights.{RightTree, type_right, symbol_right, no_right, symbol_missing, called_symbol, right_made, right_fault, right_tuples, rights_tuples, rights_fault}
-use Rattle.elaboration_laws.specs.clones.clone_elements.Plans.{SideTree, sides_made, symbol_for, symbols_replaced}
+use Rattle.elaboration_laws.specs.clones.clone_elements.Replacements.{SideTree, sides_made, symbol_for, symbols_replaced}
 use Rattle.elaboration_laws.specs.Sides.{IsTypedRight, IsTypedSide}
 use Rattle.elaboration_laws.proofs.Rights.{right_more, texts_count}
 use Rattle.std.proofs.lemmas.Option.{slice_get-get_or as some_at}

@@ -14,7 +14,7 @@ use Rattle.elaboration_laws.proofs.Vocabularies.{made_below}
 use Rattle.elaboration_laws.proofs.ClonedGoals.{right_more}
 use Rattle.elaboration_laws.proofs.StateOthers.{made_right_of}
 use Rattle.elaboration_laws.specs.clones.clone_elements.Left.{no_declaration, decl_or}
-use Rattle.elaboration_laws.specs.clones.clone_elements.Plans.{is_replaced, kind_or}
+use Rattle.elaboration_laws.specs.clones.clone_elements.Replacements.{is_replaced, kind_or}
 use Rattle.elaboration_laws.specs.clones.clone_copies.Origins.{is_own}
 use Rattle.elaboration_laws.specs.clones.clone_copies.Places.{Copying}
 use Rattle.elaboration_laws.specs.PlaceSteps.{step_as, step_of, copy_step_at, copy_steps_at}
@@ -29,10 +29,10 @@ module _ (x : Copying) (ds : List DeclarationTree) where
 
   of_axiom : (k : ℕ) (a : Option (List Word)) (d : DeclarationTree) → declaration_of (step_of x k a d) ≡ d
   of_axiom k None d = refl
-  of_axiom k (Some vars) d = of_kind (kind_or (x.fates k) x.all) d
+  of_axiom k (Some vars) d = of_kind (kind_or (x.effects k) x.all) d
 
   pub step_is : (k : ℕ) → declaration_of (copy_step_at x ds k) ≡ decl_or ds k
-  step_is k = of (is_own ds x.path k) (is_replaced (x.fates k))
+  step_is k = of (is_own ds x.path k) (is_replaced (x.effects k))
     where
       of : (a r : Bool) → declaration_of (if a then (if r then leaves (decl_or ds k) else step_of x k (x.axioms k) (decl_or ds k)) else joins (decl_or ds k)) ≡ decl_or ds k
       of true true = refl
@@ -60,10 +60,10 @@ module _ (x : Copying) (ds : List DeclarationTree) where
 
   taken_axiom : (k : ℕ) (a : Option (List Word)) (d : DeclarationTree) (ss : List CopyStep) → taken_of (step_of x k a d ∷ ss) ≡ taken_of ss
   taken_axiom k None d ss = refl
-  taken_axiom k (Some vars) d ss = taken_kind (kind_or (x.fates k) x.all) d ss
+  taken_axiom k (Some vars) d ss = taken_kind (kind_or (x.effects k) x.all) d ss
 
   taken_step : (k : ℕ) (ss : List CopyStep) → taken_of (copy_step_at x ds k ∷ ss) ≡ cond (not (is_own ds x.path k)) (decl_or ds k ∷ taken_of ss) (taken_of ss)
-  taken_step k ss = of (is_own ds x.path k) (is_replaced (x.fates k))
+  taken_step k ss = of (is_own ds x.path k) (is_replaced (x.effects k))
     where
       of : (a r : Bool) → taken_of ((if a then (if r then leaves (decl_or ds k) else step_of x k (x.axioms k) (decl_or ds k)) else joins (decl_or ds k)) ∷ ss) ≡ cond (not a) (decl_or ds k ∷ taken_of ss) (taken_of ss)
       of true true = refl

@@ -19,7 +19,7 @@ use Rattle.elaboration_laws.specs.name_resolution.Abstract.{type_expression}
 use Rattle.elaboration_laws.specs.name_resolution.variables.Seen.{form_seen}
 use Rattle.elaboration_laws.specs.elab_groups.parts.Elaborated.{unseen}
 use Rattle.elaboration_laws.specs.clones.clone_elements.Rights.{right_tuples, rights_tuples}
-use Rattle.elaboration_laws.specs.clones.clone_elements.Plans.{fates_of, kept, kind_or, is_replaced}
+use Rattle.elaboration_laws.specs.clones.clone_elements.Replacements.{effects_of, kept, kind_or, is_replaced}
 use Rattle.theory_states.specs.declared.states.AxiomAt.{AxiomAt}
 use Rattle.theory_states.specs.States.{KnownTree, StateTree, known_has_path, with_declaration}
 use Rattle.theory_states.specs.Uses.{path_text, last_part, alias_text}
@@ -73,7 +73,7 @@ entries_words : (c : StateTree) (t : KnownTree) (es : List Element) (within : Wo
 entries_words c t es within w h =
     let tupled = symbols_tupled c es in
     let all = All-append HasWord c.symbols (rights_tuples c.symbols es) h.symbols (rights_words es c.symbols) in
-    let ks = kept (origin_of c.decls t) (fates_of (sides_in c t es)) in
+    let ks = kept (origin_of c.decls t) (effects_of (sides_in c t es)) in
     record {
       symbols = All-append HasWord tupled (entries_copied tupled (map_in c t es) c.opened.path within ks) all (copies_words tupled (map_in c t es) c.opened.path within ks w all);
       within = h.within;
@@ -106,14 +106,14 @@ kind_words kind.Goal vars d c w h = goal_words vars d.name d.body c w h
 module _ (x : Copying) (told : Told x.axioms) where
   copy_words : (k : ℕ) (o : Option (List Word)) (d : DeclarationTree) (c : StateTree) → IfSome o (All IsScopedName) → HasWordNames c → HasWordNames (with_copy x k o d c)
   copy_words k None d c w h = visible_words d c h
-  copy_words k (Some vars) d c w h = kind_words (kind_or (x.fates k) x.all) vars d c w h
+  copy_words k (Some vars) d c w h = kind_words (kind_or (x.effects k) x.all) vars d c w h
 
   own_words : (k : ℕ) (b : Bool) (c : StateTree) → HasWordNames c → HasWordNames (if b then c else with_copy x k (x.axioms k) (copy_of x c k) c)
   own_words k true c h = h
   own_words k false c h = copy_words k (x.axioms k) (copy_of x c k) c (told k) h
 
   place_words : (k : ℕ) (b : Bool) (c : StateTree) → HasWordNames c → HasWordNames (if b then with_own x k c else with_joined k c)
-  place_words k true c h = own_words k (is_replaced (x.fates k)) c h
+  place_words k true c h = own_words k (is_replaced (x.effects k)) c h
   place_words k false c h = record { symbols = h.symbols; within = h.within; axioms = h.axioms; known = h.known }
 
   places_words : (ks : List ℕ) (c : StateTree) → HasWordNames c → HasWordNames (with_places x ks c)

@@ -1,4 +1,4 @@
 pub mod Cloned
 pub mod Owned
-pub mod Planned
+pub mod ReadElements
 pub mod Copied

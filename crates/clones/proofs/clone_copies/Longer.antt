@@ -4,7 +4,7 @@ use Rattle.tasks.specs.Task.{BodyTree, MakesType, Makes, Defines, Induces, Const
 use Rattle.elab_groups.specs.surface.declared.declarations.PropKind.{PropKind}
 use Rattle.elab_groups.specs.surface.declared.declarations.PropKind.TheVariants as kind
 use Rattle.theory_states.specs.States.{StateTree, with_declaration}
-use Rattle.clones.specs.clone_elements.Plans.{is_replaced, kind_or}
+use Rattle.clones.specs.clone_elements.Replacements.{is_replaced, kind_or}
 use Rattle.clones.specs.clone_copies.Origins.{is_own}
 use Rattle.clones.specs.clone_copies.Places.{Copying, goal_with, with_copied_goal, with_kind, with_copy, copy_of, with_own, with_joined, with_place}
 
@@ -26,7 +26,7 @@ kind_longer kind.Goal vars d c = omega (arith, ap length (goal_keeps vars d.name
 
 copy_longer : (x : Copying) (k : ℕ) (o : Option (List (List ℕ))) (d : DeclarationTree) (c : StateTree) → length c.decls ≤ length (with_copy x k o d c).decls
 copy_longer x k None d c = declared d c
-copy_longer x k (Some vars) d c = kind_longer (kind_or (x.fates k) x.all) vars d c
+copy_longer x k (Some vars) d c = kind_longer (kind_or (x.effects k) x.all) vars d c
 
 either : (b : Bool) (n : ℕ) (c e : StateTree) → n ≤ length c.decls → n ≤ length e.decls → n ≤ length (cond b c e).decls
 either true n c e h g = h
@@ -34,4 +34,4 @@ either false n c e h g = g
 
 pub place_longer : (x : Copying) (k : ℕ) (c : StateTree) → length c.decls ≤ length (with_place x k c).decls
 place_longer x k c =
-    either (is_own c.decls x.path k) (length c.decls) (with_own x k c) (with_joined k c) (either (is_replaced (x.fates k)) (length c.decls) c (with_copy x k (x.axioms k) (copy_of x c k) c) (omega arith) (copy_longer x k (x.axioms k) (copy_of x c k) c)) (omega arith)
+    either (is_own c.decls x.path k) (length c.decls) (with_own x k c) (with_joined k c) (either (is_replaced (x.effects k)) (length c.decls) c (with_copy x k (x.axioms k) (copy_of x c k) c) (omega arith) (copy_longer x k (x.axioms k) (copy_of x c k) c)) (omega arith)

@@ -23,12 +23,12 @@ use Rattle.theory_states.proofs.Growing.{goals_stay, state_stays, state_grows}
 use Rattle.clones.specs.Mapped.{Map}
 use Rattle.clones.specs.Meaning.{MapHeld}
 use Rattle.clones.proofs.Steps.{map_stays}
-use Rattle.clones.specs.declared.clone_copies.places.Job.{Job}
+use Rattle.clones.specs.declared.clone_copies.places.CopiedBy.{CopiedBy}
 use Rattle.clones.specs.clone_copies.Places.{Copying, axiom_at, with_copied_axiom, goal_of, goal_with, next_numbers}
 use Rattle.clones.specs.clone_copies.Meaning.{copying_at}
 
-pub copying_stays : (s t : List Tree) → Grows s t → (j : Job) → MapHeld s j.morphism.now → copying_at t j ≡ copying_at s j
-copying_stays s t w j h = ap (λ (m : Map). let it : Copying = record { path = j.path.now; axioms = (copying_at s j).axioms; fates = (copying_at s j).fates; all = j.plan.now.all_axioms; mapping = m; within = j.within.now } in it) (map_stays s t w j.morphism.now h)
+pub copying_stays : (s t : List Tree) → Grows s t → (j : CopiedBy) → MapHeld s j.morphism.now → copying_at t j ≡ copying_at s j
+copying_stays s t w j h = ap (λ (m : Map). let it : Copying = record { path = j.path.now; axioms = (copying_at s j).axioms; effects = (copying_at s j).effects; all = j.replacement.now.all_axioms; mapping = m; within = j.within.now } in it) (map_stays s t w j.morphism.now h)
 
 -- ---- one more axiom
 pub axiom_pushed : (s : List Tree) (x y : Typed) (o p : Opened) (d : DeclarationTree) (as_ : List AxiomAt) (vars : List (List ℕ))

@@ -7,10 +7,10 @@ use Rattle.surface.specs.SurfaceDeclarations.{element_of}
 use Rattle.open_types.proofs.Growing.{type_grows, type_stays}
 use Rattle.clones.specs.declared.clone_elements.rights.Right.{Right}
 use Rattle.clones.specs.declared.clone_elements.rights.Right.TheVariants as right
-use Rattle.clones.specs.declared.clone_elements.plans.Side.{Side as CodeSide}
-use Rattle.clones.specs.declared.clone_elements.plans.TypeFor.{TypeFor}
+use Rattle.clones.specs.declared.clone_elements.replacements.Side.{Side as CodeSide}
+use Rattle.clones.specs.declared.clone_elements.replacements.TypeFor.{TypeFor}
 use Rattle.clones.specs.clone_elements.Rights.{RightTree, type_right, IsWithin}
-use Rattle.clones.specs.clone_elements.Plans.{SideTree}
+use Rattle.clones.specs.clone_elements.Replacements.{SideTree}
 use Rattle.clones.specs.clone_elements.Meaning.{right_at, RightHeld, side_at, sides_at, SideHeld, type_pair, type_pairs_at, TypeForHeld}
 
 module _ (s t : List Tree) (w : Grows s t) where

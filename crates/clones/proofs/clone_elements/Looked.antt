@@ -8,9 +8,9 @@ use Rattle.tasks.specs.trees.Node.{Holds}
 use Rattle.tasks.specs.declared.signature.SymbolInfo.{SymbolInfo}
 use Rattle.tasks.specs.Meaning.{SymbolHeld}
 use Rattle.open_types.specs.Drafts.{HoldsType, SymbolTyped}
-use Rattle.clones.specs.declared.clone_elements.plans.Fate.{Fate}
-use Rattle.clones.specs.clone_elements.Plans.{no_fates}
-use Rattle.clones.specs.clone_elements.Meaning.{fates_at}
+use Rattle.clones.specs.declared.clone_elements.replacements.Effect.{Effect}
+use Rattle.clones.specs.clone_elements.Replacements.{no_effects}
+use Rattle.clones.specs.clone_elements.Meaning.{effects_at}
 
 pub got_some : {X Y : Type 0} (f : X → Y) (xs : List X) (k : ℕ) (x : X) (z : Y) → slice_get xs k ≡ Some x → get_or (map f xs) k z ≡ f x
 got_some f [] k x z h = absurd (cc)
@@ -21,8 +21,8 @@ pub first_is : {X Y : Type 0} (f : X → Y) (xs : List X) (d : X) (y : Y) → sl
 first_is f [] d y h = absurd (cc)
 first_is f (x ∷ xs) d y h = cc
 
-pub empty_fates : {S : Type 0} (m : IndexMap ℕ Fate S) → m.entries ≡ [] → fates_at m ≡ no_fates
-empty_fates m e = λ i q. ap (lookup (nat_eq q)) e i
+pub empty_effects : {S : Type 0} (m : IndexMap ℕ Effect S) → m.entries ≡ [] → effects_at m ≡ no_effects
+empty_effects m e = λ i q. ap (lookup (nat_eq q)) e i
 
 pub result_held : (s : List Tree) (o : Option TermId) → IfSome o (HoldsType s) → IfSome o (Holds s)
 result_held s None h = tt

@@ -14,7 +14,7 @@ use Rattle.theory_states.specs.goal_tasks.Theories.{GoalTree}
 use Rattle.theory_states.specs.declared.states.AxiomAt.{AxiomAt}
 use Rattle.theory_states.specs.States.{StateTree, joined_places, with_declaration}
 use Rattle.clones.specs.clone_elements.Left.{decl_or}
-use Rattle.clones.specs.clone_elements.Plans.{PlacedFates, is_replaced, kind_or}
+use Rattle.clones.specs.clone_elements.Replacements.{PlacedEffects, is_replaced, kind_or}
 use Rattle.clones.specs.clone_copies.Origins.{Axioms, is_own}
 pub use Rattle.elab_groups.specs.parts.Outcomes.{rigid_types}
 
@@ -24,7 +24,7 @@ pub use Rattle.elab_groups.specs.parts.Outcomes.{rigid_types}
 pub record Copying : Type 0 where
   pub path : Word
   pub axioms : Axioms
-  pub fates : PlacedFates
+  pub effects : PlacedEffects
   pub all : Bool
   pub mapping : Map
   pub within : Word
@@ -76,7 +76,7 @@ with_kind kind.Goal vars d c = with_copied_goal vars d c
 -- ---- all copies
 abbrev pub with_copy : Copying → ℕ → Option (List Word) → DeclarationTree → StateTree → StateTree
 with_copy x k None d c = with_declaration d c
-with_copy x k (Some vars) d c = with_kind (kind_or (x.fates k) x.all) vars d c
+with_copy x k (Some vars) d c = with_kind (kind_or (x.effects k) x.all) vars d c
 
 abbrev pub copy_of : Copying → StateTree → ℕ → DeclarationTree
 copy_of x c k = declaration_copied x.mapping c.opened.path x.within (decl_or c.decls k)
@@ -87,7 +87,8 @@ with_joined k c =
 
 -- an own declaration is copied unless it is replaced, another one is joined
 abbrev pub with_own : Copying → ℕ → StateTree → StateTree
-with_own x k c = if is_replaced (x.fates k) then c else with_copy x k (x.axioms k) (copy_of x c k) c
+with_own x k c =
+    if is_replaced (x.effects k) then c else with_copy x k (x.axioms k) (copy_of x c k) c
 
 abbrev pub with_place : Copying → ℕ → StateTree → StateTree
 with_place x k c = if is_own c.decls x.path k then with_own x k c else with_joined k c

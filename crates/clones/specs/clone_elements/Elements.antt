@@ -13,7 +13,7 @@ use Rattle.surface.specs.Declarations.{Element, type_element, symbol_element, pr
 use Rattle.clones.specs.Mapped.{Map, mapped}
 use Rattle.clones.specs.clone_elements.Left.{Origin, symbol_at_place}
 use Rattle.clones.specs.clone_elements.Rights.{RightTree, symbol_right}
-use Rattle.clones.specs.clone_elements.Plans.{SideTree, PlacedFates, with_side}
+use Rattle.clones.specs.clone_elements.Replacements.{SideTree, PlacedEffects, with_side}
 
 abbrev pub left_token : Element → ℕ
 left_token (type_element i c vs f) = c.at
@@ -35,20 +35,21 @@ has_vars symbols k (symbol_element i w c d) (symbol_right j) =
     (symbol_or symbols k).vars == (symbol_or symbols j).vars
 has_vars symbols k e r = true
 
-abbrev pub is_wrong_at : List SymbolTree → Origin → PlacedFates → Element → RightTree
+abbrev pub is_wrong_at : List SymbolTree → Origin → PlacedEffects → Element → RightTree
     → Option ℕ → Bool
-is_wrong_at symbols t fates e r None = true
-is_wrong_at symbols t fates e r (Some place) =
-    is_some (fates place) || not (has_vars symbols (symbol_at_place t.decls place) e r)
+is_wrong_at symbols t effects e r None = true
+is_wrong_at symbols t effects e r (Some place) =
+    is_some (effects place) || not (has_vars symbols (symbol_at_place t.decls place) e r)
 
-abbrev pub is_wrong : List SymbolTree → Origin → PlacedFates → Element → RightTree → Option ℕ → Bool
-is_wrong symbols t fates (all_axioms i) r left = false
-is_wrong symbols t fates (type_element i c vs f) r left =
-    is_wrong_at symbols t fates (type_element i c vs f) r left
-is_wrong symbols t fates (symbol_element i w c d) r left =
-    is_wrong_at symbols t fates (symbol_element i w c d) r left
-is_wrong symbols t fates (prop_element i k c) r left =
-    is_wrong_at symbols t fates (prop_element i k c) r left
+abbrev pub is_wrong : List SymbolTree → Origin → PlacedEffects → Element → RightTree
+    → Option ℕ → Bool
+is_wrong symbols t effects (all_axioms i) r left = false
+is_wrong symbols t effects (type_element i c vs f) r left =
+    is_wrong_at symbols t effects (type_element i c vs f) r left
+is_wrong symbols t effects (symbol_element i w c d) r left =
+    is_wrong_at symbols t effects (symbol_element i w c d) r left
+is_wrong symbols t effects (prop_element i k c) r left =
+    is_wrong_at symbols t effects (prop_element i k c) r left
 
 -- ---- right
 -- whether a symbol's kind is that of a word; constructors and projections are functions
@@ -87,18 +88,18 @@ IsRefusedAt true token left right Right = token ≡ left
 IsRefusedAt false token left right Right = (token ≡ right) × (Right → ⊥)
 
 -- an element is right, or is refused at a token
-abbrev pub SideTold : List SymbolTree → Origin → Map → PlacedFates → SideTree → Option ℕ → Type 0
-SideTold symbols t m fates x None =
-    (is_wrong symbols t fates x.element x.right x.left ≡ false)
+abbrev pub SideTold : List SymbolTree → Origin → Map → PlacedEffects → SideTree → Option ℕ → Type 0
+SideTold symbols t m effects x None =
+    (is_wrong symbols t effects x.element x.right x.left ≡ false)
     × IsRightSide symbols t m x.element x.left x.right
-SideTold symbols t m fates x (Some token) =
-    IsRefusedAt (is_wrong symbols t fates x.element x.right x.left) token (left_token x.element)
+SideTold symbols t m effects x (Some token) =
+    IsRefusedAt (is_wrong symbols t effects x.element x.right x.left) token (left_token x.element)
     (right_token x.element) (IsRightSide symbols t m x.element x.left x.right)
 
 -- the first that is refused, or none
-abbrev pub SidesTold : List SymbolTree → Origin → Map → PlacedFates → List SideTree
+abbrev pub SidesTold : List SymbolTree → Origin → Map → PlacedEffects → List SideTree
     → Option ℕ → Type 0
-SidesTold symbols t m fates [] o = o ≡ None
-SidesTold symbols t m fates (x ∷ xs) o =
-    SideTold symbols t m fates x None × SidesTold symbols t m (with_side x fates) xs o
-    ⊎ (token : ℕ) × (o ≡ Some token) × SideTold symbols t m fates x (Some token)
+SidesTold symbols t m effects [] o = o ≡ None
+SidesTold symbols t m effects (x ∷ xs) o =
+    SideTold symbols t m effects x None × SidesTold symbols t m (with_side x effects) xs o
+    ⊎ (token : ℕ) × (o ≡ Some token) × SideTold symbols t m effects x (Some token)

@@ -1,4 +1,4 @@
--- What the sides of elements and parts of a plan in code stand for.
+-- What the sides of elements and parts of a replacement in code stand for.
 use Rattle.std.specs.Prelude.{◌≡◌, ℕ, nat_eq, List, map, All, Some}
 use Rattle.indexmap.specs.IndexMap.{IndexMap, get}
 use Rattle.tasks.specs.trees.Tree.{Tree}
@@ -7,12 +7,12 @@ use Rattle.surface.specs.SurfaceDeclarations.{element_of}
 use Rattle.open_types.specs.Drafts.{HoldsType}
 use Rattle.clones.specs.declared.clone_elements.rights.Right.{Right}
 use Rattle.clones.specs.declared.clone_elements.rights.Right.TheVariants as right
-use Rattle.clones.specs.declared.clone_elements.plans.Side.{Side as CodeSide}
-use Rattle.clones.specs.declared.clone_elements.plans.TypeFor.{TypeFor}
-use Rattle.clones.specs.declared.clone_elements.plans.SymbolFor.{SymbolFor}
-use Rattle.clones.specs.declared.clone_elements.plans.Fate.{Fate}
+use Rattle.clones.specs.declared.clone_elements.replacements.Side.{Side as CodeSide}
+use Rattle.clones.specs.declared.clone_elements.replacements.TypeFor.{TypeFor}
+use Rattle.clones.specs.declared.clone_elements.replacements.SymbolFor.{SymbolFor}
+use Rattle.clones.specs.declared.clone_elements.replacements.Effect.{Effect}
 use Rattle.clones.specs.clone_elements.Rights.{RightTree, type_right, symbol_right, no_right, IsWithin}
-use Rattle.clones.specs.declared.clone_elements.elements.Plan.{Plan}
+use Rattle.clones.specs.declared.clone_elements.elements.Replacement.{Replacement}
 use Rattle.clones.specs.declared.clone_elements.elements.Trial.{Trial}
 use Rattle.clones.specs.declared.clone_elements.elements.ElementFault.{ElementFault}
 use Rattle.clones.specs.declared.clone_elements.elements.ElementFault.TheVariants as fault
@@ -23,7 +23,7 @@ use Rattle.clones.specs.Meaning.{MapHeld}
 use Rattle.elab_groups.specs.parts.Entries.{IsSignature}
 use Rattle.clones.specs.clone_elements.Left.{Origin}
 use Rattle.clones.specs.clone_elements.Elements.{SidesTold}
-use Rattle.clones.specs.clone_elements.Plans.{SideTree, PlacedFates, no_fates, types_replaced, symbols_replaced, fates_of, has_all}
+use Rattle.clones.specs.clone_elements.Replacements.{SideTree, PlacedEffects, no_effects, types_replaced, symbols_replaced, effects_of, has_all}
 
 abbrev pub right_at : List Tree → Right → RightTree
 right_at s (right.Type ty) = type_right (tree_at s ty)
@@ -61,11 +61,11 @@ symbol_pairs ps = map symbol_pair ps
 abbrev pub TypeForHeld : List Tree → TypeFor → Type 0
 TypeForHeld s p = HoldsType s p.ty
 
--- the fates in a map
-abbrev pub fates_at : {S : Type 0} → IndexMap ℕ Fate S → PlacedFates
-fates_at m = get nat_eq m
+-- the effects in a map
+abbrev pub effects_at : {S : Type 0} → IndexMap ℕ Effect S → PlacedEffects
+effects_at m = get nat_eq m
 
--- ---- elements that are compared, and plans
+-- ---- elements that are compared, and replacements
 pub record TrialHeld (s : List Tree) (x : Trial) : Type 0 where
   pub signature : IsSignature s x.sig.now.symbols
   pub decls : All (DeclHeld s) x.source.now.decls.now
@@ -74,13 +74,14 @@ pub record TrialHeld (s : List Tree) (x : Trial) : Type 0 where
 abbrev pub IsElementRefused : List SymbolTree → Origin → Map → List SideTree → ElementFault → Type 0
 IsElementRefused symbols t m xs fault.Memory = Unit {0}
 IsElementRefused symbols t m xs (fault.BadSubstitution token) =
-    SidesTold symbols t m no_fates xs (Some token)
+    SidesTold symbols t m no_effects xs (Some token)
 
 -- what elements replace
-pub record IsPlan (s : List Tree) (entries : List SymbolTree) (t : Origin) (xs : List SideTree)
-    (p : Plan) : Type 0 where
+pub record IsReplacement (s : List Tree) (entries : List SymbolTree) (t : Origin)
+    (xs : List SideTree)
+    (p : Replacement) : Type 0 where
   pub types : type_pairs_at s p.types.items ≡ types_replaced entries t xs
   pub held : All (TypeForHeld s) p.types.items
   pub symbols : symbol_pairs p.symbols.items ≡ symbols_replaced t xs
-  pub fates : fates_at p.fates ≡ fates_of xs
+  pub effects : effects_at p.effects ≡ effects_of xs
   pub all : p.all_axioms ≡ has_all xs

@@ -1,5 +1,5 @@
 // The copies of a theory's declarations, and what its axioms become.
-// They depend on plans of clones, on copies of declarations and on what is known of theories.
+// They depend on replacements of clones, on copies of declarations and on what is known of theories.
 ghost use Rattle.std.specs.Prelude.{◌≡◌, ◌++◌, ◌<◌, List, length, map, All, IfOk, OnOk};
 ghost use Rattle.tasks.specs.trees.Tree.{Tree};
 ghost use Rattle.tasks.specs.trees.Node.{tree_at, Holds, Grows};
@@ -11,13 +11,13 @@ ghost use Rattle.clones.specs.Meaning.{map_at, MapHeld, AreKnown};
 ghost use Rattle.open_types.specs.Drafts.{HoldsType};
 ghost use Rattle.elab_groups.specs.parts.Entries.{IsSignature, IsExtended};
 ghost use Rattle.theory_states.specs.Meaning.{state_at, StateHeld};
-ghost use Rattle.clones.specs.clone_elements.Plans.{kind_or};
-ghost use Rattle.clones.specs.clone_elements.Meaning.{fates_at};
+ghost use Rattle.clones.specs.clone_elements.Replacements.{kind_or};
+ghost use Rattle.clones.specs.clone_elements.Meaning.{effects_at};
 ghost use Rattle.clones.specs.clone_copies.Places.{next_numbers, rigid_types, with_copied_axiom, goal_with, with_copied_goal, with_kind, with_copy, with_own, with_place, with_places};
 ghost use Rattle.clones.specs.clone_copies.Meaning.{copying_at};
 
 use crate::clone_copies::origins::{copy_names, is_own};
-use crate::clone_elements::{Fate, Plan, is_replaced};
+use crate::clone_elements::{Effect, Replacement, is_replaced};
 use crate::{MappedTrees as Trees, SymbolMap, copy_decl};
 use elab_groups::parts::{PropKind, inst_types, push_entry};
 use indexmap::IndexMap;
@@ -29,10 +29,10 @@ use theory_states::{AxiomAt, Opened, Typed, push_decl};
 /// What a theory is copied by: its path, its axioms by their places with the names of their type variables, what elements replace, the
 /// map of symbols, and the names of the scopes of the copies, each followed by a dot.
 #[derive(Clone, Copy)]
-pub struct Job<'a> {
+pub struct CopiedBy<'a> {
     pub path: &'a [u8],
     pub axioms: &'a IndexMap<usize, Seq<Text>>,
-    pub plan: &'a Plan,
+    pub replacement: &'a Replacement,
     pub morphism: &'a SymbolMap,
     pub within: &'a [u8],
 }
@@ -224,13 +224,14 @@ fn push_kind(
 }
 
 // What the axiom at a place becomes.
-fn kind_of(plan: &Plan, place: usize) -> PropKind
-    ensures { result ≡ kind_or (fates_at plan.now.fates place) plan.now.all_axioms }
+fn kind_of(replacement: &Replacement, place: usize) -> PropKind
+    ensures { result ≡ kind_or (effects_at replacement.now.effects place)
+        replacement.now.all_axioms }
 {
-    if let Some(Fate::Becomes(kind)) = plan.fates.get(&place) {
+    if let Some(Effect::Becomes(kind)) = replacement.effects.get(&place) {
         return *kind;
     }
-    if plan.all_axioms {
+    if replacement.all_axioms {
         PropKind::Axiom
     } else {
         PropKind::Lemma
@@ -243,21 +244,21 @@ fn push_copy(
     store: &mut Store,
     typed: &mut Typed,
     open: &mut Opened,
-    job: &Job<'_>,
+    given: &CopiedBy<'_>,
     place: usize,
     copy: Decl,
 ) -> Result<(), AllocError>
     requires held { StateHeld store.old typed.old open.old }
     requires copy_held { DeclHeld store.old copy }
     ensures state { OnOk result (state_at store.new typed.new open.new ≡ with_copy
-        (copying_at store.old job.now) place ((copying_at store.old job.now).axioms place)
+        (copying_at store.old given.now) place ((copying_at store.old given.now).axioms place)
         (declaration_at store.old copy) (state_at store.old typed.old open.old)) }
     ensures held { OnOk result (StateHeld store.new typed.new open.new) }
     ensures grows { Grows store.old store.new }
 {
-    match job.axioms.get(&place) {
+    match given.axioms.get(&place) {
         Some(vars) => {
-            let kind = kind_of(job.plan, place);
+            let kind = kind_of(given.replacement, place);
             push_kind(alloc, store, typed, open, kind, vars.as_slice(), copy)
         }
         None => {
@@ -273,35 +274,35 @@ fn copy_own(
     store: &mut Store,
     typed: &mut Typed,
     open: &mut Opened,
-    job: &Job<'_>,
+    given: &CopiedBy<'_>,
     trees: &mut Trees,
     place: usize,
 ) -> Result<(), AllocError>
     requires held { StateHeld store.old typed.old open.old }
     requires within { place < length typed.old.decls }
-    requires map_held { MapHeld store.old job.now.morphism.now }
-    requires known { AreKnown (map_at store.old job.now.morphism.now) store.old trees.old }
+    requires map_held { MapHeld store.old given.now.morphism.now }
+    requires known { AreKnown (map_at store.old given.now.morphism.now) store.old trees.old }
     ensures state { OnOk result (state_at store.new typed.new open.new ≡ with_own
-        (copying_at store.old job.now) place (state_at store.old typed.old open.old)) }
+        (copying_at store.old given.now) place (state_at store.old typed.old open.old)) }
     ensures held { OnOk result (StateHeld store.new typed.new open.new) }
-    ensures known { OnOk result (AreKnown (map_at store.old job.now.morphism.now) store.new
+    ensures known { OnOk result (AreKnown (map_at store.old given.now.morphism.now) store.new
         trees.new) }
     ensures grows { Grows store.old store.new }
 {
-    if is_replaced(&job.plan.fates, place) {
+    if is_replaced(&given.replacement.effects, place) {
         return Ok(());
     }
     let decl = &typed.decls.as_slice()[place];
     let copy = copy_decl(
         alloc,
         store,
-        job.morphism,
+        given.morphism,
         trees,
         open.path.as_slice(),
-        job.within,
+        given.within,
         decl,
     )?;
-    push_copy(alloc, store, typed, open, job, place, copy)
+    push_copy(alloc, store, typed, open, given, place, copy)
 }
 
 // The declaration at a place is copied, joined, or left out where it is replaced.
@@ -310,23 +311,23 @@ fn copy_place(
     store: &mut Store,
     typed: &mut Typed,
     open: &mut Opened,
-    job: &Job<'_>,
+    given: &CopiedBy<'_>,
     trees: &mut Trees,
     place: usize,
 ) -> Result<(), AllocError>
     requires held { StateHeld store.old typed.old open.old }
     requires within { place < length typed.old.decls }
-    requires map_held { MapHeld store.old job.now.morphism.now }
-    requires known { AreKnown (map_at store.old job.now.morphism.now) store.old trees.old }
+    requires map_held { MapHeld store.old given.now.morphism.now }
+    requires known { AreKnown (map_at store.old given.now.morphism.now) store.old trees.old }
     ensures state { OnOk result (state_at store.new typed.new open.new ≡ with_place
-        (copying_at store.old job.now) place (state_at store.old typed.old open.old)) }
+        (copying_at store.old given.now) place (state_at store.old typed.old open.old)) }
     ensures held { OnOk result (StateHeld store.new typed.new open.new) }
-    ensures known { OnOk result (AreKnown (map_at store.old job.now.morphism.now) store.new
+    ensures known { OnOk result (AreKnown (map_at store.old given.now.morphism.now) store.new
         trees.new) }
     ensures grows { Grows store.old store.new }
 {
-    if is_own(typed.decls.as_slice(), job.path, place) {
-        copy_own(alloc, store, typed, open, job, trees, place)
+    if is_own(typed.decls.as_slice(), given.path, place) {
+        copy_own(alloc, store, typed, open, given, trees, place)
     } else {
         open.join(&[place])
     }
@@ -339,23 +340,23 @@ pub fn copy_places(
     store: &mut Store,
     typed: &mut Typed,
     open: &mut Opened,
-    job: &Job<'_>,
+    given: &CopiedBy<'_>,
     trees: &mut Trees,
     places: &[usize],
 ) -> Result<(), AllocError>
     requires held { StateHeld store.old typed.old open.old }
     requires within { All (λ k. k < length typed.old.decls) places.now }
-    requires map_held { MapHeld store.old job.now.morphism.now }
-    requires known { AreKnown (map_at store.old job.now.morphism.now) store.old trees.old }
+    requires map_held { MapHeld store.old given.now.morphism.now }
+    requires known { AreKnown (map_at store.old given.now.morphism.now) store.old trees.old }
     ensures state { OnOk result (state_at store.new typed.new open.new ≡ with_places
-        (copying_at store.old job.now) places.now (state_at store.old typed.old open.old)) }
+        (copying_at store.old given.now) places.now (state_at store.old typed.old open.old)) }
     ensures held { OnOk result (StateHeld store.new typed.new open.new) }
-    ensures known { OnOk result (AreKnown (map_at store.old job.now.morphism.now) store.new
+    ensures known { OnOk result (AreKnown (map_at store.old given.now.morphism.now) store.new
         trees.new) }
     ensures grows { Grows store.old store.new }
 {
     for place in places {
-        copy_place(alloc, store, typed, open, job, trees, *place)?;
+        copy_place(alloc, store, typed, open, given, trees, *place)?;
     }
     Ok(())
 }

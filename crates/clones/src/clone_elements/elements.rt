@@ -1,5 +1,5 @@
 // The sides of elements, and the first element that is wrong.
-// They depend on right sides, on names of the theory and on plans; clones depend on them.
+// They depend on right sides, on names of the theory and on replacements; clones depend on them.
 ghost use Rattle.std.specs.Prelude.{◌≡◌, ◌++◌, ◌<◌, ◌↔◌, ℕ, List, [], None, Some, length, map, slice_get, All, IfOk, IfErr, OnOk, IsTrue, option_map, IfSome};
 ghost use Rattle.tasks.specs.trees.Tree.{Tree};
 ghost use Rattle.tasks.specs.trees.Node.{tree_at, Holds, Grows};
@@ -10,14 +10,14 @@ ghost use Rattle.clones.specs.Mapped.{mapped};
 ghost use Rattle.clones.specs.Meaning.{map_at, MapHeld, AreKnown};
 ghost use Rattle.elab_groups.specs.parts.Entries.{IsSignature};
 ghost use Rattle.clones.specs.clone_elements.Left.{symbol_at_place};
-ghost use Rattle.clones.specs.clone_elements.Plans.{with_sides, symbol_for, symbols_replaced, has_all, is_all, no_fates, kept, map_of, tried_map, fates_of, types_replaced};
+ghost use Rattle.clones.specs.clone_elements.Replacements.{with_sides, symbol_for, symbols_replaced, has_all, is_all, no_effects, kept, map_of, tried_map, effects_of, types_replaced};
 ghost use Rattle.clones.specs.clone_elements.Elements.{left_token, right_token, has_vars, is_wrong_at, is_wrong, is_kind_of_word, IsSameSignature, Replaces, IsRightSide, SideTold, SidesTold};
 ghost use Rattle.clones.specs.clone_elements.Origins.{origin_at};
-ghost use Rattle.clones.specs.clone_elements.Meaning.{right_at, side_at, sides_at, SideHeld, fates_at, type_pairs_at, symbol_pairs, TypeForHeld, TrialHeld, IsElementRefused, IsPlan};
+ghost use Rattle.clones.specs.clone_elements.Meaning.{right_at, side_at, sides_at, SideHeld, effects_at, type_pairs_at, symbol_pairs, TypeForHeld, TrialHeld, IsElementRefused, IsReplacement};
 
 use crate::clone_elements::left::ClonedTheory;
-use crate::clone_elements::plans::{
-    Fates, Side, SymbolFor, TypeFor, enter_side, kept_symbols, map_of, symbol_at_place,
+use crate::clone_elements::replacements::{
+    Effects, Side, SymbolFor, TypeFor, enter_side, kept_symbols, map_of, symbol_at_place,
     types_replaced, vars_of,
 };
 use crate::clone_elements::rights::Right;
@@ -58,10 +58,10 @@ impl<T: Drop> From<AllocFailed<T>> for ElementFault {
 
 /// What the elements of a clone replace, what becomes of the declarations that they name, and whether all other axioms stay axioms.
 #[derive(Drop)]
-pub struct Plan {
+pub struct Replacement {
     pub types: Vec<TypeFor>,
     pub symbols: Vec<SymbolFor>,
-    pub fates: Fates,
+    pub effects: Effects,
     pub all_axioms: bool,
 }
 
@@ -115,13 +115,13 @@ fn has_vars(sig: &Signature, symbol: usize, node: &ElemNode, right: Right) -> bo
 }
 
 // Whether an element that names something is refused at its left name.
-fn is_wrong_at(trial: &Trial<'_>, fates: &Fates, side: &Side<'_>) -> bool
+fn is_wrong_at(trial: &Trial<'_>, effects: &Effects, side: &Side<'_>) -> bool
     ensures { (s : List Tree) → result ≡ is_wrong_at (symbols_at s trial.now.sig.now.symbols)
-        (origin_at s trial.now.source.now) (fates_at fates.now) (element_of side.now.element.now)
-        (right_at s side.now.right) side.now.left }
+        (origin_at s trial.now.source.now) (effects_at effects.now)
+        (element_of side.now.element.now) (right_at s side.now.right) side.now.left }
 {
     match side.left {
-        Some(place) => match fates.get(&place) {
+        Some(place) => match effects.get(&place) {
             Some(_) => true,
             None => {
                 let symbol = symbol_at_place(trial.source.decls, place);
@@ -133,16 +133,16 @@ fn is_wrong_at(trial: &Trial<'_>, fates: &Fates, side: &Side<'_>) -> bool
 }
 
 // Whether an element is refused at its left name.
-fn is_wrong(trial: &Trial<'_>, fates: &Fates, side: &Side<'_>) -> bool
+fn is_wrong(trial: &Trial<'_>, effects: &Effects, side: &Side<'_>) -> bool
     ensures { (s : List Tree) → result ≡ is_wrong (symbols_at s trial.now.sig.now.symbols)
-        (origin_at s trial.now.source.now) (fates_at fates.now) (element_of side.now.element.now)
-        (right_at s side.now.right) side.now.left }
+        (origin_at s trial.now.source.now) (effects_at effects.now)
+        (element_of side.now.element.now) (right_at s side.now.right) side.now.left }
 {
     match &side.element.node {
         ElemNode::AllAxioms => false,
-        ElemNode::TypeElem(_, _, _) => is_wrong_at(trial, fates, side),
-        ElemNode::SymbolElem(_, _, _) => is_wrong_at(trial, fates, side),
-        ElemNode::PropElem(_, _) => is_wrong_at(trial, fates, side),
+        ElemNode::TypeElem(_, _, _) => is_wrong_at(trial, effects, side),
+        ElemNode::SymbolElem(_, _, _) => is_wrong_at(trial, effects, side),
+        ElemNode::PropElem(_, _) => is_wrong_at(trial, effects, side),
     }
 }
 
@@ -331,19 +331,19 @@ fn check_side(
     store: &mut Store,
     trial: &Trial<'_>,
     known: &mut MappedTrees,
-    fates: &Fates,
+    effects: &Effects,
     side: &Side<'_>,
 ) -> Result<Option<usize>, AllocError>
     requires trial { TrialHeld store.old trial.now }
     requires known { AreKnown (map_at store.old trial.now.morphism.now) store.old known.old }
     ensures told { IfOk result (SideTold (symbols_at store.old trial.now.sig.now.symbols)
         (origin_at store.old trial.now.source.now) (map_at store.old trial.now.morphism.now)
-        (fates_at fates.now) (side_at store.old side.now)) }
+        (effects_at effects.now) (side_at store.old side.now)) }
     ensures known { OnOk result (AreKnown (map_at store.old trial.now.morphism.now) store.new
         known.new) }
     ensures grows { Grows store.old store.new }
 {
-    if is_wrong(trial, fates, side) {
+    if is_wrong(trial, effects, side) {
         return Ok(Some(left_token(side.element)));
     }
     if is_right(alloc, store, trial, known, side)? {
@@ -353,13 +353,13 @@ fn check_side(
     }
 }
 
-// The token at which the first element is refused, if one is. The fates of those before it are entered.
+// The token at which the first element is refused, if one is. The effects of those before it are entered.
 fn check_sides(
     alloc: Global,
     store: &mut Store,
     trial: &Trial<'_>,
     known: &mut MappedTrees,
-    fates: &mut Fates,
+    effects: &mut Effects,
     sides: &[Side<'_>],
 ) -> Result<Option<usize>, AllocError>
     requires trial { TrialHeld store.old trial.now }
@@ -367,19 +367,19 @@ fn check_sides(
     requires sides { All (SideHeld store.old) sides.now }
     ensures told { IfOk result (SidesTold (symbols_at store.old trial.now.sig.now.symbols)
         (origin_at store.old trial.now.source.now) (map_at store.old trial.now.morphism.now)
-        (fates_at fates.old) (sides_at store.old sides.now)) }
-    ensures fates { IfOk result (λ o. o ≡ None → fates_at fates.new
-        ≡ with_sides (sides_at store.old sides.now) (fates_at fates.old)) }
+        (effects_at effects.old) (sides_at store.old sides.now)) }
+    ensures effects { IfOk result (λ o. o ≡ None → effects_at effects.new
+        ≡ with_sides (sides_at store.old sides.now) (effects_at effects.old)) }
     ensures grows { Grows store.old store.new }
 {
     let Some((first, rest)) = sides.split_first() else {
         return Ok(None);
     };
-    match check_side(alloc, store, trial, known, fates, first)? {
+    match check_side(alloc, store, trial, known, effects, first)? {
         Some(token) => Ok(Some(token)),
         None => {
-            enter_side(fates, first)?;
-            check_sides(alloc, store, trial, known, fates, rest)
+            enter_side(effects, first)?;
+            check_sides(alloc, store, trial, known, effects, rest)
         }
     }
 }
@@ -448,9 +448,9 @@ fn has_all(sides: &[Side<'_>]) -> bool
 // The symbols of all own declarations, in order.
 fn own_symbols(alloc: Global, source: &ClonedTheory<'_>) -> Result<Vec<usize>, AllocError>
     ensures { IfOk result (λ v. (s : List Tree) → v.items ≡ kept (origin_at s source.now)
-        no_fates) }
+        no_effects) }
 {
-    let none: Fates = IndexMap::new(alloc);
+    let none: Effects = IndexMap::new(alloc);
     kept_symbols(alloc, source, &none)
 }
 
@@ -465,53 +465,54 @@ fn tried_map(
     requires { All (TypeForHeld store.now) types.now }
     ensures is { IfOk result (λ m. map_at store.now m
         ≡ map_of (type_pairs_at store.now types.now) []
-        (length sig.now.symbols) (kept (origin_at store.now source.now) no_fates)) }
+        (length sig.now.symbols) (kept (origin_at store.now source.now) no_effects)) }
     ensures held { IfOk result (MapHeld store.now) }
 {
     let all = own_symbols(alloc, source)?;
     map_of(alloc, store, types, &[], sig.symbols.len(), all.as_slice())
 }
 
-// The first element that is wrong, and the fates by those before it.
+// The first element that is wrong, and the effects of those before it.
 fn find_wrong(
     alloc: Global,
     store: &mut Store,
     trial: &Trial<'_>,
-    fates: &mut Fates,
+    effects: &mut Effects,
     sides: &[Side<'_>],
 ) -> Result<Option<usize>, AllocError>
     requires trial { TrialHeld store.old trial.now }
     requires sides { All (SideHeld store.old) sides.now }
     ensures told { IfOk result (SidesTold (symbols_at store.old trial.now.sig.now.symbols)
         (origin_at store.old trial.now.source.now) (map_at store.old trial.now.morphism.now)
-        (fates_at fates.old) (sides_at store.old sides.now)) }
-    ensures fates { IfOk result (λ o. o ≡ None → fates_at fates.new
-        ≡ with_sides (sides_at store.old sides.now) (fates_at fates.old)) }
+        (effects_at effects.old) (sides_at store.old sides.now)) }
+    ensures effects { IfOk result (λ o. o ≡ None → effects_at effects.new
+        ≡ with_sides (sides_at store.old sides.now) (effects_at effects.old)) }
     ensures grows { Grows store.old store.new }
 {
     let mut known = no_trees(alloc);
-    check_sides(alloc, store, trial, &mut known, fates, sides)
+    check_sides(alloc, store, trial, &mut known, effects, sides)
 }
 
-// The fates of the declarations that elements name are entered, under a map of types, unless an element is wrong.
+// The effects of elements on what they name are entered, under a map of types, unless an element is wrong.
 fn check_elements<'a>(
     alloc: Global,
     store: &mut Store,
     sig: &'a Signature,
     source: &'a ClonedTheory<'a>,
     morphism: &'a SymbolMap,
-    fates: &mut Fates,
+    effects: &mut Effects,
     sides: &[Side<'_>],
 ) -> Result<(), ElementFault>
     requires signature { IsSignature store.old sig.now.symbols }
     requires decls { All (DeclHeld store.old) source.now.decls.now }
     requires map_held { MapHeld store.old morphism.now }
-    requires none { fates_at fates.old ≡ no_fates }
+    requires none { effects_at effects.old ≡ no_effects }
     requires sides { All (SideHeld store.old) sides.now }
     ensures right { OnOk result (SidesTold (symbols_at store.old sig.now.symbols)
-        (origin_at store.old source.now) (map_at store.old morphism.now) no_fates
+        (origin_at store.old source.now) (map_at store.old morphism.now) no_effects
         (sides_at store.old sides.now) None) }
-    ensures fates { OnOk result (fates_at fates.new ≡ fates_of (sides_at store.old sides.now)) }
+    ensures effects { OnOk result (effects_at effects.new ≡ effects_of
+        (sides_at store.old sides.now)) }
     ensures err { IfErr result (IsElementRefused (symbols_at store.old sig.now.symbols)
         (origin_at store.old source.now) (map_at store.old morphism.now)
         (sides_at store.old sides.now)) }
@@ -522,20 +523,20 @@ fn check_elements<'a>(
         source,
         morphism,
     };
-    match find_wrong(alloc, store, &trial, fates, sides)? {
+    match find_wrong(alloc, store, &trial, effects, sides)? {
         Some(token) => Err(ElementFault::BadSubstitution { token }),
         None => Ok(()),
     }
 }
 
-// The fates of the declarations that elements name are entered, with the types for type symbols, unless an element is wrong.
-fn find_fates(
+// The effects of elements on what they name are entered, with the types for type symbols, unless an element is wrong.
+fn find_effects(
     alloc: Global,
     store: &mut Store,
     sig: &Signature,
     source: &ClonedTheory<'_>,
     types: &[TypeFor],
-    fates: &mut Fates,
+    effects: &mut Effects,
     sides: &[Side<'_>],
 ) -> Result<(), ElementFault>
     requires signature { IsSignature store.old sig.now.symbols }
@@ -544,13 +545,14 @@ fn find_fates(
     requires types { type_pairs_at store.old types.now ≡ types_replaced
         (symbols_at store.old sig.now.symbols) (origin_at store.old source.now)
         (sides_at store.old sides.now) }
-    requires none { fates_at fates.old ≡ no_fates }
+    requires none { effects_at effects.old ≡ no_effects }
     requires sides { All (SideHeld store.old) sides.now }
     ensures right { OnOk result (SidesTold (symbols_at store.old sig.now.symbols)
         (origin_at store.old source.now) (tried_map (symbols_at store.old sig.now.symbols)
-        (origin_at store.old source.now) (sides_at store.old sides.now)) no_fates
+        (origin_at store.old source.now) (sides_at store.old sides.now)) no_effects
         (sides_at store.old sides.now) None) }
-    ensures fates { OnOk result (fates_at fates.new ≡ fates_of (sides_at store.old sides.now)) }
+    ensures effects { OnOk result (effects_at effects.new ≡ effects_of
+        (sides_at store.old sides.now)) }
     ensures err { IfErr result (IsElementRefused (symbols_at store.old sig.now.symbols)
         (origin_at store.old source.now) (tried_map (symbols_at store.old sig.now.symbols)
         (origin_at store.old source.now) (sides_at store.old sides.now))
@@ -558,26 +560,27 @@ fn find_fates(
     ensures grows { Grows store.old store.new }
 {
     let morphism = tried_map(alloc, store, sig, source, types)?;
-    check_elements(alloc, store, sig, source, &morphism, fates, sides)
+    check_elements(alloc, store, sig, source, &morphism, effects, sides)
 }
 
 /// What the elements of a clone replace, or the first element that is wrong. Beside that only want of memory refuses.
-pub fn make_plan(
+pub fn make_replacement(
     alloc: Global,
     store: &mut Store,
     sig: &Signature,
     source: &ClonedTheory<'_>,
     sides: &[Side<'_>],
-) -> Result<Plan, ElementFault>
+) -> Result<Replacement, ElementFault>
     requires signature { IsSignature store.old sig.now.symbols }
     requires decls { All (DeclHeld store.old) source.now.decls.now }
     requires sides { All (SideHeld store.old) sides.now }
     ensures right { OnOk result (SidesTold (symbols_at store.old sig.now.symbols)
         (origin_at store.old source.now) (tried_map (symbols_at store.old sig.now.symbols)
-        (origin_at store.old source.now) (sides_at store.old sides.now)) no_fates
+        (origin_at store.old source.now) (sides_at store.old sides.now)) no_effects
         (sides_at store.old sides.now) None) }
-    ensures plan { IfOk result (IsPlan store.new (symbols_at store.old sig.now.symbols)
-        (origin_at store.old source.now) (sides_at store.old sides.now)) }
+    ensures replacement { IfOk result (IsReplacement store.new
+        (symbols_at store.old sig.now.symbols) (origin_at store.old source.now)
+        (sides_at store.old sides.now)) }
     ensures err { IfErr result (IsElementRefused (symbols_at store.old sig.now.symbols)
         (origin_at store.old source.now) (tried_map (symbols_at store.old sig.now.symbols)
         (origin_at store.old source.now) (sides_at store.old sides.now))
@@ -587,20 +590,20 @@ pub fn make_plan(
     let types = types_replaced(alloc, sig, source, sides)?;
     let mut symbols = Vec::new(alloc);
     push_symbols(source, &mut symbols, sides)?;
-    let mut fates: Fates = IndexMap::new(alloc);
-    find_fates(
+    let mut effects: Effects = IndexMap::new(alloc);
+    find_effects(
         alloc,
         store,
         sig,
         source,
         types.as_slice(),
-        &mut fates,
+        &mut effects,
         sides,
     )?;
-    Ok(Plan {
+    Ok(Replacement {
         types,
         symbols,
-        fates,
+        effects,
         all_axioms: has_all(sides),
     })
 }

@@ -1,5 +1,5 @@
 // The right sides of elements: types and symbols.
-// They depend on the walk of names and types; the plan of a clone depends on them.
+// They depend on the walk of names and types; the replacement of a clone depends on them.
 ghost use Rattle.std.specs.Prelude.{◌≡◌, ◌++◌, ℕ, List, None, Some, false, length, map, IfOk, IfErr, OnOk, Err};
 ghost use Rattle.tasks.specs.trees.Tree.{Tree};
 ghost use Rattle.tasks.specs.trees.Node.{tree_at, Grows};

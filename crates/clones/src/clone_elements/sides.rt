@@ -1,5 +1,5 @@
 // The sides of elements, in their order.
-// They depend on right sides and on the names of the theory; plans are made of them.
+// They depend on right sides and on the names of the theory; replacements are made of them.
 ghost use Rattle.std.specs.Prelude.{◌≡◌, ◌++◌, ℕ, List, [], None, length, map, All, IfOk, IfErr, OnOk, Err};
 ghost use Rattle.tasks.specs.trees.Tree.{Tree};
 ghost use Rattle.tasks.specs.trees.Node.{Grows};
@@ -8,12 +8,12 @@ ghost use Rattle.surface.specs.SurfaceDeclarations.{element_of};
 ghost use Rattle.name_resolution.specs.Naming.{Tells, scope_at};
 ghost use Rattle.elab_groups.specs.parts.Entries.{IsSignature, IsExtended, AreScopes};
 ghost use Rattle.clones.specs.clone_elements.Rights.{rights_fault, rights_tuples};
-ghost use Rattle.clones.specs.clone_elements.Plans.{sides_made};
+ghost use Rattle.clones.specs.clone_elements.Replacements.{sides_made};
 ghost use Rattle.clones.specs.clone_elements.Origins.{place_at};
 ghost use Rattle.clones.specs.clone_elements.Meaning.{sides_at, SideHeld};
 
 use crate::clone_elements::left::LeftNames;
-use crate::clone_elements::plans::Side;
+use crate::clone_elements::replacements::Side;
 use crate::clone_elements::rights::right_side;
 use name_resolution::{NamingFault, Scope};
 use std::alloc::Global;

@@ -18,11 +18,11 @@ use Rattle.theory_states.specs.declared.states.Typed.{Typed}
 use Rattle.theory_states.specs.States.{KnownTree, StateTree}
 use Rattle.theory_states.specs.Meaning.{move_at, known_at, state_at, MoveHeld, StateHeld}
 use Rattle.theory_states.proofs.Moving.{moves_stay}
-use Rattle.clones.specs.declared.clone_elements.elements.Plan.{Plan}
+use Rattle.clones.specs.declared.clone_elements.elements.Replacement.{Replacement}
 use Rattle.clones.specs.declared.clone_elements.left.ClonedTheory.{ClonedTheory}
 use Rattle.clones.specs.clone_elements.Left.{Origin}
 use Rattle.clones.specs.clone_elements.Origins.{origin_at}
-use Rattle.clones.specs.clone_elements.Meaning.{fates_at}
+use Rattle.clones.specs.clone_elements.Meaning.{effects_at}
 use Rattle.clones.specs.clone_copies.Origins.{Axioms, origin_of}
 use Rattle.clones.specs.clone_copies.Entries.{entries_copied}
 use Rattle.clones.specs.clone_copies.Places.{Copying, with_places}
@@ -30,21 +30,21 @@ use Rattle.clones.specs.clone_copies.Moves.{moves_mapped}
 use Rattle.theories.specs.declared.cloning.copying.Renaming.{Renaming}
 use Rattle.theories.specs.declared.cloning.own.Own.{Own}
 use Rattle.theories.specs.cloning.Owned.{known_theory_at}
-use Rattle.theories.specs.cloning.Planned.{planned_kept, planned_map, planned}
-use Rattle.theories.specs.cloning.Copied.{IsRenaming, IsPlannedRenaming, IsKeptEntry, entries_made, with_made, IsCopyReady, AreContents}
+use Rattle.theories.specs.cloning.ReadElements.{kept_by, map_by, copying_by}
+use Rattle.theories.specs.cloning.Copied.{IsRenaming, IsRenamingBy, IsKeptEntry, entries_made, with_made, IsCopyReady, AreContents}
 use Rattle.theories.proofs.cloning.Stages.{theory_is, origin_is, state_tupled, held_tupled}
 
 -- the map that is made with what elements are read by
-pub planned_renaming : (s : List Tree) (t : Typed) (o : Opened) (k : ℕ) (own : Own) (plan : Plan) (within : Word) → IsCopyReady s t o k own plan within
+pub renaming_by : (s : List Tree) (t : Typed) (o : Opened) (k : ℕ) (own : Own) (replacement : Replacement) (within : Word) → IsCopyReady s t o k own replacement within
     → (source : ClonedTheory) → source.decls.now ≡ t.decls → source.own.now ≡ own.places.items → source.axioms.now ≡ own.axioms
-    → (made : Renaming) → IsRenaming s (planned_map s (symbols_at s t.sig.symbols) (origin_at s source) plan) (planned_kept (origin_at s source) plan) made → IsPlannedRenaming s t k plan made
-planned_renaming s t o k own plan within r source decls_are own_is axioms_are made m =
+    → (made : Renaming) → IsRenaming s (map_by s (symbols_at s t.sig.symbols) (origin_at s source) replacement) (kept_by (origin_at s source) replacement) made → IsRenamingBy s t k replacement made
+renaming_by s t o k own replacement within r source decls_are own_is axioms_are made m =
     let ds = declarations_at s t.decls in
     let origin : origin_at s source ≡ origin_of ds (known_theory_at s t k) = origin_is s (known_theory_at s t k) own source ds (ap (declarations_at s) decls_are) own_is axioms_are r.own in
-    subst (λ (z : Origin). IsRenaming s (planned_map s (symbols_at s t.sig.symbols) z plan) (planned_kept z plan) made) origin m
+    subst (λ (z : Origin). IsRenaming s (map_by s (symbols_at s t.sig.symbols) z replacement) (kept_by z replacement) made) origin m
 
-module _ (s : List Tree) (t : Typed) (o : Opened) (k : ℕ) (own : Own) (plan : Plan) (within : Word) (r : IsCopyReady s t o k own plan within)
-    (made : Renaming) (m : IsPlannedRenaming s t k plan made)
+module _ (s : List Tree) (t : Typed) (o : Opened) (k : ℕ) (own : Own) (replacement : Replacement) (within : Word) (r : IsCopyReady s t o k own replacement within)
+    (made : Renaming) (m : IsRenamingBy s t k replacement made)
     (known : KnownTheory) (is : known ≡ get_or t.known k known) where
   abbrev c : StateTree
   c = state_at s t o
@@ -53,7 +53,7 @@ module _ (s : List Tree) (t : Typed) (o : Opened) (k : ℕ) (own : Own) (plan : 
   theory = known_theory_at s t k
 
   abbrev x : Copying
-  x = planned s c theory plan within
+  x = copying_by s c theory replacement within
 
   here : theory ≡ known_at s known
   here = theory_is s t k known r.there is
@@ -61,7 +61,7 @@ module _ (s : List Tree) (t : Typed) (o : Opened) (k : ℕ) (own : Own) (plan : 
   map_is : map_at s made.morphism ≡ x.mapping
   map_is = m.is
 
-  symbols_are : made.symbols.items ≡ planned_kept (origin_of c.decls theory) plan
+  symbols_are : made.symbols.items ≡ kept_by (origin_of c.decls theory) replacement
   symbols_are = m.symbols
 
   pub moves_are_held : All (MoveHeld s) known.moves
@@ -94,19 +94,19 @@ module _ (s : List Tree) (t : Typed) (o : Opened) (k : ℕ) (own : Own) (plan : 
       state_made : state_at s1 t1 o ≡ with_made theory x c
       state_made = state_tupled s s1 w t o r.held g copies ext ∙ ap (λ (es : List SymbolTree). let it : StateTree = record c { symbols = c.symbols ++ es } in it) copies_are
 
-      -- what the job of the copies stands for
-      abbrev job : Word → Copying
-      job place = record { path = place; axioms = get nat_eq own.axioms; fates = fates_at plan.fates; all = plan.all_axioms; mapping = map_at s1 made.morphism; within = within }
+      -- what the copies are given stands for
+      abbrev given : Word → Copying
+      given place = record { path = place; axioms = get nat_eq own.axioms; effects = effects_at replacement.effects; all = replacement.all_axioms; mapping = map_at s1 made.morphism; within = within }
 
       module _ (place : Word) (place_is : place ≡ own.path) where
-        copying_is : job place ≡ x
+        copying_is : given place ≡ x
         copying_is =
-            let mk : Word → Axioms → Map → Copying = λ a b f. record { path = a; axioms = b; fates = fates_at plan.fates; all = plan.all_axioms; mapping = f; within = within } in
+            let mk : Word → Axioms → Map → Copying = λ a b f. record { path = a; axioms = b; effects = effects_at replacement.effects; all = replacement.all_axioms; mapping = f; within = within } in
             let place_there : place ≡ theory.path = place_is ∙ r.own.path in
             let map_there : map_at s1 made.morphism ≡ x.mapping = map_stays s s1 w made.morphism m.held ∙ map_is in
             λ i. mk (place_there i) (r.own.axioms i) (map_there i)
 
-        module _ (places : List ℕ) (places_are : places ≡ own.visible) (s2 : List Tree) (w2 : Grows s1 s2) (t2 : Typed) (o2 : Opened) (state : state_at s2 t2 o2 ≡ with_places (job place) places (state_at s1 t1 o))
+        module _ (places : List ℕ) (places_are : places ≡ own.visible) (s2 : List Tree) (w2 : Grows s1 s2) (t2 : Typed) (o2 : Opened) (state : state_at s2 t2 o2 ≡ with_places (given place) places (state_at s1 t1 o))
             (old new : List (Move ℕ)) (old_are : old ≡ known.moves) (held : All (MoveHeld s1) new) (mapped : map (move_at s1) new ≡ moves_mapped c.symbols (map_at s made.morphism) (map (move_at s) old)) where
           pub contents : AreContents theory x (map (move_at s2) new) c (state_at s2 t2 o2)
           contents =

@@ -5,7 +5,7 @@ use Rattle.surface.specs.Lexeme.{Word}
 use Rattle.surface.specs.declared.declarations.PropKind.{PropKind}
 use Rattle.surface.specs.declared.declarations.PropKind.TheVariants as kind
 use Rattle.theory_states.specs.States.{StateTree}
-use Rattle.clones.specs.clone_elements.Plans.{is_replaced, kind_or}
+use Rattle.clones.specs.clone_elements.Replacements.{is_replaced, kind_or}
 use Rattle.clones.specs.clone_copies.Origins.{is_own}
 use Rattle.clones.specs.clone_copies.Places.{Copying, goal_with, with_kind, with_copy, copy_of, with_own, with_joined, with_place, with_places}
 
@@ -25,7 +25,7 @@ kind_number kind.Goal vars d c = goal_number vars d.name d.body c
 module _ (x : Copying) where
   copy_number : (k : ℕ) (o : Option (List Word)) (d : DeclarationTree) (c : StateTree) → (with_copy x k o d c).number ≡ c.number
   copy_number k None d c = refl
-  copy_number k (Some vars) d c = kind_number (kind_or (x.fates k) x.all) vars d c
+  copy_number k (Some vars) d c = kind_number (kind_or (x.effects k) x.all) vars d c
 
   either : (b : Bool) (y z c : StateTree) → y.number ≡ c.number → z.number ≡ c.number → (if b then y else z).number ≡ c.number
   either true y z c p q = p
@@ -34,7 +34,7 @@ module _ (x : Copying) where
   place_number : (k : ℕ) (c : StateTree) → (with_place x k c).number ≡ c.number
   place_number k c =
       either (is_own c.decls x.path k) (with_own x k c) (with_joined k c) c
-      (either (is_replaced (x.fates k)) c (with_copy x k (x.axioms k) (copy_of x c k) c) c refl (copy_number k (x.axioms k) (copy_of x c k) c)) refl
+      (either (is_replaced (x.effects k)) c (with_copy x k (x.axioms k) (copy_of x c k) c) c refl (copy_number k (x.axioms k) (copy_of x c k) c)) refl
 
   pub number_stays : (ks : List ℕ) (c : StateTree) → (with_places x ks c).number ≡ c.number
   number_stays [] c = refl

@@ -12,7 +12,7 @@ use Rattle.theory_states.specs.Uses.{path_text, OrMemory}
 use Rattle.clones.specs.clone_elements.Rights.{all_variables_fault}
 use Rattle.clones.specs.clone_copies.Origins.{origin_of}
 use Rattle.theories.specs.cloning.Cloned.{naming, IsNamesFault, IsCloneFault, of_clone_names, of_elements}
-use Rattle.theories.specs.cloning.Planned.{IsElementsFault, in_names, in_elements}
+use Rattle.theories.specs.cloning.ReadElements.{IsElementsFault, in_names, in_elements}
 
 pub names_fault : (number : ℕ) (g : NamingFault) (o : Option NamingFault) → Tells (Err g) o → OrMemory (IsNamesFault number o) (naming number g)
 names_fault number names.Memory o h = tt

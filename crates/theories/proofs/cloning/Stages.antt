@@ -24,18 +24,18 @@ use Rattle.theory_states.specs.States.{KnownTree, StateTree}
 use Rattle.theory_states.specs.Meaning.{move_at, known_at, opened_at, state_at, NamesHeld, MoveHeld, OpenedHeld, StateHeld}
 use Rattle.theory_states.proofs.Growing.{state_stays, state_grows, all_known_stay}
 use Rattle.theory_states.proofs.Moving.{brought_with, handed_with, brought_held, handed_held}
-use Rattle.clones.specs.declared.clone_elements.elements.Plan.{Plan}
+use Rattle.clones.specs.declared.clone_elements.elements.Replacement.{Replacement}
 use Rattle.clones.specs.declared.clone_elements.left.ClonedTheory.{ClonedTheory}
 use Rattle.clones.specs.clone_elements.Left.{Origin}
-use Rattle.clones.specs.clone_elements.Plans.{kept, map_of}
+use Rattle.clones.specs.clone_elements.Replacements.{kept, map_of}
 use Rattle.clones.specs.clone_elements.Origins.{origin_at}
-use Rattle.clones.specs.clone_elements.Meaning.{IsPlan}
+use Rattle.clones.specs.clone_elements.Meaning.{IsReplacement}
 use Rattle.clones.specs.clone_copies.Origins.{Axioms, axioms_at, origin_of}
 use Rattle.clones.specs.clone_copies.Places.{Copying}
 use Rattle.theories.specs.declared.cloning.own.Own.{Own}
 use Rattle.theories.specs.cloning.Cloned.{symbols_tupled, sides_in, copying_in, with_names}
 use Rattle.theories.specs.cloning.Owned.{IsOwnOf, no_theory, known_theory_at}
-use Rattle.theories.specs.cloning.Planned.{planned}
+use Rattle.theories.specs.cloning.ReadElements.{copying_by}
 use Rattle.theories.specs.cloning.Copied.{AreContents, with_theory}
 
 -- ---- the theory at a place
@@ -63,16 +63,16 @@ module _ (s s1 : List Tree) (w : Grows s s1) (t : Typed) (o : Opened) (h : State
   pub theory_tupled : (k : ℕ) → known_theory_at s1 (record t { sig = g }) k ≡ known_theory_at s t k
   theory_tupled k = ap (λ (ks : List KnownTree). get_or ks k no_theory) (all_known_stay s s1 w (length t.decls) t.known h.typed.known)
 
--- ---- a plan
-pub planned_is : (s : List Tree) (c : StateTree) (t : KnownTree) (es : List Element) (p : Plan) (within : Word) → IsPlan s (symbols_tupled c es) (origin_of c.decls t) (sides_in c t es) p → planned s (record c { symbols = symbols_tupled c es }) t p within ≡ copying_in c t es within
-planned_is s c t es p within h =
+-- ---- a replacement
+pub copying_is_by : (s : List Tree) (c : StateTree) (t : KnownTree) (es : List Element) (p : Replacement) (within : Word) → IsReplacement s (symbols_tupled c es) (origin_of c.decls t) (sides_in c t es) p → copying_by s (record c { symbols = symbols_tupled c es }) t p within ≡ copying_in c t es within
+copying_is_by s c t es p within h =
     let o = origin_of c.decls t in
     λ i. record {
       path = t.path;
       axioms = axioms_at t.axioms;
-      fates = h.fates i;
+      effects = h.effects i;
       all = h.all i;
-      mapping = map_of (h.types i) (h.symbols i) (length (symbols_tupled c es)) (kept o (h.fates i));
+      mapping = map_of (h.types i) (h.symbols i) (length (symbols_tupled c es)) (kept o (h.effects i));
       within = within;
     }
 

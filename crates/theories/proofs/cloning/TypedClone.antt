@@ -37,7 +37,7 @@ use Rattle.elaboration_laws.specs.TypedStates.{state_setting, IsTypedState}
 use Rattle.elaboration_laws.proofs.Keeping.{renamed_typed}
 use Rattle.clones.specs.clone_elements.Left.{Origin, last_place}
 use Rattle.clones.specs.clone_elements.Rights.{rights_tuples}
-use Rattle.clones.specs.clone_elements.Plans.{symbols_replaced, types_replaced, fates_of, kept, kind_or, is_replaced}
+use Rattle.clones.specs.clone_elements.Replacements.{symbols_replaced, types_replaced, effects_of, kept, kind_or, is_replaced}
 use Rattle.clones.specs.clone_copies.Origins.{origin_of, is_own}
 use Rattle.clones.specs.clone_copies.Moves.{moves_mapped}
 use Rattle.clones.specs.clone_copies.Places.{Copying, with_copied_axiom, goal_with, with_copied_goal, with_kind, with_copy, copy_of, with_joined, with_own, with_place, with_places}
@@ -117,7 +117,7 @@ module _ (ms : List MoveTree) where
 
   copy_kept : (x : Copying) (k : ℕ) (o : Option (List Word)) (d : DeclarationTree) (c : StateTree) → Kept c → Kept (with_copy x k o d c)
   copy_kept x k None d c h = declaration_kept d c h
-  copy_kept x k (Some vars) d c h = kind_kept (kind_or (x.fates k) x.all) vars d c h
+  copy_kept x k (Some vars) d c h = kind_kept (kind_or (x.effects k) x.all) vars d c h
 
   joined_kept : (k : ℕ) (c : StateTree) → Kept c → Kept (with_joined k c)
   joined_kept k c h = let e = with_joined k c in others_kept c e.decls e.opened.visible e.opened.axioms e.opened.goals h
@@ -128,7 +128,7 @@ module _ (ms : List MoveTree) where
 
   place_kept : (x : Copying) (k : ℕ) (c : StateTree) → Kept c → Kept (with_place x k c)
   place_kept x k c h =
-      let own = either (is_replaced (x.fates k)) c (with_copy x k (x.axioms k) (copy_of x c k) c) h (copy_kept x k (x.axioms k) (copy_of x c k) c h) in
+      let own = either (is_replaced (x.effects k)) c (with_copy x k (x.axioms k) (copy_of x c k) c) h (copy_kept x k (x.axioms k) (copy_of x c k) c h) in
       either (is_own c.decls x.path k) (with_own x k c) (with_joined k c) own (joined_kept k c h)
 
   places_kept : (x : Copying) (ks : List ℕ) (c : StateTree) → Kept c → Kept (with_places x ks c)
@@ -150,7 +150,7 @@ module _ (l : Link) (p : Path) (alias : Option Name) (es : List Element) (c c' :
   m = map_in c h.theory es
 
   abbrev ks : List ℕ
-  ks = kept o (fates_of (sides_in c h.theory es))
+  ks = kept o (effects_of (sides_in c h.theory es))
 
   abbrev copies : List SymbolTree
   copies = copies_made (state_setting c) o es c.opened.path within

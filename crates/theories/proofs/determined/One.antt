@@ -15,7 +15,7 @@ use Rattle.elaboration_laws.specs.elab_groups.declared.parts.ElabFault.TheVarian
 use Rattle.elaboration_laws.specs.elab_groups.parts.Declarations.{Declaration, declaration}
 use Rattle.elaboration_laws.specs.theory_states.goal_tasks.Theories.{TheoriesTree}
 use Rattle.elaboration_laws.specs.clones.clone_elements.Rights.{all_variables_fault}
-use Rattle.elaboration_laws.specs.clones.clone_elements.Plans.{no_fates, tried_map}
+use Rattle.elaboration_laws.specs.clones.clone_elements.Replacements.{no_effects, tried_map}
 use Rattle.theories.specs.declared.side_conditions.sides.SideFault.{SideFault}
 use Rattle.theories.specs.declared.side_conditions.sides.SideFault.TheVariants as side
 use Rattle.theories.specs.side_conditions.Sides.{IsSideFault, bodies}
@@ -181,7 +181,7 @@ module _ (p : Path) (es : List Element) where
 
     elements_once : (x y : Option ℕ) → AreTold c k es x → AreTold c j es y → x ≡ y
     elements_once x y a b =
-        told_once (symbols_tupled c es) (origin_of c.decls k) (tried_map (symbols_tupled c es) (origin_of c.decls k) (sides_in c k es)) no_fates (sides_in c k es) x y a (told_there y b)
+        told_once (symbols_tupled c es) (origin_of c.decls k) (tried_map (symbols_tupled c es) (origin_of c.decls k) (sides_in c k es)) no_effects (sides_in c k es) x y a (told_there y b)
 
   module _ (l : Link) (alias : Option Name) where
     cloned_same : GoesOnce (IsCloned l p alias es)

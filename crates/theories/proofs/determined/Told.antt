@@ -3,7 +3,7 @@ use Rattle.std.proofs.Common.{◌≡◌, ℕ, Bool, true, false, List, [], ◌�
 use Rattle.tasks.specs.Task.{SymbolTree}
 use Rattle.elaboration_laws.specs.clones.Mapped.{Map}
 use Rattle.elaboration_laws.specs.clones.clone_elements.Left.{Origin}
-use Rattle.elaboration_laws.specs.clones.clone_elements.Plans.{SideTree, PlacedFates, with_side}
+use Rattle.elaboration_laws.specs.clones.clone_elements.Replacements.{SideTree, PlacedEffects, with_side}
 use Rattle.elaboration_laws.specs.clones.clone_elements.Elements.{is_wrong, left_token, right_token, IsRightSide, IsRefusedAt, SideTold, SidesTold}
 
 wrong_or : (b : Bool) (token left right : ℕ) (Right : Type 0) → b ≡ false → Right → IsRefusedAt b token left right Right → ⊥
@@ -15,14 +15,14 @@ one_token true i j left right Right h k = h ∙ sym k
 one_token false i j left right Right h k = h.0 ∙ sym k.0
 
 module _ (symbols : List SymbolTree) (o : Origin) (m : Map) where
-  side_or : (fates : PlacedFates) (x : SideTree) (token : ℕ) → SideTold symbols o m fates x None → SideTold symbols o m fates x (Some token) → ⊥
-  side_or fates x token h k =
-      wrong_or (is_wrong symbols o fates x.element x.right x.left) token (left_token x.element) (right_token x.element) (IsRightSide symbols o m x.element x.left x.right) h.0 h.1 k
+  side_or : (effects : PlacedEffects) (x : SideTree) (token : ℕ) → SideTold symbols o m effects x None → SideTold symbols o m effects x (Some token) → ⊥
+  side_or effects x token h k =
+      wrong_or (is_wrong symbols o effects x.element x.right x.left) token (left_token x.element) (right_token x.element) (IsRightSide symbols o m x.element x.left x.right) h.0 h.1 k
 
-  pub told_once : (fates : PlacedFates) (xs : List SideTree) (a b : Option ℕ) → SidesTold symbols o m fates xs a → SidesTold symbols o m fates xs b → a ≡ b
-  told_once fates [] a b h k = h ∙ sym k
-  told_once fates (x ∷ xs) a b (inl h) (inl k) = told_once (with_side x fates) xs a b h.1 k.1
-  told_once fates (x ∷ xs) a b (inl h) (inr k) = absurd (side_or fates x k.0 h.0 k.2)
-  told_once fates (x ∷ xs) a b (inr h) (inl k) = absurd (side_or fates x h.0 k.0 h.2)
-  told_once fates (x ∷ xs) a b (inr h) (inr k) =
-      h.1 ∙ ap (λ (i : ℕ). Some i) (one_token (is_wrong symbols o fates x.element x.right x.left) h.0 k.0 (left_token x.element) (right_token x.element) (IsRightSide symbols o m x.element x.left x.right) h.2 k.2) ∙ sym k.1
+  pub told_once : (effects : PlacedEffects) (xs : List SideTree) (a b : Option ℕ) → SidesTold symbols o m effects xs a → SidesTold symbols o m effects xs b → a ≡ b
+  told_once effects [] a b h k = h ∙ sym k
+  told_once effects (x ∷ xs) a b (inl h) (inl k) = told_once (with_side x effects) xs a b h.1 k.1
+  told_once effects (x ∷ xs) a b (inl h) (inr k) = absurd (side_or effects x k.0 h.0 k.2)
+  told_once effects (x ∷ xs) a b (inr h) (inl k) = absurd (side_or effects x h.0 k.0 h.2)
+  told_once effects (x ∷ xs) a b (inr h) (inr k) =
+      h.1 ∙ ap (λ (i : ℕ). Some i) (one_token (is_wrong symbols o effects x.element x.right x.left) h.0 k.0 (left_token x.element) (right_token x.element) (IsRightSide symbols o m x.element x.left x.right) h.2 k.2) ∙ sym k.1

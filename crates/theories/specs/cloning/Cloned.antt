@@ -20,7 +20,7 @@ use Rattle.theory_states.specs.States.{KnownTree, StateTree, known_named}
 use Rattle.theory_states.specs.Uses.{path_text, last_part, alias_text, IsUnknownTheory}
 use Rattle.clones.specs.clone_elements.Left.{Origin, last_place}
 use Rattle.clones.specs.clone_elements.Rights.{all_variables_fault, rights_fault, rights_tuples}
-use Rattle.clones.specs.clone_elements.Plans.{SideTree, sides_made, fates_of, has_all, no_fates, kept, clone_map, tried_map}
+use Rattle.clones.specs.clone_elements.Replacements.{SideTree, sides_made, effects_of, has_all, no_effects, kept, clone_map, tried_map}
 use Rattle.clones.specs.clone_elements.Elements.{SidesTold}
 use Rattle.clones.specs.clone_copies.Origins.{axioms_at, origin_of}
 use Rattle.clones.specs.clone_copies.Entries.{entries_copied}
@@ -47,7 +47,8 @@ map_in c t es = clone_map (symbols_tupled c es) (origin_of c.decls t) (sides_in 
 
 -- the elements are right, or are refused at a token
 abbrev pub AreTold : StateTree → KnownTree → List Element → Option ℕ → Type 0
-AreTold c t es o = SidesTold (symbols_tupled c es) (origin_of c.decls t) (tried_in c t es) no_fates
+AreTold c t es o =
+    SidesTold (symbols_tupled c es) (origin_of c.decls t) (tried_in c t es) no_effects
     (sides_in c t es) o
 
 -- ---- the clone
@@ -61,7 +62,7 @@ abbrev pub copying_in : StateTree → KnownTree → List Element → Word → Co
 copying_in c t es within = record {
   path = t.path;
   axioms = axioms_at t.axioms;
-  fates = fates_of (sides_in c t es);
+  effects = effects_of (sides_in c t es);
   all = has_all (sides_in c t es);
   mapping = map_in c t es;
   within = within;
@@ -72,7 +73,7 @@ abbrev pub with_copied_entries : StateTree → KnownTree → List Element → Wo
 with_copied_entries c t es within = record c {
   symbols = symbols_tupled c es
       ++ entries_copied (symbols_tupled c es) (map_in c t es) c.opened.path within
-      (kept (origin_of c.decls t) (fates_of (sides_in c t es)));
+      (kept (origin_of c.decls t) (effects_of (sides_in c t es)));
 }
 
 -- names come into scopes as by `use`
@@ -117,7 +118,7 @@ pub record IsNamesFault (number : ℕ) (found : Option NamingFault) (f : SourceF
 pub record IsElementFault (number : ℕ) (symbols : List SymbolTree) (o : Origin) (xs : List SideTree)
     (f : SourceFault) : Type 0 where
   pub token : ℕ
-  pub told : SidesTold symbols o (tried_map symbols o xs) no_fates xs (Some token)
+  pub told : SidesTold symbols o (tried_map symbols o xs) no_effects xs (Some token)
   pub is : f ≡ fault.BadSubstitution number token
 
 pub data IsCloneFault (p : Path) (es : List Element) (c : StateTree)

@@ -16,8 +16,8 @@ use Rattle.theory_states.specs.declared.states.Opened.{Opened}
 use Rattle.theory_states.specs.declared.states.Typed.{Typed}
 use Rattle.theory_states.specs.States.{KnownTree, StateTree}
 use Rattle.theory_states.specs.Meaning.{state_at, StateHeld}
-use Rattle.clones.specs.declared.clone_elements.elements.Plan.{Plan}
-use Rattle.clones.specs.clone_elements.Plans.{kept}
+use Rattle.clones.specs.declared.clone_elements.elements.Replacement.{Replacement}
+use Rattle.clones.specs.clone_elements.Replacements.{kept}
 use Rattle.clones.specs.clone_elements.Meaning.{TypeForHeld}
 use Rattle.clones.specs.clone_copies.Origins.{origin_of}
 use Rattle.clones.specs.clone_copies.Entries.{entries_copied}
@@ -27,7 +27,7 @@ use Rattle.theories.specs.declared.cloning.copying.Renaming.{Renaming}
 use Rattle.theories.specs.declared.cloning.own.Own.{Own}
 use Rattle.theories.specs.cloning.Cloned.{with_names}
 use Rattle.theories.specs.cloning.Owned.{IsOwnOf, known_theory_at}
-use Rattle.theories.specs.cloning.Planned.{planned_kept, planned_map, planned}
+use Rattle.theories.specs.cloning.ReadElements.{kept_by, map_by, copying_by}
 
 -- the map of a clone, and the symbols that become new ones, in order
 pub record IsRenaming (s : List Tree) (m : Map) (ks : List ℕ) (r : Renaming) : Type 0 where
@@ -36,11 +36,11 @@ pub record IsRenaming (s : List Tree) (m : Map) (ks : List ℕ) (r : Renaming) :
   pub symbols : r.symbols.items ≡ ks
 
 -- the map by which elements replace what a theory has, of the theory at a place
-abbrev pub IsPlannedRenaming : List Tree → Typed → ℕ → Plan → Renaming → Type 0
-IsPlannedRenaming s t k p =
-    IsRenaming s (planned_map s (symbols_at s t.sig.symbols)
+abbrev pub IsRenamingBy : List Tree → Typed → ℕ → Replacement → Renaming → Type 0
+IsRenamingBy s t k p =
+    IsRenaming s (map_by s (symbols_at s t.sig.symbols)
     (origin_of (declarations_at s t.decls) (known_theory_at s t k)) p)
-    (planned_kept (origin_of (declarations_at s t.decls) (known_theory_at s t k)) p)
+    (kept_by (origin_of (declarations_at s t.decls) (known_theory_at s t k)) p)
 
 -- ---- entries as a signature keeps them
 -- the types of an entry are types
@@ -56,7 +56,7 @@ pub record IsKeptEntry (e : SymbolTree) : Type 0 where
 -- ---- the copies
 abbrev pub entries_made : KnownTree → Copying → StateTree → List SymbolTree
 entries_made t x c =
-    entries_copied c.symbols x.mapping c.opened.path x.within (kept (origin_of c.decls t) x.fates)
+    entries_copied c.symbols x.mapping c.opened.path x.within (kept (origin_of c.decls t) x.effects)
 
 -- with their entries, and with all of them
 abbrev pub with_made : KnownTree → Copying → StateTree → StateTree
@@ -66,14 +66,14 @@ abbrev pub with_theory_copies : KnownTree → Copying → StateTree → StateTre
 with_theory_copies t x c = with_places x t.visible (with_made t x c)
 
 -- a theory can be copied by what elements replace
-pub record IsCopyReady (s : List Tree) (t : Typed) (o : Opened) (k : ℕ) (it : Own) (p : Plan)
+pub record IsCopyReady (s : List Tree) (t : Typed) (o : Opened) (k : ℕ) (it : Own) (p : Replacement)
     (within : Word) : Type 0 where
   pub held : StateHeld s t o
   pub there : k < length t.known
   pub own : IsOwnOf (declarations_at s t.decls) (known_theory_at s t k) it
   pub types : All (TypeForHeld s) p.types.items
   pub kept : All IsKeptEntry (entries_made (known_theory_at s t k)
-      (planned s (state_at s t o) (known_theory_at s t k) p within) (state_at s t o))
+      (copying_by s (state_at s t o) (known_theory_at s t k) p within) (state_at s t o))
 
 -- its contents are copied, and these names are passed on
 pub record AreContents (t : KnownTree) (x : Copying) (moves : List MoveTree)

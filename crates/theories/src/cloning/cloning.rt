@@ -14,7 +14,7 @@ ghost use Rattle.theories.specs.cloning.Owned.{known_theory_at};
 
 use crate::cloning::copying::copy_theory;
 use crate::cloning::own::{own_of, source_of};
-use crate::cloning::reading::{naming, plan_elements};
+use crate::cloning::reading::{naming, read_elements};
 use clones::clone_elements::check_variables;
 use std::alloc::Global;
 use surface::{ElemTree, Link, Name, Path};
@@ -22,7 +22,7 @@ use tasks::Store;
 use theory_states::{Opened, SourceFault, Typed, alias_text, find_theory, last_part};
 
 // The theory at a place is cloned, or the first fault of the clone but for type variables that occur twice. What the elements
-// replace is planned first, element by element, since an element may name what an earlier one replaced: in `with type t = int,
+// replace is read first, element by element, since an element may name what an earlier one replaced: in `with type t = int,
 // function f = abs` the types of `f` and of `abs` are compared where `t` is `int` already.
 fn clone_known(
     alloc: Global,
@@ -52,7 +52,7 @@ fn clone_known(
     let known = &typed.known.as_slice()[theory];
     let own = own_of(alloc, typed.decls.as_slice(), known)?;
     let source = source_of(typed.decls.as_slice(), &own);
-    let plan = plan_elements(
+    let replacement = read_elements(
         alloc,
         store,
         &mut typed.sig,
@@ -68,7 +68,7 @@ fn clone_known(
         open,
         theory,
         &own,
-        &plan,
+        &replacement,
         link,
         last_part(path),
         alias_text(alias),

@@ -13,14 +13,14 @@ ghost use Rattle.clones.specs.clone_copies.Entries.{entries_copied};
 ghost use Rattle.clones.specs.clone_copies.Moves.{moves_mapped};
 ghost use Rattle.theories.specs.cloning.Cloned.{within_of};
 ghost use Rattle.theories.specs.cloning.Owned.{known_theory_at};
-ghost use Rattle.theories.specs.cloning.Planned.{planned_kept, planned_map, planned};
-ghost use Rattle.theories.specs.cloning.Copied.{IsRenaming, IsPlannedRenaming, IsKeptEntry, IsCopyReady, AreContents, with_theory};
+ghost use Rattle.theories.specs.cloning.ReadElements.{kept_by, map_by, copying_by};
+ghost use Rattle.theories.specs.cloning.Copied.{IsRenaming, IsRenamingBy, IsKeptEntry, IsCopyReady, AreContents, with_theory};
 
 use crate::cloning::own::{Own, source_of, within_of};
 use clones::clone_copies::{
-    Job, MappedTrees as Trees, SymbolMap, copy_places, map_moves, no_trees, push_entries,
+    CopiedBy, MappedTrees as Trees, SymbolMap, copy_places, map_moves, no_trees, push_entries,
 };
-use clones::clone_elements::{ClonedTheory, Plan, kept_symbols, map_of};
+use clones::clone_elements::{ClonedTheory, Replacement, kept_symbols, map_of};
 use std::alloc::{AllocError, Global};
 use surface::Link;
 use tasks::{Signature, Store};
@@ -39,20 +39,20 @@ fn rename(
     store: &Store,
     sig: &Signature,
     source: &ClonedTheory<'_>,
-    plan: &Plan,
+    replacement: &Replacement,
 ) -> Result<Renaming, AllocError>
-    requires { All (TypeForHeld store.now) plan.now.types.items }
-    ensures { IfOk result (IsRenaming store.now (planned_map store.now
-        (symbols_at store.now sig.now.symbols) (origin_at store.now source.now) plan.now)
-        (planned_kept (origin_at store.now source.now) plan.now)) }
+    requires { All (TypeForHeld store.now) replacement.now.types.items }
+    ensures { IfOk result (IsRenaming store.now (map_by store.now
+        (symbols_at store.now sig.now.symbols) (origin_at store.now source.now) replacement.now)
+        (kept_by (origin_at store.now source.now) replacement.now)) }
 {
-    let symbols = kept_symbols(alloc, source, &plan.fates)?;
+    let symbols = kept_symbols(alloc, source, &replacement.effects)?;
     let first = sig.symbols.len();
     let morphism = map_of(
         alloc,
         store,
-        plan.types.as_slice(),
-        plan.symbols.as_slice(),
+        replacement.types.as_slice(),
+        replacement.symbols.as_slice(),
         first,
         symbols.as_slice(),
     )?;
@@ -112,17 +112,18 @@ fn copy_renamed(
     open: &mut Opened,
     theory: usize,
     own: &Own,
-    plan: &Plan,
+    replacement: &Replacement,
     within: &[u8],
     made: &Renaming,
     trees: &mut Trees,
 ) -> Result<Vec<Move<usize>>, AllocError>
-    requires ready { IsCopyReady store.old typed.old open.old theory own.now plan.now within.now }
-    requires made { IsPlannedRenaming store.old typed.old theory plan.now made.now }
+    requires ready { IsCopyReady store.old typed.old open.old theory own.now replacement.now
+        within.now }
+    requires made { IsRenamingBy store.old typed.old theory replacement.now made.now }
     requires known { AreKnown (map_at store.old made.now.morphism) store.old trees.old }
     ensures copies { IfOk result (λ v. AreContents (known_theory_at store.old typed.old theory)
-        (planned store.old (state_at store.old typed.old open.old)
-        (known_theory_at store.old typed.old theory) plan.now within.now)
+        (copying_by store.old (state_at store.old typed.old open.old)
+        (known_theory_at store.old typed.old theory) replacement.now within.now)
         (map (move_at store.new) v.items) (state_at store.old typed.old open.old)
         (state_at store.new typed.new open.new)) }
     ensures moves_held { IfOk result (λ v. All (MoveHeld store.new) v.items) }
@@ -140,10 +141,10 @@ fn copy_renamed(
         open.path.as_slice(),
         within,
     )?;
-    let job = Job {
+    let given = CopiedBy {
         path: own.path.as_slice(),
         axioms: &own.axioms,
-        plan,
+        replacement,
         morphism: &made.morphism,
         within,
     };
@@ -152,7 +153,7 @@ fn copy_renamed(
         store,
         typed,
         open,
-        &job,
+        &given,
         trees,
         own.visible.as_slice(),
     )?;
@@ -167,13 +168,13 @@ fn copy_contents(
     open: &mut Opened,
     theory: usize,
     own: &Own,
-    plan: &Plan,
+    replacement: &Replacement,
     within: &[u8],
 ) -> Result<Vec<Move<usize>>, AllocError>
-    requires { IsCopyReady store.old typed.old open.old theory own.now plan.now within.now }
+    requires { IsCopyReady store.old typed.old open.old theory own.now replacement.now within.now }
     ensures copies { IfOk result (λ v. AreContents (known_theory_at store.old typed.old theory)
-        (planned store.old (state_at store.old typed.old open.old)
-        (known_theory_at store.old typed.old theory) plan.now within.now)
+        (copying_by store.old (state_at store.old typed.old open.old)
+        (known_theory_at store.old typed.old theory) replacement.now within.now)
         (map (move_at store.new) v.items) (state_at store.old typed.old open.old)
         (state_at store.new typed.new open.new)) }
     ensures moves_held { IfOk result (λ v. All (MoveHeld store.new) v.items) }
@@ -181,10 +182,19 @@ fn copy_contents(
     ensures grows { Grows store.old store.new }
 {
     let source = source_of(typed.decls.as_slice(), own);
-    let made = rename(alloc, store, &typed.sig, &source, plan)?;
+    let made = rename(alloc, store, &typed.sig, &source, replacement)?;
     let mut trees = no_trees(alloc);
     copy_renamed(
-        alloc, store, typed, open, theory, own, plan, within, &made, &mut trees,
+        alloc,
+        store,
+        typed,
+        open,
+        theory,
+        own,
+        replacement,
+        within,
+        &made,
+        &mut trees,
     )
 }
 
@@ -196,17 +206,18 @@ pub(crate) fn copy_theory(
     open: &mut Opened,
     theory: usize,
     own: &Own,
-    plan: &Plan,
+    replacement: &Replacement,
     link: Link,
     last: &[u8],
     alias: Option<&[u8]>,
 ) -> Result<(), AllocError>
-    requires { IsCopyReady store.old typed.old open.old theory own.now plan.now
+    requires { IsCopyReady store.old typed.old open.old theory own.now replacement.now
         (within_of link last.now (option_copied alias) open.old.within.items) }
     ensures copied { OnOk result (state_at store.new typed.new open.new ≡ with_theory link last.now
-        (option_copied alias.entry) (known_theory_at store.old typed.old theory) (planned store.old
-        (state_at store.old typed.old open.old) (known_theory_at store.old typed.old theory)
-        plan.now (within_of link last.now (option_copied alias.entry) open.old.within.items))
+        (option_copied alias.entry) (known_theory_at store.old typed.old theory) (copying_by
+        store.old (state_at store.old typed.old open.old)
+        (known_theory_at store.old typed.old theory) replacement.now
+        (within_of link last.now (option_copied alias.entry) open.old.within.items))
         (state_at store.old typed.old open.old)) }
     ensures held { OnOk result (StateHeld store.new typed.new open.new) }
     ensures grows { Grows store.old store.new }
@@ -219,7 +230,7 @@ pub(crate) fn copy_theory(
         open,
         theory,
         own,
-        plan,
+        replacement,
         within.as_slice(),
     )?;
     bring_names(open, moves.as_slice(), link, last, alias)

@@ -8,15 +8,15 @@ ghost use Rattle.surface.specs.SurfaceDeclarations.{element_of};
 ghost use Rattle.elab_groups.specs.parts.Entries.{IsSignature, IsExtended, AreScopes};
 ghost use Rattle.theory_states.specs.Uses.{OrMemory};
 ghost use Rattle.clones.specs.clone_elements.Rights.{rights_fault, rights_tuples};
-ghost use Rattle.clones.specs.clone_elements.Plans.{tried_map, no_fates};
+ghost use Rattle.clones.specs.clone_elements.Replacements.{tried_map, no_effects};
 ghost use Rattle.clones.specs.clone_elements.Elements.{SidesTold};
-ghost use Rattle.clones.specs.clone_elements.Meaning.{sides_at, SideHeld, IsPlan};
+ghost use Rattle.clones.specs.clone_elements.Meaning.{sides_at, SideHeld, IsReplacement};
 ghost use Rattle.clones.specs.clone_elements.Origins.{origin_at};
 ghost use Rattle.theories.specs.cloning.Cloned.{naming, sides_over, IsNamesFault, IsElementFault};
-ghost use Rattle.theories.specs.cloning.Planned.{AreElementsRead, IsElementsFault};
+ghost use Rattle.theories.specs.cloning.ReadElements.{AreElementsRead, IsElementsFault};
 
 use clones::clone_elements::{
-    ClonedTheory, ElementFault, LeftNames, Plan, Side, make_plan, sides_of,
+    ClonedTheory, ElementFault, LeftNames, Replacement, Side, make_replacement, sides_of,
 };
 use elab_groups::parts::{NamingFault, Scope};
 use std::alloc::Global;
@@ -71,29 +71,30 @@ fn read_sides<'a>(
 }
 
 // What the elements of a clone replace, which is the declaration of a number; or the first element that is wrong.
-fn plan_of(
+fn replacement_of(
     alloc: Global,
     store: &mut Store,
     sig: &Signature,
     source: &ClonedTheory<'_>,
     number: usize,
     sides: &[Side<'_>],
-) -> Result<Plan, SourceFault>
+) -> Result<Replacement, SourceFault>
     requires signature { IsSignature store.old sig.now.symbols }
     requires decls { All (DeclHeld store.old) source.now.decls.now }
     requires sides { All (SideHeld store.old) sides.now }
     ensures right { OnOk result (SidesTold (symbols_at store.old sig.now.symbols)
         (origin_at store.old source.now) (tried_map (symbols_at store.old sig.now.symbols)
-        (origin_at store.old source.now) (sides_at store.old sides.now)) no_fates
+        (origin_at store.old source.now) (sides_at store.old sides.now)) no_effects
         (sides_at store.old sides.now) None) }
-    ensures plan { IfOk result (IsPlan store.new (symbols_at store.old sig.now.symbols)
-        (origin_at store.old source.now) (sides_at store.old sides.now)) }
+    ensures replacement { IfOk result (IsReplacement store.new
+        (symbols_at store.old sig.now.symbols) (origin_at store.old source.now)
+        (sides_at store.old sides.now)) }
     ensures err { IfErr result (OrMemory (IsElementFault number (symbols_at store.old
         sig.now.symbols) (origin_at store.old source.now) (sides_at store.old sides.now))) }
     ensures grows { Grows store.old store.new }
 {
-    match make_plan(alloc, store, sig, source, sides) {
-        Ok(plan) => Ok(plan),
+    match make_replacement(alloc, store, sig, source, sides) {
+        Ok(replacement) => Ok(replacement),
         Err(ElementFault::Memory) => Err(SourceFault::Memory),
         Err(ElementFault::BadSubstitution { token }) => Err(SourceFault::BadSubstitution {
             decl: number,
@@ -104,7 +105,7 @@ fn plan_of(
 
 /// What the elements of a clone replace, which is the declaration of a number, with the entries of tuples that their types need; or the
 /// first fault of the names on the right, or else the first wrong element.
-pub(crate) fn plan_elements(
+pub(crate) fn read_elements(
     alloc: Global,
     store: &mut Store,
     sig: &mut Signature,
@@ -112,7 +113,7 @@ pub(crate) fn plan_elements(
     source: &ClonedTheory<'_>,
     number: usize,
     elements: &[ElemTree],
-) -> Result<Plan, SourceFault>
+) -> Result<Replacement, SourceFault>
     requires signature { IsSignature store.old sig.old.symbols }
     requires scopes { AreScopes store.old (length sig.old.symbols) scope.now }
     requires decls { All (DeclHeld store.old) source.now.decls.now }
@@ -128,5 +129,5 @@ pub(crate) fn plan_elements(
     ensures grows { Grows store.old store.new }
 {
     let sides = read_sides(alloc, store, sig, scope, source, number, elements)?;
-    plan_of(alloc, store, sig, source, number, sides.as_slice())
+    replacement_of(alloc, store, sig, source, number, sides.as_slice())
 }

@@ -12,7 +12,7 @@ use Rattle.clones.specs.Meaning.{map_at}
 use Rattle.clones.proofs.Steps.{known_later, ok_any}
 use Rattle.clones.specs.Copies.{declaration_copied}
 use Rattle.clones.specs.clone_elements.Left.{decl_or, no_declaration}
-use Rattle.clones.specs.clone_elements.Plans.{is_replaced}
+use Rattle.clones.specs.clone_elements.Replacements.{is_replaced}
 use Rattle.clones.specs.clone_copies.Places.{Copying, with_copy, copy_of}
 use Rattle.clones.specs.clone_copies.Meaning.{copying_at}
 use Rattle.clones.proofs.clone_copies.Pushed.{copying_stays}
@@ -27,7 +27,7 @@ returns-clause-state c =
     let s = c.args.store.now in
     let s1 = c.copy_decl.new.store in
     let w : Grows s s1 = c.copy_decl.ensures.grows in
-    let j = c.args.job.now in
+    let j = c.args.given.now in
     let x = copying_at s j in
     let k = c.args.place in
     let typed = c.args.typed.now in
@@ -39,7 +39,7 @@ returns-clause-state c =
     let there : decl_or (declarations_at s ds) k ≡ declaration_at s decl = get_or-map (declaration_at s) ds k decl no_declaration c.requires.within ∙ ap (declaration_at s) (sym got) in
     let copied : declaration_at s1 c.in_ok-copy.copy ≡ copy_of x old k =
     c.in_ok-copy.ensures.tree ∙ (ap (λ (p : List ℕ). declaration_copied x.mapping p x.within (declaration_at s decl)) c.as_slice-2.ensures ∙ ap (declaration_copied x.mapping open_.path x.within) (sym there)) in
-    let free : is_replaced (x.fates k) ≡ false = sym c.is_replaced.ensures ∙ c.if-is_replaced.false in
+    let free : is_replaced (x.effects k) ≡ false = sym c.is_replaced.ensures ∙ c.if-is_replaced.false in
     on_ok_weaker c.push_copy.result (λ h. h
     ∙ (ap (λ (y : Copying). with_copy y k (y.axioms k) (declaration_at s1 c.in_ok-copy.copy) (state_at s1 typed open_)) (copying_stays s s1 w j c.requires.map_held)
     ∙ (ap (λ (d : DeclarationTree). with_copy x k (x.axioms k) d (state_at s1 typed open_)) copied
@@ -47,7 +47,7 @@ returns-clause-state c =
     ∙ sym (ap (λ (b : Bool). cond b old (with_copy x k (x.axioms k) (copy_of x old k) old)) free))))) c.push_copy.ensures.state
 
 pub returns-clause-known : goal.returns-clause-known
-returns-clause-known c = ok_any c.push_copy.result (known_later (map_at c.args.store.now c.args.job.now.morphism.now) c.copy_decl.new.store c.push_copy.new.store c.copy_decl.new.known c.push_copy.ensures.grows c.in_ok-copy.ensures.new_known)
+returns-clause-known c = ok_any c.push_copy.result (known_later (map_at c.args.store.now c.args.given.now.morphism.now) c.copy_decl.new.store c.push_copy.new.store c.copy_decl.new.known c.push_copy.ensures.grows c.in_ok-copy.ensures.new_known)
 
 pub returns-in_err-copy-clause-state : goal.returns-in_err-copy-clause-state
 returns-in_err-copy-clause-state c = no_ok _ _ c.from_residual.result c.from_residual.ensures.1

@@ -15,10 +15,10 @@ use Rattle.clones.proofs.clone_copies.places.copy_places.Goals as goal
 use Rattle.tasks.proofs.outside.Passed.{no_ok}
 
 pub copy_place-requires-clause-map_held : goal.copy_place-requires-clause-map_held
-copy_place-requires-clause-map_held c = map_held c.args.store.now c.loop-place.store c.loop-place.invariant.grows c.args.job.now.morphism.now c.requires.map_held
+copy_place-requires-clause-map_held c = map_held c.args.store.now c.loop-place.store c.loop-place.invariant.grows c.args.given.now.morphism.now c.requires.map_held
 
 pub copy_place-requires-clause-known : goal.copy_place-requires-clause-known
-copy_place-requires-clause-known c = known_on c.args.job.now.morphism.now c.args.store.now c.loop-place.store c.loop-place.invariant.grows c.requires.map_held c.loop-place.trees c.loop-place.invariant.known
+copy_place-requires-clause-known c = known_on c.args.given.now.morphism.now c.args.store.now c.loop-place.store c.loop-place.invariant.grows c.requires.map_held c.loop-place.trees c.loop-place.invariant.known
 
 pub loop-place-preserved : goal.loop-place-preserved
 loop-place-preserved c =
@@ -28,7 +28,7 @@ loop-place-preserved c =
     let inv = c.loop-place.invariant in
     let w : Grows s s1 = inv.grows in
     let w2 : Grows s1 s2 = c.copy_place.ensures.grows in
-    let j = c.args.job.now in
+    let j = c.args.given.now in
     let x = copying_at s j in
     let ks = c.args.places.now in
     let i = c.loop-place.place-index in

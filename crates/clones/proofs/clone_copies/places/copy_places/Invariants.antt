@@ -9,8 +9,8 @@ use Rattle.clones.proofs.clone_copies.places.copy_places.Given as goal
 abbrev pub invariant-loop-place : goal.invariant-loop-place
 invariant-loop-place l = record {
   grows : Grows l.initial.store l.store;
-  known : AreKnown (map_at l.initial.store l.job.morphism.now) l.store l.trees;
+  known : AreKnown (map_at l.initial.store l.given.morphism.now) l.store l.trees;
   held : StateHeld l.store l.typed l.open;
   longer : length l.initial.typed.decls ≤ length l.typed.decls;
-  state : with_places (copying_at l.initial.store l.job) (drop l.place-index l.places) (state_at l.store l.typed l.open) ≡ with_places (copying_at l.initial.store l.job) l.places (state_at l.initial.store l.initial.typed l.initial.open);
+  state : with_places (copying_at l.initial.store l.given) (drop l.place-index l.places) (state_at l.store l.typed l.open) ≡ with_places (copying_at l.initial.store l.given) l.places (state_at l.initial.store l.initial.typed l.initial.open);
 }

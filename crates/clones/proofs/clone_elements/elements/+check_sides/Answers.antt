@@ -8,11 +8,11 @@ use Rattle.tasks.proofs.Growth.{decl_held_later}
 use Rattle.elab_groups.proofs.parts.Entering.{entries_stay, signature_grows}
 use Rattle.clones.specs.Meaning.{map_at}
 use Rattle.clones.proofs.Steps.{map_held, map_stays, known_on}
-use Rattle.clones.specs.declared.clone_elements.plans.Side.{Side as CodeSide}
-use Rattle.clones.specs.clone_elements.Plans.{SideTree, with_side, with_sides}
+use Rattle.clones.specs.declared.clone_elements.replacements.Side.{Side as CodeSide}
+use Rattle.clones.specs.clone_elements.Replacements.{SideTree, with_side, with_sides}
 use Rattle.clones.specs.clone_elements.Elements.{SideTold}
 use Rattle.clones.specs.clone_elements.Origins.{origin_at}
-use Rattle.clones.specs.clone_elements.Meaning.{side_at, sides_at, SideHeld, fates_at}
+use Rattle.clones.specs.clone_elements.Meaning.{side_at, sides_at, SideHeld, effects_at}
 use Rattle.clones.proofs.clone_elements.Growing.{sides_stay, sides_grow}
 use Rattle.clones.proofs.clone_elements.Told.{told_moved, origin_stays}
 use Rattle.clones.proofs.clone_elements.elements.+check_sides.Goals as goal
@@ -52,21 +52,21 @@ returns-in_ok-enter_side-in-None-clause-told t c =
     let first = c.in-Some.first.now in
     let rest = c.in-Some.rest.now in
     let held = tail_held s c.args.sides.now rest first c.in-Some.ensures.cases.0 c.requires.sides in
-    let here : SideTold symbols o (map_at s mo) (fates_at c.args.fates.now) (side_at s first) None = subst (SideTold symbols o (map_at s mo) (fates_at c.args.fates.now) (side_at s first)) c.in-None.is c.in_ok-token.ensures.told in
+    let here : SideTold symbols o (map_at s mo) (effects_at c.args.effects.now) (side_at s first) None = subst (SideTold symbols o (map_at s mo) (effects_at c.args.effects.now) (side_at s first)) c.in-None.is c.in_ok-token.ensures.told in
     rw c.in-Some.ensures.cases.0 (IfOk-weaker c.check_sides.result _ _ (λ it g. inl (
       here,
-      told_moved (symbols_at s1 x.sig.now.symbols) symbols (origin_at s1 x.source.now) o (map_at s1 mo) (map_at s mo) (fates_at c.enter_side.new.fates) (with_side (side_at s first) (fates_at c.args.fates.now)) (sides_at s1 rest) (sides_at s rest) it
+      told_moved (symbols_at s1 x.sig.now.symbols) symbols (origin_at s1 x.source.now) o (map_at s1 mo) (map_at s mo) (effects_at c.enter_side.new.effects) (with_side (side_at s first) (effects_at c.args.effects.now)) (sides_at s1 rest) (sides_at s rest) it
           (entries_stay s s1 w x.sig.now.symbols h.signature) (origin_stays s s1 w x.source.now h.decls) (map_stays s s1 w mo h.morphism) (c.in_ok-enter_side-in-None.ensures s) (sides_stay s s1 w rest held) g,
     )) c.check_sides.ensures.told)
 
-pub returns-in_ok-enter_side-in-None-clause-fates : goal.returns-in_ok-enter_side-in-None-clause-fates
-returns-in_ok-enter_side-in-None-clause-fates t c =
+pub returns-in_ok-enter_side-in-None-clause-effects : goal.returns-in_ok-enter_side-in-None-clause-effects
+returns-in_ok-enter_side-in-None-clause-effects t c =
     let s = c.args.store.now in
     let s1 = c.check_side.new.store in
     let first = c.in-Some.first.now in
     let rest = c.in-Some.rest.now in
     let held = tail_held s c.args.sides.now rest first c.in-Some.ensures.cases.0 c.requires.sides in
-    rw c.in-Some.ensures.cases.0 (IfOk-weaker c.check_sides.result _ _ (λ it g e. g e ∙ (ap (λ (z : List SideTree). with_sides z (fates_at c.enter_side.new.fates)) (sides_stay s s1 c.check_side.ensures.grows rest held) ∙ ap (with_sides (sides_at s rest)) (c.in_ok-enter_side-in-None.ensures s))) c.check_sides.ensures.fates)
+    rw c.in-Some.ensures.cases.0 (IfOk-weaker c.check_sides.result _ _ (λ it g e. g e ∙ (ap (λ (z : List SideTree). with_sides z (effects_at c.enter_side.new.effects)) (sides_stay s s1 c.check_side.ensures.grows rest held) ∙ ap (with_sides (sides_at s rest)) (c.in_ok-enter_side-in-None.ensures s))) c.check_sides.ensures.effects)
 
 pub check_side-requires-clause-trial : goal.check_side-requires-clause-trial
 check_side-requires-clause-trial t c = c.requires.trial
@@ -77,8 +77,8 @@ check_side-requires-clause-known t c = c.requires.known
 pub returns-in_err-token-clause-told : goal.returns-in_err-token-clause-told
 returns-in_err-token-clause-told t c = no_value _ _ c.from_residual.result c.from_residual.ensures.1
 
-pub returns-in_err-token-clause-fates : goal.returns-in_err-token-clause-fates
-returns-in_err-token-clause-fates t c = no_value _ _ c.from_residual.result c.from_residual.ensures.1
+pub returns-in_err-token-clause-effects : goal.returns-in_err-token-clause-effects
+returns-in_err-token-clause-effects t c = no_value _ _ c.from_residual.result c.from_residual.ensures.1
 
 pub returns-in_err-token-clause-grows : goal.returns-in_err-token-clause-grows
 returns-in_err-token-clause-grows t c = c.check_side.ensures.grows
@@ -86,8 +86,8 @@ returns-in_err-token-clause-grows t c = c.check_side.ensures.grows
 pub returns-in_err-enter_side-in-None-clause-told : goal.returns-in_err-enter_side-in-None-clause-told
 returns-in_err-enter_side-in-None-clause-told t c = no_value _ _ c.from_residual-in_err-enter_side-in-None.result c.from_residual-in_err-enter_side-in-None.ensures.1
 
-pub returns-in_err-enter_side-in-None-clause-fates : goal.returns-in_err-enter_side-in-None-clause-fates
-returns-in_err-enter_side-in-None-clause-fates t c = no_value _ _ c.from_residual-in_err-enter_side-in-None.result c.from_residual-in_err-enter_side-in-None.ensures.1
+pub returns-in_err-enter_side-in-None-clause-effects : goal.returns-in_err-enter_side-in-None-clause-effects
+returns-in_err-enter_side-in-None-clause-effects t c = no_value _ _ c.from_residual-in_err-enter_side-in-None.result c.from_residual-in_err-enter_side-in-None.ensures.1
 
 pub returns-in_err-enter_side-in-None-clause-grows : goal.returns-in_err-enter_side-in-None-clause-grows
 returns-in_err-enter_side-in-None-clause-grows t c = c.check_side.ensures.grows
@@ -101,13 +101,13 @@ returns-in_default-clause-grows t c = Grows_refl c.args.store.now
 pub returns-in-Some-2-clause-grows : goal.returns-in-Some-2-clause-grows
 returns-in-Some-2-clause-grows t c = c.check_side.ensures.grows
 
-pub returns-in-Some-2-clause-fates : goal.returns-in-Some-2-clause-fates
-returns-in-Some-2-clause-fates t c = λ e. absurd (cc)
+pub returns-in-Some-2-clause-effects : goal.returns-in-Some-2-clause-effects
+returns-in-Some-2-clause-effects t c = λ e. absurd (cc)
 
 pub returns-in-Some-2-clause-told : goal.returns-in-Some-2-clause-told
 returns-in-Some-2-clause-told t c =
     let s = c.args.store.now in
     let x = c.args.trial.now in
-    let told : SideTold (symbols_at s x.sig.now.symbols) (origin_at s x.source.now) (map_at s x.morphism.now) (fates_at c.args.fates.now) (side_at s c.in-Some.first.now) (Some c.in-Some-2.token) =
-    subst (SideTold (symbols_at s x.sig.now.symbols) (origin_at s x.source.now) (map_at s x.morphism.now) (fates_at c.args.fates.now) (side_at s c.in-Some.first.now)) c.in-Some-2.is c.in_ok-token.ensures.told in
+    let told : SideTold (symbols_at s x.sig.now.symbols) (origin_at s x.source.now) (map_at s x.morphism.now) (effects_at c.args.effects.now) (side_at s c.in-Some.first.now) (Some c.in-Some-2.token) =
+    subst (SideTold (symbols_at s x.sig.now.symbols) (origin_at s x.source.now) (map_at s x.morphism.now) (effects_at c.args.effects.now) (side_at s c.in-Some.first.now)) c.in-Some-2.is c.in_ok-token.ensures.told in
     rw c.in-Some.ensures.cases.0 (inr (c.in-Some-2.token, refl, told))

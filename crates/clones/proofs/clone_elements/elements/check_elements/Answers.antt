@@ -1,10 +1,10 @@
 use Rattle.std.proofs.Common.{None, Some, ap, subst, ◌∙◌}
 use Rattle.tasks.specs.Meaning.{symbols_at}
 use Rattle.clones.specs.Meaning.{map_at}
-use Rattle.clones.specs.clone_elements.Plans.{PlacedFates, with_sides}
+use Rattle.clones.specs.clone_elements.Replacements.{PlacedEffects, with_sides}
 use Rattle.clones.specs.clone_elements.Elements.{SidesTold}
 use Rattle.clones.specs.clone_elements.Origins.{origin_at}
-use Rattle.clones.specs.clone_elements.Meaning.{sides_at, fates_at}
+use Rattle.clones.specs.clone_elements.Meaning.{sides_at, effects_at}
 use Rattle.clones.proofs.clone_elements.elements.check_elements.Goals as goal
 use Rattle.tasks.proofs.outside.Passed.{no_ok}
 
@@ -17,8 +17,8 @@ find_wrong-requires-clause-sides c = c.requires.sides
 pub returns-in_err-token-clause-right : goal.returns-in_err-token-clause-right
 returns-in_err-token-clause-right c = no_ok _ _ c.from_residual.result c.from_residual.ensures.1
 
-pub returns-in_err-token-clause-fates : goal.returns-in_err-token-clause-fates
-returns-in_err-token-clause-fates c = no_ok _ _ c.from_residual.result c.from_residual.ensures.1
+pub returns-in_err-token-clause-effects : goal.returns-in_err-token-clause-effects
+returns-in_err-token-clause-effects c = no_ok _ _ c.from_residual.result c.from_residual.ensures.1
 
 pub returns-in_err-token-clause-grows : goal.returns-in_err-token-clause-grows
 returns-in_err-token-clause-grows c = c.find_wrong.ensures.grows
@@ -26,8 +26,8 @@ returns-in_err-token-clause-grows c = c.find_wrong.ensures.grows
 pub returns-in-Some-clause-right : goal.returns-in-Some-clause-right
 returns-in-Some-clause-right c = tt
 
-pub returns-in-Some-clause-fates : goal.returns-in-Some-clause-fates
-returns-in-Some-clause-fates c = tt
+pub returns-in-Some-clause-effects : goal.returns-in-Some-clause-effects
+returns-in-Some-clause-effects c = tt
 
 pub returns-in-Some-clause-err : goal.returns-in-Some-clause-err
 returns-in-Some-clause-err c =
@@ -36,8 +36,8 @@ returns-in-Some-clause-err c =
     let o = origin_at s c.args.source.now in
     let m = map_at s c.args.morphism.now in
     let xs = sides_at s c.args.sides.now in
-    let told : SidesTold symbols o m (fates_at c.args.fates.now) xs (Some c.in-Some.token) = subst (SidesTold symbols o m (fates_at c.args.fates.now) xs) c.in-Some.is c.in_ok-token.ensures.told in
-    subst (λ (f : PlacedFates). SidesTold symbols o m f xs (Some c.in-Some.token)) c.requires.none told
+    let told : SidesTold symbols o m (effects_at c.args.effects.now) xs (Some c.in-Some.token) = subst (SidesTold symbols o m (effects_at c.args.effects.now) xs) c.in-Some.is c.in_ok-token.ensures.told in
+    subst (λ (f : PlacedEffects). SidesTold symbols o m f xs (Some c.in-Some.token)) c.requires.none told
 
 pub returns-in-Some-clause-grows : goal.returns-in-Some-clause-grows
 returns-in-Some-clause-grows c = c.find_wrong.ensures.grows
@@ -49,11 +49,11 @@ returns-in-None-clause-right c =
     let o = origin_at s c.args.source.now in
     let m = map_at s c.args.morphism.now in
     let xs = sides_at s c.args.sides.now in
-    let told : SidesTold symbols o m (fates_at c.args.fates.now) xs None = subst (SidesTold symbols o m (fates_at c.args.fates.now) xs) c.in-None.is c.in_ok-token.ensures.told in
-    subst (λ (f : PlacedFates). SidesTold symbols o m f xs None) c.requires.none told
+    let told : SidesTold symbols o m (effects_at c.args.effects.now) xs None = subst (SidesTold symbols o m (effects_at c.args.effects.now) xs) c.in-None.is c.in_ok-token.ensures.told in
+    subst (λ (f : PlacedEffects). SidesTold symbols o m f xs None) c.requires.none told
 
-pub returns-in-None-clause-fates : goal.returns-in-None-clause-fates
-returns-in-None-clause-fates c = c.in_ok-token.ensures.fates c.in-None.is ∙ ap (with_sides (sides_at c.args.store.now c.args.sides.now)) c.requires.none
+pub returns-in-None-clause-effects : goal.returns-in-None-clause-effects
+returns-in-None-clause-effects c = c.in_ok-token.ensures.effects c.in-None.is ∙ ap (with_sides (sides_at c.args.store.now c.args.sides.now)) c.requires.none
 
 pub returns-in-None-clause-err : goal.returns-in-None-clause-err
 returns-in-None-clause-err c = tt

@@ -12,8 +12,8 @@ check_sides-requires-clause-sides c = c.requires.sides
 pub returns-clause-told : goal.returns-clause-told
 returns-clause-told c = c.check_sides.ensures.told
 
-pub returns-clause-fates : goal.returns-clause-fates
-returns-clause-fates c = c.check_sides.ensures.fates
+pub returns-clause-effects : goal.returns-clause-effects
+returns-clause-effects c = c.check_sides.ensures.effects
 
 pub returns-clause-grows : goal.returns-clause-grows
 returns-clause-grows c = c.check_sides.ensures.grows

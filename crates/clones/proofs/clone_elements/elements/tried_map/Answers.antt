@@ -1,6 +1,6 @@
 use Rattle.std.proofs.Common.{◌≡◌, ℕ, [], ap, ◌∙◌}
 use Rattle.std.proofs.lemmas.Result.{IfOk-weaker}
-use Rattle.clones.specs.clone_elements.Plans.{no_fates, kept, map_of}
+use Rattle.clones.specs.clone_elements.Replacements.{no_effects, kept, map_of}
 use Rattle.clones.specs.clone_elements.Origins.{origin_at}
 use Rattle.clones.specs.clone_elements.Meaning.{type_pairs_at}
 use Rattle.clones.proofs.clone_elements.elements.tried_map.Goals as goal
@@ -11,7 +11,7 @@ returns-clause-is c =
     let s = c.args.store.now in
     let ts = type_pairs_at s c.args.types.now in
     let o = origin_at s c.args.source.now in
-    let all : c.as_slice.result.now ≡ kept o no_fates = c.as_slice.ensures.value ∙ c.in_ok-all.ensures s in
+    let all : c.as_slice.result.now ≡ kept o no_effects = c.as_slice.ensures.value ∙ c.in_ok-all.ensures s in
     IfOk-weaker c.map_of.result _ _ (λ m h. h ∙ (ap (λ (n : ℕ). map_of ts [] n c.as_slice.result.now) c.len.ensures ∙ ap (map_of ts [] _) all)) c.map_of.ensures.is
 
 pub returns-in_err-all-clause-is : goal.returns-in_err-all-clause-is

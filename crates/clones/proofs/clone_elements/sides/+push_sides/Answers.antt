@@ -15,10 +15,10 @@ use Rattle.elab_groups.proofs.parts.Entering.{extended_both}
 use Rattle.elab_groups.specs.parts.Entries.{IsExtended}
 use Rattle.elab_groups.proofs.parts.Overs.{scope_stays}
 use Rattle.elab_groups.proofs.parts.Tupled.{scopes_extended}
-use Rattle.clones.specs.declared.clone_elements.plans.Side.{Side as CodeSide}
+use Rattle.clones.specs.declared.clone_elements.replacements.Side.{Side as CodeSide}
 use Rattle.clones.specs.clone_elements.Left.{place_by, element_key}
 use Rattle.clones.specs.clone_elements.Rights.{right_tuples, right_made, right_fault, rights_fault, rights_tuples}
-use Rattle.clones.specs.clone_elements.Plans.{SideTree, sides_made}
+use Rattle.clones.specs.clone_elements.Replacements.{SideTree, sides_made}
 use Rattle.clones.specs.clone_elements.Origins.{place_at}
 use Rattle.clones.specs.clone_elements.Meaning.{side_at, sides_at, SideHeld}
 use Rattle.clones.proofs.clone_elements.Growing.{sides_stay, sides_grow}

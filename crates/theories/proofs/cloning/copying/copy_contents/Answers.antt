@@ -1,7 +1,7 @@
 use Rattle.std.proofs.Common.{◌∙◌}
 use Rattle.tasks.proofs.trees.Nodes.{Grows_refl}
 use Rattle.clones.specs.Meaning.{map_at}
-use Rattle.theories.proofs.cloning.Contents.{planned_renaming}
+use Rattle.theories.proofs.cloning.Contents.{renaming_by}
 use Rattle.theories.proofs.cloning.copying.copy_contents.Goals as goal
 use Rattle.tasks.proofs.outside.Passed.{no_ok, no_value}
 
@@ -12,7 +12,7 @@ pub copy_renamed-requires-clause-ready : goal.copy_renamed-requires-clause-ready
 copy_renamed-requires-clause-ready c = c.requires
 
 pub copy_renamed-requires-clause-made : goal.copy_renamed-requires-clause-made
-copy_renamed-requires-clause-made c = planned_renaming c.args.store.now c.args.typed.now c.args.open.now c.args.theory c.args.own.now c.args.plan.now c.args.within.now c.requires c.source_of-source.result (c.source_of-source.ensures.decls ∙ c.as_slice.ensures) c.source_of-source.ensures.own c.source_of-source.ensures.axioms c.in_ok-made.made c.in_ok-made.ensures
+copy_renamed-requires-clause-made c = renaming_by c.args.store.now c.args.typed.now c.args.open.now c.args.theory c.args.own.now c.args.replacement.now c.args.within.now c.requires c.source_of-source.result (c.source_of-source.ensures.decls ∙ c.as_slice.ensures) c.source_of-source.ensures.own c.source_of-source.ensures.axioms c.in_ok-made.made c.in_ok-made.ensures
 
 pub copy_renamed-requires-clause-known : goal.copy_renamed-requires-clause-known
 copy_renamed-requires-clause-known c = c.no_trees-trees.ensures (map_at c.args.store.now c.in_ok-made.made.morphism) c.args.store.now

@@ -18,16 +18,16 @@ pub copy_symbols-requires-clause-known : goal.copy_symbols-requires-clause-known
 copy_symbols-requires-clause-known c = c.requires.known
 
 pub copy_symbols-requires-clause-moves : goal.copy_symbols-requires-clause-moves
-copy_symbols-requires-clause-moves c = subst (All (MoveHeld c.args.store.now)) (sym c.as_slice-2.ensures) (moves_are_held c.args.store.now c.args.typed.now c.args.open.now c.args.theory c.args.own.now c.args.plan.now c.args.within.now c.requires.ready c.args.made.now c.requires.made c.index-as_slice-theory.result (c.index-as_slice-theory.is ∙ ap (λ (ks : List KnownTheory). get_or ks c.args.theory c.index-as_slice-theory.result) c.as_slice.ensures))
+copy_symbols-requires-clause-moves c = subst (All (MoveHeld c.args.store.now)) (sym c.as_slice-2.ensures) (moves_are_held c.args.store.now c.args.typed.now c.args.open.now c.args.theory c.args.own.now c.args.replacement.now c.args.within.now c.requires.ready c.args.made.now c.requires.made c.index-as_slice-theory.result (c.index-as_slice-theory.is ∙ ap (λ (ks : List KnownTheory). get_or ks c.args.theory c.index-as_slice-theory.result) c.as_slice.ensures))
 
 pub copy_symbols-requires-clause-kept : goal.copy_symbols-requires-clause-kept
-copy_symbols-requires-clause-kept c = copies_kept c.args.store.now c.args.typed.now c.args.open.now c.args.theory c.args.own.now c.args.plan.now c.args.within.now c.requires.ready c.args.made.now c.requires.made c.index-as_slice-theory.result (c.index-as_slice-theory.is ∙ ap (λ (ks : List KnownTheory). get_or ks c.args.theory c.index-as_slice-theory.result) c.as_slice.ensures) c.as_slice-3.result.now c.as_slice-3.ensures
+copy_symbols-requires-clause-kept c = copies_kept c.args.store.now c.args.typed.now c.args.open.now c.args.theory c.args.own.now c.args.replacement.now c.args.within.now c.requires.ready c.args.made.now c.requires.made c.index-as_slice-theory.result (c.index-as_slice-theory.is ∙ ap (λ (ks : List KnownTheory). get_or ks c.args.theory c.index-as_slice-theory.result) c.as_slice.ensures) c.as_slice-3.result.now c.as_slice-3.ensures
 
 pub copy_places-requires-clause-held : goal.copy_places-requires-clause-held
-copy_places-requires-clause-held c = held_made c.args.store.now c.args.typed.now c.args.open.now c.args.theory c.args.own.now c.args.plan.now c.args.within.now c.requires.ready c.args.made.now c.requires.made c.index-as_slice-theory.result (c.index-as_slice-theory.is ∙ ap (λ (ks : List KnownTheory). get_or ks c.args.theory c.index-as_slice-theory.result) c.as_slice.ensures) c.as_slice-3.result.now c.as_slice-3.ensures c.copy_symbols.new.store c.copy_symbols.ensures.grows c.copy_symbols.new.sig c.in_ok-moves.ensures.entries
+copy_places-requires-clause-held c = held_made c.args.store.now c.args.typed.now c.args.open.now c.args.theory c.args.own.now c.args.replacement.now c.args.within.now c.requires.ready c.args.made.now c.requires.made c.index-as_slice-theory.result (c.index-as_slice-theory.is ∙ ap (λ (ks : List KnownTheory). get_or ks c.args.theory c.index-as_slice-theory.result) c.as_slice.ensures) c.as_slice-3.result.now c.as_slice-3.ensures c.copy_symbols.new.store c.copy_symbols.ensures.grows c.copy_symbols.new.sig c.in_ok-moves.ensures.entries
 
 pub copy_places-requires-clause-within : goal.copy_places-requires-clause-within
-copy_places-requires-clause-within c = subst (λ (ks : List ℕ). All (λ (p : ℕ). p < length c.args.typed.now.decls) ks) (sym c.as_slice-5.ensures) (visible_below c.args.store.now c.args.typed.now c.args.open.now c.args.theory c.args.own.now c.args.plan.now c.args.within.now c.requires.ready c.args.made.now c.requires.made c.index-as_slice-theory.result (c.index-as_slice-theory.is ∙ ap (λ (ks : List KnownTheory). get_or ks c.args.theory c.index-as_slice-theory.result) c.as_slice.ensures))
+copy_places-requires-clause-within c = subst (λ (ks : List ℕ). All (λ (p : ℕ). p < length c.args.typed.now.decls) ks) (sym c.as_slice-5.ensures) (visible_below c.args.store.now c.args.typed.now c.args.open.now c.args.theory c.args.own.now c.args.replacement.now c.args.within.now c.requires.ready c.args.made.now c.requires.made c.index-as_slice-theory.result (c.index-as_slice-theory.is ∙ ap (λ (ks : List KnownTheory). get_or ks c.args.theory c.index-as_slice-theory.result) c.as_slice.ensures))
 
 pub copy_places-requires-clause-map_held : goal.copy_places-requires-clause-map_held
 copy_places-requires-clause-map_held c = map_held c.args.store.now c.copy_symbols.new.store c.copy_symbols.ensures.grows c.args.made.now.morphism c.requires.made.held
@@ -37,7 +37,7 @@ copy_places-requires-clause-known c = known_on c.args.made.now.morphism c.args.s
 
 pub returns-clause-copies : goal.returns-clause-copies
 returns-clause-copies c =
-    contents c.args.store.now c.args.typed.now c.args.open.now c.args.theory c.args.own.now c.args.plan.now c.args.within.now c.requires.ready c.args.made.now c.requires.made c.index-as_slice-theory.result (c.index-as_slice-theory.is ∙ ap (λ (ks : List KnownTheory). get_or ks c.args.theory c.index-as_slice-theory.result) c.as_slice.ensures) c.as_slice-3.result.now c.as_slice-3.ensures c.copy_symbols.new.store c.copy_symbols.ensures.grows c.copy_symbols.new.sig c.in_ok-moves.ensures.entries
+    contents c.args.store.now c.args.typed.now c.args.open.now c.args.theory c.args.own.now c.args.replacement.now c.args.within.now c.requires.ready c.args.made.now c.requires.made c.index-as_slice-theory.result (c.index-as_slice-theory.is ∙ ap (λ (ks : List KnownTheory). get_or ks c.args.theory c.index-as_slice-theory.result) c.as_slice.ensures) c.as_slice-3.result.now c.as_slice-3.ensures c.copy_symbols.new.store c.copy_symbols.ensures.grows c.copy_symbols.new.sig c.in_ok-moves.ensures.entries
     c.as_slice-4.result.now c.as_slice-4.ensures c.as_slice-5.result.now c.as_slice-5.ensures c.copy_places.new.store c.copy_places.ensures.grows c.copy_places.new.typed c.copy_places.new.open c.in_ok-copy_places.ensures.state
     c.as_slice-2.result.now c.in_ok-moves.moves.items c.as_slice-2.ensures c.in_ok-moves.ensures.moves_held c.in_ok-moves.ensures.moves
 

@@ -2,10 +2,10 @@ use Rattle.std.proofs.Common.{◌≡◌, ℕ, List, length, sym, ap, ◌∙◌}
 use Rattle.std.proofs.Math.ListN.{length-map}
 use Rattle.tasks.specs.trees.Tree.{Tree}
 use Rattle.tasks.specs.Meaning.{symbol_at, symbols_at}
-use Rattle.clones.specs.clone_elements.Plans.{map_of}
+use Rattle.clones.specs.clone_elements.Replacements.{map_of}
 use Rattle.clones.specs.clone_elements.Origins.{origin_at}
 use Rattle.clones.specs.clone_elements.Meaning.{type_pairs_at, symbol_pairs}
-use Rattle.theories.specs.cloning.Planned.{planned_kept}
+use Rattle.theories.specs.cloning.ReadElements.{kept_by}
 use Rattle.theories.proofs.cloning.copying.rename.Goals as goal
 use Rattle.tasks.proofs.outside.Passed.{no_value}
 
@@ -14,12 +14,12 @@ returns c =
     let s = c.args.store.now in
     let is = c.args.sig.now.symbols in
     let symbols = symbols_at s is in
-    let p = c.args.plan.now in
+    let p = c.args.replacement.now in
     let types = type_pairs_at s p.types.items in
     let pairs = symbol_pairs p.symbols.items in
     let first = c.len-first.result in
-    let all : c.in_ok-symbols.symbols.items ≡ planned_kept (origin_at s c.args.source.now) p = c.in_ok-symbols.ensures s in
-    let ks : c.as_slice-3.result.now ≡ planned_kept (origin_at s c.args.source.now) p = c.as_slice-3.ensures.value ∙ all in
+    let all : c.in_ok-symbols.symbols.items ≡ kept_by (origin_at s c.args.source.now) p = c.in_ok-symbols.ensures s in
+    let ks : c.as_slice-3.result.now ≡ kept_by (origin_at s c.args.source.now) p = c.as_slice-3.ensures.value ∙ all in
     let n : first ≡ length symbols = c.len-first.ensures ∙ sym (length-map is (symbol_at s)) in
     record {
       is = c.in_ok-morphism.ensures.is

@@ -6,7 +6,7 @@ use Rattle.surface.specs.SurfaceDeclarations.{element_of}
 use Rattle.theory_states.specs.Uses.{OrMemory}
 use Rattle.clones.specs.clone_elements.Left.{last_place}
 use Rattle.clones.specs.clone_elements.Rights.{rights_fault}
-use Rattle.clones.specs.clone_elements.Plans.{sides_made}
+use Rattle.clones.specs.clone_elements.Replacements.{sides_made}
 use Rattle.clones.specs.clone_elements.Origins.{origin_at, place_at}
 use Rattle.theories.specs.cloning.Cloned.{IsNamesFault}
 use Rattle.theories.proofs.cloning.Faults.{names_fault}

@@ -1,9 +1,0 @@
-use Rattle.std.proofs.Common.{◌≡◌, ◌++◌, List, drop}
-use Rattle.tasks.specs.trees.Tree.{Tree}
-use Rattle.clones.specs.clone_elements.Plans.{kept, kept_of}
-use Rattle.clones.specs.clone_elements.Origins.{origin_at}
-use Rattle.clones.specs.clone_elements.Meaning.{fates_at}
-use Rattle.clones.proofs.clone_elements.plans.kept_symbols.Given as goal
-
-abbrev pub invariant-loop-place : goal.invariant-loop-place
-invariant-loop-place l = (s : List Tree) → l.out.items ++ kept_of (origin_at s l.source) (fates_at l.fates) (drop l.place-index l.source.own.now) ≡ kept (origin_at s l.source) (fates_at l.fates)
