@@ -33,10 +33,14 @@ abbrev pub atype_productions : List Production
 atype_productions = production t.TyVar [] ∷ production t.Lident []
     ∷ production t.Uident (s.Take t.Dot ∷ s.Qlid ∷ []) ∷ production t.LParen (s.Ttuple ∷ []) ∷ []
 
+-- After a parenthesis stand names and their type, or types.
+abbrev pub param_productions : List Production
+param_productions = (production t.LParen (s.Pparen ∷ []) ∷ []) ++ with_symbols_after atype_productions []
+
 abbrev pub fields_productions : List Production
 fields_productions = (production t.Bar (s.Take t.Uident ∷ s.Fields ∷ [])
     ∷ production t.WithWord (s.Take t.Lident ∷ s.Algvars ∷ []) ∷ [])
-    ++ with_symbols_after atype_productions (s.Fields ∷ [])
+    ++ with_symbols_after param_productions (s.Fields ∷ [])
 
 abbrev pub op_productions : List Production
 op_productions =
@@ -132,8 +136,8 @@ productions s.Opname = production t.Equal (s.Opend ∷ []) ∷ production t.Minu
     ∷ production t.PrefixOperator (s.Opend ∷ []) ∷ []
 productions s.Opend = production t.RParen [] ∷ production t.Wild (s.Take t.RParen ∷ []) ∷ []
 productions s.Ident = production t.Lident [] ∷ production t.Uident [] ∷ []
-productions s.Params = (production t.LParen (s.Pparen ∷ s.Params ∷ []) ∷ [])
-    ++ with_symbols_after atype_productions (s.Params ∷ [])
+productions s.Param = param_productions
+productions s.Params = with_symbols_after param_productions (s.Params ∷ [])
 productions s.Pparen =
     (production t.Lident (s.Pname ∷ []) ∷ []) ++ with_symbols_after ttuple_productions []
 productions s.Pname = ((production t.Colon (s.TypeOf ∷ s.Take t.RParen ∷ [])
@@ -245,6 +249,7 @@ shortest s.Op = t.StarName ∷ []
 shortest s.Opname = t.Minus ∷ t.RParen ∷ []
 shortest s.Opend = t.RParen ∷ []
 shortest s.Ident = t.Lident ∷ []
+shortest s.Param = t.Lident ∷ []
 shortest s.Pparen = t.RParen ∷ []
 shortest s.Pname = t.RParen ∷ []
 shortest s.Member = t.Equal ∷ t.StarName ∷ []

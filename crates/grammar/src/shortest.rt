@@ -22,6 +22,7 @@ fn shortest_of(rule: Symbol) -> &'static [T]
         Symbol::Opname => &[T::Minus, T::RParen],
         Symbol::Opend => &[T::RParen],
         Symbol::Ident => &[T::Lident],
+        Symbol::Param => &[T::Lident],
         Symbol::Pparen => &[T::RParen],
         Symbol::Pname => &[T::RParen],
         Symbol::Member => &[T::Equal, T::StarName],

@@ -20,6 +20,7 @@ pub enum Symbol {
     Opname,
     Opend,
     Ident,
+    Param,
     Params,
     Pparen,
     Pname,

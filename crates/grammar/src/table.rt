@@ -47,10 +47,11 @@ const TYPEDEF: [Row; 5] = [
     (T::Bar, &[Take(T::Uident), Fields]),
 ];
 
-const UPPER: [Row; 7] = [
+const UPPER: [Row; 8] = [
     (T::Dot, &[Qlid, Targs]),
     (T::Bar, &[Take(T::Uident), Fields]),
     (T::WithWord, &[Take(T::Lident), Algvars]),
+    (T::LParen, &[Pparen, Fields]),
     (T::TyVar, &[Fields]),
     (T::Lident, &[Fields]),
     (T::Uident, &[Take(T::Dot), Qlid, Fields]),
@@ -65,6 +66,14 @@ const OPNAME: [Row; 7] = [
     (T::Operator3, &[Opend]),
     (T::Operator4, &[Opend]),
     (T::PrefixOperator, &[Opend]),
+];
+
+const PARAM: [Row; 5] = [
+    (T::LParen, &[Pparen]),
+    (T::TyVar, &[]),
+    (T::Lident, &[]),
+    (T::Uident, &[Take(T::Dot), Qlid]),
+    (T::LParen, &[Ttuple]),
 ];
 
 const PARAMS: [Row; 5] = [
@@ -246,9 +255,10 @@ pub const OPEN: [Row; 4] = [
     (T::ExistsWord, &[Take(T::Lident), Binder]),
 ];
 
-const FIELDS: [Row; 6] = [
+const FIELDS: [Row; 7] = [
     (T::Bar, &[Take(T::Uident), Fields]),
     (T::WithWord, &[Take(T::Lident), Algvars]),
+    (T::LParen, &[Pparen, Fields]),
     (T::TyVar, &[Fields]),
     (T::Lident, &[Fields]),
     (T::Uident, &[Take(T::Dot), Qlid, Fields]),
@@ -446,6 +456,7 @@ pub fn rows_of(rule: Symbol) -> &'static [Row]
         Opname => &OPNAME,
         Opend => &[(T::RParen, &[]), (T::Wild, &[Take(T::RParen)])],
         Ident => &[(T::Lident, &[]), (T::Uident, &[])],
+        Param => &PARAM,
         Params => &PARAMS,
         Pparen => &PPAREN,
         Pname => &PNAME,

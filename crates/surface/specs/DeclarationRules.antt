@@ -3,7 +3,7 @@ use Rattle.std.specs.Prelude.{ℕ, ◌+◌, ◌≡◌, List, [], ◌∷◌, Opti
 use Rattle.surface.specs.Common.{⊤, Name, Link}
 use Rattle.surface.specs.declared.declarations.Link.TheVariants as lk
 use Rattle.surface.specs.Lexeme.{at}
-use Rattle.surface.specs.Forms.{Own, lower, upper, Called, write_called, SyntaxForm, write_form, type_forms, IsForm, AreParts, IsFormPart, IsHead, past, IsPlaced, PlacedRow}
+use Rattle.surface.specs.Forms.{Own, lower, upper, Called, write_called, SyntaxForm, write_form, type_forms, IsForm, IsFormPart, IsHead, past, IsPlaced}
 use Rattle.surface.specs.Trees.{SyntaxTree, name_row, type_part, bar_before, IsOwn, IsLevel, IsTypePart, HasSome, IsPlacedTree, PlacedNames, PlacedPart}
 use Rattle.surface.specs.Declarations.{ParamGroup, Member, Constructor, Algebraic, Clause, Inductive, Element, type_element, symbol_element, prop_element, all_axioms, SyntaxDeclaration, SyntaxDeclarations, type_decl, algebraic_decl, function_decl, predicate_decl, constant_decl, inductive_decl, prop_decl, use_decl, clone_decl, scope_decl, no_decls, more_decls, SyntaxTheory, variable_row, write_param, param_row, definition, write_member, write_constructor, write_algebraic, write_clause, write_inductive, link_words, write_path, renamed, write_element, write_decl, write_theory}
 
@@ -51,7 +51,7 @@ IsDefined (Some e) ds = IsLevel e × AreMembers ds
 
 abbrev pub AreConstructors : List Constructor → Type 0
 AreConstructors [] = ⊤
-AreConstructors (c ∷ cs) = AreParts type_forms c.fields × AreConstructors cs
+AreConstructors (c ∷ cs) = AreParams c.fields × AreConstructors cs
 
 abbrev pub AreAlgebraic : List Algebraic → Type 0
 AreAlgebraic [] = ⊤
@@ -133,7 +133,7 @@ PlacedMembers i (d ∷ ds) = PlacedMember (i + 1) d × PlacedMembers (past (i + 
 abbrev pub PlacedConstructors : ℕ → List Constructor → Type 0
 PlacedConstructors i [] = ⊤
 PlacedConstructors i (c ∷ cs) =
-    (c.name.at ≡ i) × PlacedRow (i + 1) c.fields
+    (c.name.at ≡ i) × PlacedParams (i + 1) c.fields
     × PlacedConstructors (past i (write_constructor c) + 1) cs
 
 abbrev pub PlacedAlgebraic : ℕ → Algebraic → Type 0

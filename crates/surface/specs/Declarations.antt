@@ -9,10 +9,10 @@ use Rattle.surface.specs.declared.declarations.Link.TheVariants as lk
 use Rattle.surface.specs.declared.declarations.SymbolWord.{SymbolWord}
 use Rattle.surface.specs.declared.declarations.SymbolWord.TheVariants as sw
 use Rattle.surface.specs.Lexeme.{Word, Lexeme, lx, mark}
-use Rattle.surface.specs.Forms.{Called, write_called, SyntaxForm, SyntaxForms, write_form, form_row}
+use Rattle.surface.specs.Forms.{Called, write_called, SyntaxForm, write_form}
 use Rattle.surface.specs.Trees.{SyntaxTree, write, name_row, type_part, bar_before}
 
--- A parameter, with names or, as a type alone, without.
+-- A parameter, or a field of a constructor, with names or, as a type alone, without.
 pub record ParamGroup : Type 0 where
   pub names : List Name
   pub of_type : SyntaxForm
@@ -26,7 +26,7 @@ pub record Member : Type 0 where
 
 pub record Constructor : Type 0 where
   pub name : Name
-  pub fields : SyntaxForms
+  pub fields : List ParamGroup
 
 pub record Algebraic : Type 0 where
   pub name : Name
@@ -108,7 +108,7 @@ other_members [] = []
 other_members (d ∷ ds) = mark t.WithWord ∷ (write_member d ++ other_members ds)
 
 abbrev pub write_constructor : Constructor → List Lexeme
-write_constructor c = lx t.Uident c.name.text ∷ form_row c.fields
+write_constructor c = lx t.Uident c.name.text ∷ param_row c.fields
 
 abbrev pub constructor_tail : List Constructor → List Lexeme
 constructor_tail [] = []

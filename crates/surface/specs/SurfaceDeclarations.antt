@@ -21,7 +21,7 @@ use Rattle.surface.specs.declared.declarations.TheoryTree.{TheoryTree}
 use Rattle.surface.specs.declared.declarations.File.{File}
 use Rattle.surface.specs.Forms.{Called, called}
 use Rattle.surface.specs.Declarations.{ParamGroup, Member, Constructor, Algebraic, Clause, Inductive, Element, SyntaxDeclaration, SyntaxDeclarations, SyntaxTheory, type_element, symbol_element, prop_element, all_axioms, type_decl, algebraic_decl, function_decl, predicate_decl, constant_decl, inductive_decl, prop_decl, use_decl, clone_decl, scope_decl, no_decls, more_decls}
-use Rattle.surface.specs.Surface.{own_of, called_of, form_of, types, tree_of}
+use Rattle.surface.specs.Surface.{own_of, called_of, form_of, tree_of}
 
 abbrev pub decls : List SyntaxDeclaration → SyntaxDeclarations
 decls [] = no_decls
@@ -47,7 +47,7 @@ member_of m = record {
 }
 
 abbrev pub constructor_of : ConTree → Constructor
-constructor_of c = record { name = c.name; fields = types c.fields }
+constructor_of c = record { name = c.name; fields = map param_of c.fields }
 
 abbrev pub algebraic_of : AlgTree → Algebraic
 algebraic_of a =

@@ -4,7 +4,7 @@ use crate::names::{At, Name, OpName, Path, QName};
 use crate::types::TypeTree;
 use outside::Seq;
 
-/// A parameter of a type, with names or, as an argument type alone, without.
+/// A parameter or field of a type, with names or, as an argument type alone, without.
 #[derive(Drop)]
 pub struct ParamTree {
     pub names: Seq<Name>,
@@ -68,11 +68,11 @@ pub struct AlgTree {
     pub cons: Seq<ConTree>,
 }
 
-/// A constructor with the types of its fields.
+/// A constructor with its fields, which are written as parameters are: each type alone, or with the names of its fields.
 #[derive(Drop)]
 pub struct ConTree {
     pub name: Name,
-    pub fields: Seq<TypeTree>,
+    pub fields: Seq<ParamTree>,
 }
 
 /// A member after `with`: a function where it has a result type, else a predicate.

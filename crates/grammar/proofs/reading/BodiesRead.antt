@@ -1,5 +1,5 @@
 -- The tokens of types' declarations, members, clauses, links and substitutions are read as them.
-use Rattle.grammar.proofs.reading.Common.{◌≡◌, ℕ, ◌+◌, Bool, true, false, cond, List, [], ◌∷◌, ◌++◌, Option, Some, None, option_map, refl, sym, ap, ◌∙◌, subst, append_assoc, same, is_tail, same_true, no_false, Symbol, Name, Lexeme, Word, at, lx, mark, name, SyntaxForm, SyntaxForms, IsForm, IsHead, IsPlaced, Own, aliased, called, composed, enclosed, form_row, lower, no_forms, past, scoped, type_variable, type_forms, upper, variable, wild, write_called, write_form, write_own, HasSome, IsLevel, IsPlacedTree, IsTypePart, PlacedNames, PlacedPart, SyntaxTree, bar_before, type_part, write, Algebraic, Clause, Constructor, Inductive, Member, clause_list, clause_tail, constructor_list, constructor_tail, definition, inductive_tail, other_members, param_row, variable_row, write_inductive, write_member, AreClauses, AreConstructors, AreInductive, AreMembers, AreParams, IsDefined, IsOptionalDefinition, IsNewSymbol, IsProp, PlacedClauses, PlacedConstructors, PlacedDefinition, PlacedInductive, PlacedInductives, PlacedMembers, ClausesPart, FieldsPart, TypePart, UpperPart, fields_of, is_algebraic, is_alias, scope_of, with_clause, ReadingRow, Vals, extend, row, then_row, upper_own, rows, blank, by_row, find, values_over, read, with_blank}
+use Rattle.grammar.proofs.reading.Common.{◌≡◌, ℕ, ◌+◌, Bool, true, false, cond, List, [], ◌∷◌, ◌++◌, Option, Some, None, option_map, refl, sym, ap, ◌∙◌, subst, append_assoc, same, is_tail, same_true, no_false, Symbol, Name, Lexeme, Word, at, lx, mark, name, SyntaxForm, SyntaxForms, IsForm, IsHead, IsPlaced, Own, aliased, called, composed, enclosed, form_row, lower, past, scoped, type_variable, type_forms, upper, variable, wild, write_called, write_form, write_own, HasSome, IsLevel, IsPlacedTree, IsTypePart, PlacedNames, PlacedPart, SyntaxTree, bar_before, type_part, write, Algebraic, Clause, Constructor, Inductive, Member, clause_list, clause_tail, constructor_list, constructor_tail, definition, inductive_tail, other_members, param_row, variable_row, write_inductive, write_member, AreClauses, AreConstructors, AreInductive, AreMembers, AreParams, IsDefined, IsOptionalDefinition, IsNewSymbol, IsProp, PlacedClauses, PlacedConstructors, PlacedDefinition, PlacedInductive, PlacedInductives, PlacedMembers, ClausesPart, FieldsPart, TypePart, UpperPart, fields_of, is_algebraic, is_alias, scope_of, with_clause, ReadingRow, Vals, extend, row, then_row, upper_own, rows, blank, by_row, find, values_over, read, with_blank}
 use Rattle.tokens_why.specs.declared.terminal.Terminal.TheVariants as t
 use Rattle.grammar.specs.declared.symbols.Symbol.TheVariants as s
 use Rattle.grammar.proofs.reading.Reading.{Reads, Stops, find_apart, find_extend, fused, passed, past-append}
@@ -20,7 +20,7 @@ pub upper_fields : (xs : List Lexeme) (i : ℕ) (k : List Symbol) (vs : FieldsPa
 upper_fields [] i k vs h = cc
 upper_fields (x ∷ xs) i k vs h = by_dot (same t.Dot x.terminal) refl
   where
-    by_blank : (o : Option (Vals (s.Decls ∷ k))) → with_blank s.Fields (s.Decls ∷ k) (Some (record { fields = no_forms; constructors = []; others = [] })) o ≡ Some vs → with_blank s.Upper (s.Decls ∷ k) (Some (fields_of (record { fields = no_forms; constructors = []; others = [] }))) o ≡ Some (fields_of vs.0, vs.1)
+    by_blank : (o : Option (Vals (s.Decls ∷ k))) → with_blank s.Fields (s.Decls ∷ k) (Some (record { fields = []; constructors = []; others = [] })) o ≡ Some vs → with_blank s.Upper (s.Decls ∷ k) (Some (fields_of (record { fields = []; constructors = []; others = [] }))) o ≡ Some (fields_of vs.0, vs.1)
     by_blank None h = cc
     by_blank (Some us) h = ap (option_map {U = UpperPart × Vals (s.Decls ∷ k)} (λ q. (fields_of q.0, q.1))) h
 
@@ -54,10 +54,10 @@ typedef_alias (wild a) zs i k vs l p n h = elim l [ ]
 typedef_alias (variable a m) zs i k vs l p n h = elim l [ ]
 typedef_alias (aliased a f m) zs i k vs l p n h = elim l.0 [ ]
 
-pub typedef_con : (bar : Bool) (cs : List Constructor) (as_ : List Algebraic) (zs : List Lexeme) (i : ℕ) (k : List Symbol) (vs : Vals (s.Decls ∷ k)) → HasSome cs → AreConstructors cs → PlacedConstructors (past i (bar_before bar)) cs → Reads (s.Fields ∷ s.Decls ∷ k) zs (past (past i (bar_before bar)) (constructor_list cs)) (record { fields = no_forms; constructors = []; others = as_ }, vs) → Reads (s.Typedef ∷ s.Decls ∷ k) (bar_before bar ++ (constructor_list cs ++ zs)) i (is_algebraic (record { bar = bar; constructors = cs; others = as_ }), vs)
+pub typedef_con : (bar : Bool) (cs : List Constructor) (as_ : List Algebraic) (zs : List Lexeme) (i : ℕ) (k : List Symbol) (vs : Vals (s.Decls ∷ k)) → HasSome cs → AreConstructors cs → PlacedConstructors (past i (bar_before bar)) cs → Reads (s.Fields ∷ s.Decls ∷ k) zs (past (past i (bar_before bar)) (constructor_list cs)) (record { fields = []; constructors = []; others = as_ }, vs) → Reads (s.Typedef ∷ s.Decls ∷ k) (bar_before bar ++ (constructor_list cs ++ zs)) i (is_algebraic (record { bar = bar; constructors = cs; others = as_ }), vs)
 typedef_con bar [] as_ zs i k vs e l p h = elim e [ ]
-typedef_con true (c ∷ cs) as_ zs i k vs e l p h = rw (append_assoc (form_row c.fields) (constructor_tail cs) zs, reads_fields c.fields cs as_ (constructor_tail cs ++ zs) (i + 1 + 1) (s.Decls ∷ k) vs l.0 p.1 (con_tail cs as_ zs (past (i + 1 + 1) (form_row c.fields)) (s.Decls ∷ k) vs l.1 p.2 (rw past-append at h))) (ap (λ v. Some (is_algebraic (record { bar = true; constructors = record { name = name v c.name.text; fields = c.fields } ∷ cs; others = as_ }), vs)) (sym p.0))
-typedef_con false (c ∷ cs) as_ zs i k vs e l p h = rw (append_assoc (form_row c.fields) (constructor_tail cs) zs, upper_fields (form_row c.fields ++ (constructor_tail cs ++ zs)) (i + 1) k (record { fields = c.fields; constructors = cs; others = as_ }, vs) (reads_fields c.fields cs as_ (constructor_tail cs ++ zs) (i + 1) (s.Decls ∷ k) vs l.0 p.1 (con_tail cs as_ zs (past (i + 1) (form_row c.fields)) (s.Decls ∷ k) vs l.1 p.2 (rw past-append at h)))) (ap (λ v. Some (is_algebraic (record { bar = false; constructors = record { name = name v c.name.text; fields = c.fields } ∷ cs; others = as_ }), vs)) (sym p.0))
+typedef_con true (c ∷ cs) as_ zs i k vs e l p h = rw (append_assoc (param_row c.fields) (constructor_tail cs) zs, reads_fields c.fields cs as_ (constructor_tail cs ++ zs) (i + 1 + 1) (s.Decls ∷ k) vs l.0 p.1 (con_tail cs as_ zs (past (i + 1 + 1) (param_row c.fields)) (s.Decls ∷ k) vs l.1 p.2 (rw past-append at h))) (ap (λ v. Some (is_algebraic (record { bar = true; constructors = record { name = name v c.name.text; fields = c.fields } ∷ cs; others = as_ }), vs)) (sym p.0))
+typedef_con false (c ∷ cs) as_ zs i k vs e l p h = rw (append_assoc (param_row c.fields) (constructor_tail cs) zs, upper_fields (param_row c.fields ++ (constructor_tail cs ++ zs)) (i + 1) k (record { fields = c.fields; constructors = cs; others = as_ }, vs) (reads_fields c.fields cs as_ (constructor_tail cs ++ zs) (i + 1) (s.Decls ∷ k) vs l.0 p.1 (con_tail cs as_ zs (past (i + 1) (param_row c.fields)) (s.Decls ∷ k) vs l.1 p.2 (rw past-append at h)))) (ap (λ v. Some (is_algebraic (record { bar = false; constructors = record { name = name v c.name.text; fields = c.fields } ∷ cs; others = as_ }), vs)) (sym p.0))
 
 pub reads_tvars : (ns : List Name) (d : Option TypePart) (zs : List Lexeme) (i : ℕ) (k : List Symbol) (vs : Vals k) → PlacedNames i ns → Reads (s.Tvars ∷ k) zs (past i (variable_row ns)) (record { vars = []; equation = d }, vs) → Reads (s.Tvars ∷ k) (variable_row ns ++ zs) i (record { vars = ns; equation = d }, vs)
 reads_tvars [] d zs i k vs p h = h

@@ -1,9 +1,9 @@
 -- What the rules of declarations may be read as, and the tokens of that.
-use Rattle.grammar.proofs.reading.Common.{◌≡◌, ℕ, ◌+◌, Bool, false, List, [], ◌∷◌, ◌++◌, Option, Some, None, ⊤, Name, Lexeme, lx, mark, AreForms, AreParts, Called, SyntaxForm, SyntaxForms, IsForm, IsPlaced, PlacedList, PlacedRow, form_list, form_row, form_tail, past, scoped, type_forms, write_called, write_form, HasSome, IsLevel, IsPlacedTree, IsTypePart, PlacedNames, PlacedPart, SyntaxTree, bar_before, ends_open, name_row, type_part, write, Algebraic, Constructor, Element, Inductive, Member, algebraic_tail, clause_list, clause_tail, constructor_list, constructor_tail, definition, inductive_tail, link_words, other_members, renamed, substitution, variable_row, write_path, AreAlgebraic, AreClauses, AreConstructors, AreElements, AreInductive, AreMembers, IsDefined, IsLink, IsProp, PlacedAlgebraics, PlacedClauses, PlacedConstructors, PlacedDefinition, PlacedElements, PlacedInductives, PlacedMembers, PlacedRenamed, AlgPart, BodyPart, ClausePart, ClausesPart, ClonedPart, ConPart, FieldsPart, MemberPart, NamePart, ParamPart, TvarsPart, TypePart, UpperPart, UsedPart, VarsPart, fields_of, is_algebraic, is_alias, name_names, name_types, param_names, param_types, scope_of}
+use Rattle.grammar.proofs.reading.Common.{◌≡◌, ℕ, ◌+◌, Bool, false, List, [], ◌∷◌, ◌++◌, Option, Some, None, ⊤, Name, Lexeme, lx, mark, AreForms, AreParts, Called, SyntaxForm, SyntaxForms, IsForm, IsPlaced, PlacedList, PlacedRow, form_list, form_row, form_tail, past, scoped, type_forms, write_called, write_form, HasSome, IsLevel, IsPlacedTree, IsTypePart, PlacedNames, PlacedPart, SyntaxTree, bar_before, ends_open, name_row, type_part, write, Algebraic, Constructor, Element, Inductive, Member, algebraic_tail, clause_list, clause_tail, constructor_list, constructor_tail, definition, inductive_tail, link_words, other_members, param_row, renamed, substitution, variable_row, write_path, AreAlgebraic, AreClauses, AreConstructors, AreElements, AreInductive, AreMembers, AreParams, IsDefined, IsLink, IsProp, PlacedAlgebraics, PlacedClauses, PlacedConstructors, PlacedDefinition, PlacedElements, PlacedInductives, PlacedMembers, PlacedParams, PlacedRenamed, AlgPart, BodyPart, ClausePart, ClausesPart, ClonedPart, ConPart, FieldsPart, MemberPart, NamePart, ParamPart, TvarsPart, TypePart, UpperPart, UsedPart, VarsPart, fields_of, is_algebraic, is_alias, name_names, name_types, param_names, param_types, scope_of}
 use Rattle.tokens_why.specs.declared.terminal.Terminal.TheVariants as t
 
 abbrev pub write_fields : FieldsPart → List Lexeme
-write_fields p = form_row p.fields ++ (constructor_tail p.constructors ++ algebraic_tail p.others)
+write_fields p = param_row p.fields ++ (constructor_tail p.constructors ++ algebraic_tail p.others)
 
 abbrev pub write_con : ConPart → List Lexeme
 write_con c = bar_before c.bar ++ (constructor_list c.constructors ++ algebraic_tail c.others)
@@ -73,7 +73,7 @@ abbrev pub IsFieldsRest : ℕ → List Constructor → List Algebraic → Type 0
 IsFieldsRest i cs as_ = AreConstructors cs × PlacedConstructors (i + 1) cs × AreOthers (past i (constructor_tail cs)) as_
 
 abbrev pub IsFields : ℕ → FieldsPart → Type 0
-IsFields i p = AreParts type_forms p.fields × PlacedRow i p.fields × IsFieldsRest (past i (form_row p.fields)) p.constructors p.others
+IsFields i p = AreParams p.fields × PlacedParams i p.fields × IsFieldsRest (past i (param_row p.fields)) p.constructors p.others
 
 abbrev pub IsConRest : ℕ → List Constructor → List Algebraic → Type 0
 IsConRest i cs as_ = HasSome cs × AreConstructors cs × PlacedConstructors i cs × AreOthers (past i (constructor_list cs)) as_

@@ -1,5 +1,5 @@
 -- What comes after a declaration, and what no part of the declaration takes.
-use Rattle.grammar.proofs.reading.Common.{same, ◌≡◌, Bool, true, false, List, [], ◌∷◌, ◌++◌, refl, no_false, Terminal, Lexeme, lx, mark, write_called, write_form, write, PropKind, SyntaxDeclarations, algebraic_decl, algebraic_list, clone_decl, constant_decl, definition, function_decl, inductive_decl, inductive_list, link_words, more_decls, no_decls, other_members, param_row, predicate_decl, prop_decl, prop_word, renamed, scope_decl, substitution, type_decl, type_equation, use_decl, variable_row, write_decls, write_path}
+use Rattle.grammar.proofs.reading.Common.{same, ◌≡◌, Bool, true, List, [], ◌∷◌, ◌++◌, refl, no_false, Terminal, Lexeme, lx, mark, write_called, write_form, write, PropKind, SyntaxDeclarations, algebraic_decl, algebraic_list, clone_decl, constant_decl, definition, function_decl, inductive_decl, inductive_list, link_words, more_decls, no_decls, other_members, param_row, predicate_decl, prop_decl, prop_word, renamed, scope_decl, substitution, type_decl, type_equation, use_decl, variable_row, write_decls, write_path}
 use Rattle.std.specs.List.{list_any}
 use Rattle.tokens_why.specs.declared.terminal.Terminal.TheVariants as t
 use Rattle.grammar.specs.declared.symbols.Symbol.TheVariants as s

@@ -1,5 +1,5 @@
 -- The tokens of a type or a pattern are read as it.
-use Rattle.grammar.proofs.reading.Common.{◌≡◌, ℕ, ◌+◌, List, [], ◌∷◌, ◌++◌, Option, Some, None, refl, sym, append_assoc, append-nil, Symbol, Name, Lexeme, Word, at, lx, mark, AreForms, AreParts, SyntaxForm, SyntaxForms, IsForm, IsHead, IsFormPart, IsPlaced, IsUnnamed, Own, PlacedList, PlacedRow, aliased, called, composed, enclosed, form_list, form_row, form_tail, infix_op, lower, more_forms, no_forms, past, pattern_forms, prefix_op, scoped, star, type_variable, type_forms, upper, variable, wild, write_called, write_form, write_own, named_at, Vals, row, read}
+use Rattle.grammar.proofs.reading.Common.{◌≡◌, ℕ, ◌+◌, List, [], ◌∷◌, ◌++◌, Option, Some, None, refl, sym, append_assoc, append-nil, Symbol, Name, Lexeme, Word, at, lx, mark, AreForms, AreParts, SyntaxForm, SyntaxForms, IsForm, IsHead, IsFormPart, IsPlaced, IsUnnamed, Own, PlacedList, PlacedRow, aliased, called, composed, enclosed, form_list, form_row, form_tail, infix_op, lower, more_forms, no_forms, past, pattern_forms, prefix_op, scoped, star, type_variable, type_forms, upper, variable, wild, write_called, write_form, write_own, named_at, Vals, row}
 use Rattle.tokens_why.specs.declared.terminal.Terminal.TheVariants as t
 use Rattle.grammar.specs.declared.symbols.Symbol.TheVariants as s
 use Rattle.grammar.proofs.reading.Reading.{Extends, Reads, Stops, apart_close, extended, passed, past-append}

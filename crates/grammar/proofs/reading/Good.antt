@@ -1,5 +1,5 @@
 -- Values that are right, with their places and tokens.
-use Rattle.grammar.proofs.reading.Common.{◌≡◌, ℕ, ◌+◌, Bool, true, false, ◌&&◌, List, [], ◌∷◌, ◌++◌, Option, Some, None, ◌≤◌, ⊤, Terminal, Symbol, is_tail, Name, Lexeme, Word, lx, mark, AreForms, AreParts, IsForm, IsFormPart, IsPlaced, PlacedList, PlacedRow, form_list, form_row, form_tail, past, pattern_forms, scoped, type_forms, write_called, write_form, write_own, is_infix, is_operator, prec, need, right, AreAtoms, AreBranches, AreLevel, HasSome, IsAtom, IsLevel, IsOwn, IsPlacedTree, MayBeMarked, OperatorToken, PlacedBranches, PlacedCommas, PlacedTrees, ends_open, none, tight, write, write_op, write_others, write_row, write_tail, definition, element_tail, other_members, param_row, renamed, substitution, write_decls, write_element, write_file, write_path, AreLevelDecls, AreMembers, AreParams, IsOptionalDefinition, IsElement, IsLevelFile, IsNewProp, IsNewSymbol, IsSymbolName, PlacedDecls, PlacedDefinition, PlacedElement, PlacedFile, PlacedMembers, PlacedParams, PlacedRenamed, Chain, Closing, Dotted, Minus, Paren, Scoped, cast_to, closes_group, holds, link, named_operator, named_by, nothing, operand, stop, ReadingRow, Val, Vals, back, extend, front, blank}
+use Rattle.grammar.proofs.reading.Common.{◌≡◌, ℕ, ◌+◌, Bool, true, false, ◌&&◌, List, [], ◌∷◌, ◌++◌, Option, Some, None, ◌≤◌, ⊤, Terminal, Symbol, is_tail, Name, Lexeme, Word, lx, mark, AreForms, AreParts, IsForm, IsFormPart, IsPlaced, PlacedList, PlacedRow, form_list, form_row, form_tail, past, pattern_forms, scoped, type_forms, write_called, write_form, write_own, is_infix, is_operator, prec, need, right, AreAtoms, AreBranches, AreLevel, HasSome, IsAtom, IsLevel, IsOwn, IsPlacedTree, MayBeMarked, OperatorToken, PlacedBranches, PlacedCommas, PlacedTrees, ends_open, none, tight, write, write_op, write_others, write_row, write_tail, definition, element_tail, other_members, param_row, renamed, substitution, write_decls, write_element, write_file, write_path, AreLevelDecls, AreMembers, AreParams, IsOptionalDefinition, IsElement, IsLevelFile, IsNewProp, IsNewSymbol, IsSymbolName, PlacedDecls, PlacedDefinition, PlacedElement, PlacedFile, PlacedMembers, PlacedParams, PlacedRenamed, Chain, Closing, Dotted, Minus, Paren, Scoped, cast_to, closes_group, holds, link, named_operator, named_by, nothing, operand, stop, ReadingRow, Val, Vals, back, extend, front, blank, write_param, IsTypedParam, PlacedTyped}
 use Rattle.tokens_why.specs.declared.terminal.Terminal.TheVariants as t
 use Rattle.grammar.specs.declared.symbols.Symbol.TheVariants as s
 use Rattle.grammar.proofs.reading.TermsRight.{IsArm, IsBound, IsBranch, IsCases, IsLet, IsNames, IsTerms, write_arm, write_bound, write_branch, write_cases, write_let, write_names, write_terms_part}
@@ -109,6 +109,7 @@ writes s.Algvars a = write_alg a
 writes s.Con c = write_con c
 writes s.Op c = write_called c
 writes s.Ident c = write_called c
+writes s.Param p = write_param p
 writes s.Params ps = param_row ps
 writes s.Pparen p = write_pparen p
 writes s.Pname p = write_pname p
@@ -229,6 +230,7 @@ Is s.Algvars i a = IsAlg i a
 Is s.Con i c = IsCon i c
 Is s.Op i c = (c.at ≡ i) × IsNewSymbol c
 Is s.Ident i c = (c.at ≡ i) × IsNewProp c
+Is s.Param i p = IsTypedParam p.names p.of_type × PlacedTyped i p.names p.of_type
 Is s.Params i ps = AreParams ps × PlacedParams i ps
 Is s.Pparen i p = IsPparen i p
 Is s.Pname i p = IsPname i p

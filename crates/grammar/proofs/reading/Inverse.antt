@@ -1,6 +1,6 @@
 -- What follows from tokens that are read, for any rule: the row of the first token, a rule that reads what another reads,
 -- and a rule that may be empty.
-use Rattle.grammar.proofs.reading.Common.{◌≡◌, ℕ, ◌+◌, ◌<◌, ◌≤◌, ◌⊎◌, inl, inr, Bool, true, false, List, [], ◌∷◌, ◌++◌, length, Option, Some, None, option_map, refl, sym, ap, ◌∙◌, subst, arith, add-one, drop-cons, Terminal, Symbol, is_seal, is_tail, Lexeme, ReadingRow, Val, Vals, back, extend, front, row, then_row, rows, at_end, blank, by_row, find, values_over, read, with_blank}
+use Rattle.grammar.proofs.reading.Common.{◌≡◌, ℕ, ◌+◌, ◌<◌, ◌≤◌, ◌⊎◌, inl, inr, Bool, true, false, List, [], ◌∷◌, ◌++◌, length, Option, Some, None, option_map, refl, sym, ap, ◌∙◌, subst, arith, add-one, drop-cons, Terminal, Symbol, is_seal, is_tail, Lexeme, ReadingRow, Val, Vals, back, extend, front, then_row, rows, at_end, blank, by_row, find, values_over, read, with_blank}
 use Rattle.std.proofs.Math.ListN.{drop_of_length-le}
 use Rattle.std.proofs.lemmas.List.{get_or_past}
 use Rattle.tokens_why.specs.declared.terminal.Terminal.TheVariants as t

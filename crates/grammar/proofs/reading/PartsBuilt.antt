@@ -1,5 +1,5 @@
 -- What is read as part of a declaration is right.
-use Rattle.grammar.proofs.reading.Common.{◌≡◌, ℕ, ◌+◌, Bool, true, false, List, [], ◌∷◌, ◌++◌, Option, Some, None, refl, sym, ap, ◌∙◌, subst, append_assoc, Name, Lexeme, Word, lx, mark, name, Called, form_list, form_row, form_tail, more_forms, no_forms, past, scoped, write_called, write_form, IsOwn, OperatorToken, bar_before, type_part, write, algebraic_tail, constructor_list, constructor_tail, other_members, param_row, variable_row, write_algebraic, write_member, write_param, AreAlgebraic, IsSymbolName, IsTypedParam, PlacedAlgebraics, PlacedMembers, PlacedParams, PlacedTyped, own_op, AlgPart, FieldsPart, NamePart, ParamPart, UpperPart, name_before, behind_paren, fields_of, name_names, name_types, new_algebraic, new_constructor, new_member, param, param_names, param_types, prop_called, scope_of, upper_type, extend, tmore_rows, pname_args, rows}
+use Rattle.grammar.proofs.reading.Common.{◌≡◌, ℕ, ◌+◌, Bool, true, false, List, [], ◌∷◌, ◌++◌, Option, Some, None, refl, sym, ap, ◌∙◌, subst, append_assoc, Name, Lexeme, Word, lx, mark, name, Called, form_list, form_row, form_tail, more_forms, no_forms, past, scoped, write_called, write_form, IsOwn, OperatorToken, bar_before, type_part, write, algebraic_tail, constructor_list, constructor_tail, other_members, param_row, variable_row, write_algebraic, write_member, write_param, AreAlgebraic, IsSymbolName, IsTypedParam, PlacedAlgebraics, PlacedMembers, PlacedTyped, own_op, AlgPart, FieldsPart, NamePart, ParamPart, UpperPart, name_before, behind_paren, fields_of, name_names, name_types, new_algebraic, new_constructor, new_member, param, param_names, param_types, prop_called, scope_of, upper_type, extend, tmore_rows, pname_args, rows}
 use Rattle.tokens_why.specs.declared.terminal.Terminal.TheVariants as t
 use Rattle.grammar.specs.declared.symbols.Symbol.TheVariants as s
 use Rattle.grammar.proofs.reading.Reading.{past-append}
@@ -15,7 +15,7 @@ pub con_levels : (i : ℕ) (n : Name) (p : FieldsPart) → n.at ≡ i → IsFiel
 con_levels i n p a h = (tt, (h.0, h.2.0), (a, h.1, h.2.1), rw past-append h.2.2)
 
 pub con_tokens : (n : Name) (p : FieldsPart) → constructor_list (new_constructor n p ∷ p.constructors) ++ algebraic_tail p.others ≡ lx t.Uident n.text ∷ write_fields p
-con_tokens n p = ap (λ v. lx t.Uident n.text ∷ v) (append_assoc (form_row p.fields) (constructor_tail p.constructors) (algebraic_tail p.others))
+con_tokens n p = ap (λ v. lx t.Uident n.text ∷ v) (append_assoc (param_row p.fields) (constructor_tail p.constructors) (algebraic_tail p.others))
 
 pub alg_levels : (i : ℕ) (n : Name) (a : AlgPart) → n.at ≡ i → IsAlg (i + 1) a → AreAlgebraic (new_algebraic n a.vars a.con ∷ a.con.others) × PlacedAlgebraics i (new_algebraic n a.vars a.con ∷ a.con.others)
 alg_levels i n a b h = ((h.1.0, h.1.1, h.1.3.0), ((b, h.0, h.1.2), subst (λ j. PlacedAlgebraics (j + 1) a.con.others) (sym (past-append (variable_row a.vars) (mark t.Equal ∷ (bar_before a.con.bar ++ constructor_list a.con.constructors)) (i + 1) ∙ past-append (bar_before a.con.bar) (constructor_list a.con.constructors) (past (i + 1) (variable_row a.vars) + 1))) h.1.3.1))
@@ -44,11 +44,21 @@ typedef_ok = (λ k i w xs vs p g. (xs, (tt, refl), refl, g))
     ▸ (λ k i w xs vs p (ys, m, e, (zs, n, d, g)). (zs, con_levels (i + 1) vs.0 vs.1.0 m.0 n, begins t.Bar w xs ((constructor_list (new_constructor vs.0 vs.1.0 ∷ vs.1.0.constructors) ++ algebraic_tail vs.1.0.others) ++ zs) p (e ∙ ap (λ v. lx t.Uident vs.0.text ∷ v) d ∙ ap (λ v. v ++ zs) (sym (con_tokens vs.0 vs.1.0))), subst (λ v. Good false k (past (i + 1) v) zs vs.1.1) (sym (con_tokens vs.0 vs.1.0)) g))
     ▸ tt
 
+-- a parameter, or fields of one type
+pub param_is : (i : ℕ) (q : ParamPart) → IsPparen (i + 1) q → IsTypedParam (param i q).names (param i q).of_type × PlacedTyped i (param i q).names (param i q).of_type × (write_param (param i q) ≡ mark t.LParen ∷ write_pparen q)
+param_is i (param_names [] f) h = elim h.0 [ ]
+param_is i (param_names (n ∷ ns) f) h = (h.2.0, (h.1, h.2.1), refl)
+param_is i (param_types fs) h = ((tt, h.0), (refl, h.1), refl)
+
+pub param_ok : AllRows s.Param (rows s.Param)
+param_ok = (λ k i w xs vs p (ys, m, e, g). (let r = param_is i vs.0 m in (ys, (r.0, r.1), begins t.LParen w xs (write_pparen vs.0 ++ ys) p e ∙ ap (λ v. v ++ ys) (sym r.2), subst (λ v. Good false k (past i v) ys vs.1) (sym r.2) g)))
+    ▸ extend_ok s.Param s.Atype [] (λ v vs. record { names = []; of_type = v }) (rows s.Atype) (λ k i xs v vs (ys, m, e, g). (ys, ((m.0, m.1), m.2), e, g)) atype_ok
+
 pub fields_ok : AllRows s.Fields (rows s.Fields)
 fields_ok = (λ k i w xs vs p (ys, m, e, (zs, n, d, g)). (let l = con_levels (i + 1) vs.0 vs.1.0 m.0 n in (zs, (tt, tt, (l.1, l.2, l.3)), begins t.Bar w xs ((constructor_list (new_constructor vs.0 vs.1.0 ∷ vs.1.0.constructors) ++ algebraic_tail vs.1.0.others) ++ zs) p (e ∙ ap (λ v. lx t.Uident vs.0.text ∷ v) d ∙ ap (λ v. v ++ zs) (sym (con_tokens vs.0 vs.1.0))), subst (λ v. Good false k (past (i + 1) v) zs vs.1.1) (sym (con_tokens vs.0 vs.1.0)) g)))
     ▸ (λ k i w xs vs p (ys, m, e, (zs, n, d, g)). (zs, (tt, tt, (tt, tt, alg_levels (i + 1) vs.0 vs.1.0 m.0 n)), begins t.WithWord w xs ((write_algebraic (new_algebraic vs.0 vs.1.0.vars vs.1.0.con) ++ algebraic_tail vs.1.0.con.others) ++ zs) p (e ∙ ap (λ v. lx t.Lident vs.0.text ∷ v) d ∙ ap (λ v. v ++ zs) (sym (alg_tokens vs.0 vs.1.0))), subst (λ v. Good false k (past (i + 1) v) zs vs.1.1) (sym (alg_tokens vs.0 vs.1.0)) g))
-    ▸ extend_ok s.Fields s.Atype (s.Fields ∷ []) (λ v vs. record { fields = more_forms v vs.0.fields; constructors = vs.0.constructors; others = vs.0.others }) (rows s.Atype)
-    (λ k i xs v vs (ys, m, e, (zs, n, d, g)). (zs, ((m.0, m.1, n.0), (m.2, n.1), rw past-append n.2), e ∙ ap (λ u. write_form v ++ u) d ∙ list_tokens (write_form v) (form_row vs.0.fields) (constructor_tail vs.0.constructors ++ algebraic_tail vs.0.others) zs, subst (λ j. Good false k j zs vs.1) (sym (list_past (write_form v) (form_row vs.0.fields) (constructor_tail vs.0.constructors ++ algebraic_tail vs.0.others) i)) g)) atype_ok
+    ▸ extend_ok s.Fields s.Param (s.Fields ∷ []) (λ v vs. record { fields = v ∷ vs.0.fields; constructors = vs.0.constructors; others = vs.0.others }) (rows s.Param)
+    (λ k i xs v vs (ys, m, e, (zs, n, d, g)). (zs, ((m.0, n.0), (m.1, n.1), rw past-append n.2), e ∙ ap (λ u. write_param v ++ u) d ∙ list_tokens (write_param v) (param_row vs.0.fields) (constructor_tail vs.0.constructors ++ algebraic_tail vs.0.others) zs, subst (λ j. Good false k j zs vs.1) (sym (list_past (write_param v) (param_row vs.0.fields) (constructor_tail vs.0.constructors ++ algebraic_tail vs.0.others) i)) g)) param_ok
 
 pub upper_ok : AllRows s.Upper (rows s.Upper)
 upper_ok = (λ k i w xs vs p (ys, m, e, (zs, n, d, g)). (zs, (n.0, n.1), begins t.Dot w xs (((scoped vs.0.scopes ++ (lx t.Lident vs.0.last ∷ [])) ++ form_row vs.1.0) ++ zs) p (two_tokens (scoped vs.0.scopes ++ (lx t.Lident vs.0.last ∷ [])) (form_row vs.1.0) xs ys zs e d), subst (λ j. Good false k j zs vs.1.1) (sym (past-append (scoped vs.0.scopes ++ (lx t.Lident vs.0.last ∷ [])) (form_row vs.1.0) (i + 1))) g))
@@ -98,20 +108,9 @@ pub axioms_ok : AllRows s.Axioms (rows s.Axioms)
 axioms_ok = (λ k i w xs vs p g. (xs, tt, ap (λ v. lx t.Dot v ∷ xs) p, g), extend_ok s.Axioms s.Qid [] (λ v vs. Some v) (rows s.Qid) (λ k i xs v vs (ys, m, e, g). (ys, m, e, g)) qid_ok)
 
 -- parameters
-pub param_is : (i : ℕ) (q : ParamPart) → IsPparen (i + 1) q → IsTypedParam (param i q).names (param i q).of_type × PlacedTyped i (param i q).names (param i q).of_type × (write_param (param i q) ≡ mark t.LParen ∷ write_pparen q)
-param_is i (param_names [] f) h = elim h.0 [ ]
-param_is i (param_names (n ∷ ns) f) h = (h.2.0, (h.1, h.2.1), refl)
-param_is i (param_types fs) h = ((tt, h.0), (refl, h.1), refl)
-
 pub params_ok : AllRows s.Params (rows s.Params)
-params_ok = (λ k i w xs vs p (ys, m, e, (zs, n, d, g)). (let r = param_is i vs.0 m in (
-  zs,
-  ((r.0, n.0), (r.1, subst (λ v. PlacedParams (past i v) vs.1.0) (sym r.2) n.1)),
-  begins t.LParen w xs ((write_pparen vs.0 ++ param_row vs.1.0) ++ zs) p (two_tokens (write_pparen vs.0) (param_row vs.1.0) xs ys zs e d) ∙ ap (λ v. (v ++ param_row vs.1.0) ++ zs) (sym r.2),
-  subst (λ v. Good false k (past i (v ++ param_row vs.1.0)) zs vs.1.1) (sym r.2) (subst (λ j. Good false k j zs vs.1.1) (sym (past-append (write_pparen vs.0) (param_row vs.1.0) (i + 1))) g),
-)))
-    ▸ extend_ok s.Params s.Atype (s.Params ∷ []) (λ v vs. record { names = []; of_type = v } ∷ vs.0) (rows s.Atype)
-    (λ k i xs v vs (ys, m, e, (zs, n, d, g)). (zs, (((m.0, m.1), n.0), (m.2, n.1)), two_tokens (write_form v) (param_row vs.0) xs ys zs e d, subst (λ j. Good false k j zs vs.1) (sym (past-append (write_form v) (param_row vs.0) i)) g)) atype_ok
+params_ok = extend_ok s.Params s.Param (s.Params ∷ []) (λ v vs. v ∷ vs.0) (rows s.Param)
+    (λ k i xs v vs (ys, m, e, (zs, n, d, g)). (zs, ((m.0, n.0), (m.1, n.1)), two_tokens (write_param v) (param_row vs.0) xs ys zs e d, subst (λ j. Good false k j zs vs.1) (sym (past-append (write_param v) (param_row vs.0) i)) g)) param_ok
 
 pub paren_is : (i : ℕ) (w : Word) (q : NamePart) → IsPname (i + 1) q → IsPparen i (behind_paren i w q) × (write_pparen (behind_paren i w q) ≡ lx t.Lident w ∷ write_pname q)
 paren_is i w (name_names ns f) h = ((tt, (refl, h.0), h.1), refl)

@@ -1,9 +1,9 @@
 -- The tokens of names, parameters, constructors and links are read as them.
-use Rattle.grammar.proofs.reading.Common.{◌≡◌, ℕ, ◌+◌, Bool, true, false, cond, List, [], ◌∷◌, ◌++◌, Option, Some, None, option_map, refl, sym, ap, subst, append_assoc, append-nil, same, same_true, Terminal, Symbol, Name, Lexeme, Word, at, lx, mark, name, AreParts, Called, SyntaxForm, SyntaxForms, IsForm, IsHead, IsPlaced, Own, PlacedRow, aliased, called, composed, enclosed, form_list, form_row, infix_op, lower, more_forms, no_forms, past, prefix_op, scoped, star, type_variable, type_forms, upper, variable, wild, write_called, write_form, write_own, HasSome, PlacedNames, bar_before, name_row, Algebraic, Constructor, ParamGroup, algebraic_tail, constructor_list, constructor_tail, param_row, path_from, renamed, typed_names, variable_row, write_param, AreAlgebraic, AreConstructors, AreParams, IsNewProp, IsNewSymbol, IsProp, IsSymbolName, IsTypedParam, PlacedAlgebraics, PlacedConstructors, PlacedParams, PlacedRenamed, PlacedTyped, ConPart, NamePart, behind_paren, lone, name_names, name_types, param_types, ReadingRow, Vals, row, opname_row, fields_own, pparen_own, qop_own, rows, find, read, with_blank}
+use Rattle.grammar.proofs.reading.Common.{◌≡◌, ℕ, ◌+◌, Bool, true, false, cond, List, [], ◌∷◌, ◌++◌, Option, Some, None, option_map, refl, sym, ap, subst, append_assoc, append-nil, same, same_true, Terminal, Symbol, Name, Lexeme, Word, at, lx, mark, name, Called, SyntaxForm, SyntaxForms, IsForm, IsHead, IsPlaced, Own, aliased, called, composed, enclosed, form_list, infix_op, lower, more_forms, no_forms, past, prefix_op, scoped, star, type_variable, type_forms, upper, variable, wild, write_called, write_form, write_own, HasSome, PlacedNames, bar_before, name_row, Algebraic, Constructor, ParamGroup, algebraic_tail, constructor_list, constructor_tail, param_row, path_from, renamed, typed_names, variable_row, write_param, AreAlgebraic, AreConstructors, AreParams, IsNewProp, IsNewSymbol, IsProp, IsSymbolName, IsTypedParam, PlacedAlgebraics, PlacedConstructors, PlacedParams, PlacedRenamed, PlacedTyped, ConPart, NamePart, behind_paren, lone, name_names, name_types, param_types, ReadingRow, Vals, row, opname_row, fields_own, pparen_own, qop_own, rows, find, read, with_blank}
 use Rattle.tokens_why.specs.declared.terminal.Terminal.TheVariants as t
 use Rattle.grammar.specs.declared.symbols.Symbol.TheVariants as s
 use Rattle.grammar.proofs.reading.Reading.{Extends, Reads, Stops, extended, extended_at, passed, past-append, unmapped}
-use Rattle.grammar.proofs.reading.FormsRead.{reads_atype, reads_qlid, reads_tuple, reads_type}
+use Rattle.grammar.proofs.reading.FormsRead.{reads_qlid, reads_tuple, reads_type}
 use Rattle.grammar.proofs.reading.Operators.{reads_by}
 use Rattle.grammar.proofs.reading.TermRowsRead.{opname_found}
 use Rattle.grammar.proofs.reading.Operands.{both_right, past_op, reads_mark}
@@ -91,24 +91,28 @@ pub pname_names : (ns : List Name) (f : SyntaxForm) (zs : List Lexeme) (i : ℕ)
 pname_names [] f zs i k vs p l q h = rw (append_assoc (write_form f) (mark t.RParen ∷ []) zs, reads_type f (mark t.RParen ∷ zs) (i + 1) (s.Take t.RParen ∷ k) (name (past (i + 1) (write_form f)) [], vs) l q refl (reads_mark t.RParen zs (past (i + 1) (write_form f)) k vs (rw past-append at h))) refl
 pname_names (n ∷ ns) f zs i k vs p l q h = rw (pname_names ns f zs (i + 1) k vs p.1 l q h) (ap (λ v. Some (name_names (name v n.text ∷ ns) f, vs)) (sym p.0))
 
-pub params_headed : (qs : List Word) (o : Own) (ps : List ParamGroup) (zs : List Lexeme) (i : ℕ) (k : List Symbol) (vs : Vals k) → IsHead type_forms o → Reads (s.Params ∷ k) zs (past i (scoped qs ++ write_own o)) (ps, vs) → Reads (s.Params ∷ k) ((scoped qs ++ write_own o) ++ zs) i (record { names = []; of_type = composed (at i) (called i qs o) no_forms } ∷ ps, vs)
-params_headed [] (lower w) ps zs i k vs l h = rw h refl
-params_headed (q ∷ qs) (lower w) ps zs i k vs l h = rw (reads_qlid qs w zs (i + 1 + 1) (s.Params ∷ k) (ps, vs) h) refl
-params_headed qs _ ps zs i k vs l h = elim l [ ]
+param_headed : (qs : List Word) (o : Own) (zs : List Lexeme) (i : ℕ) (k : List Symbol) (vs : Vals k) → IsHead type_forms o → Reads k zs (past i (scoped qs ++ write_own o)) vs → Reads (s.Param ∷ k) ((scoped qs ++ write_own o) ++ zs) i (record { names = []; of_type = composed (at i) (called i qs o) no_forms }, vs)
+param_headed [] (lower w) zs i k vs l h = rw h refl
+param_headed (q ∷ qs) (lower w) zs i k vs l h = rw (reads_qlid qs w zs (i + 1 + 1) k vs h) refl
+param_headed qs _ zs i k vs l h = elim l [ ]
 
-pub reads_param : (ns : List Name) (f : SyntaxForm) (ps : List ParamGroup) (zs : List Lexeme) (i : ℕ) (k : List Symbol) (vs : Vals k) → IsTypedParam ns f → PlacedTyped i ns f → Reads (s.Params ∷ k) zs (past i (typed_names ns f)) (ps, vs) → Reads (s.Params ∷ k) (typed_names ns f ++ zs) i (record { names = ns; of_type = f } ∷ ps, vs)
-reads_param (n ∷ ns) f ps zs i k vs l p h = rw (both_right (name_row ns) (mark t.Colon) (write_form f ++ (mark t.RParen ∷ [])) zs, pname_names ns f zs (i + 1 + 1) (s.Params ∷ k) (ps, vs) p.0.1 l p.1 (rw past_op at h)) (ap (λ v. Some (record { names = name v n.text ∷ ns; of_type = f } ∷ ps, vs)) (sym p.0.0))
-reads_param [] (type_variable a w) ps zs i k vs l p h = rw (h, p) refl
-reads_param [] (composed a c no_forms) ps zs i k vs l p h = rw (append-nil (write_called c), p.0, p.1) (params_headed c.scopes c.own ps zs i k vs l.1.0 (rw append-nil at h))
-reads_param [] (composed a c (more_forms g gs)) ps zs i k vs l p h = elim l.0 [ ]
-reads_param [] (enclosed a ts) ps zs i k vs l p h = rw (p.0, pparen_types ((form_list ts ++ (mark t.RParen ∷ [])) ++ zs) (i + 1) (s.Params ∷ k) (ts, (ps, vs)) (reads_tuple ts zs (i + 1) (s.Params ∷ k) (ps, vs) l.1 p.1 h)) refl
-reads_param [] (wild a) ps zs i k vs l p h = elim l.1 [ ]
-reads_param [] (variable a m) ps zs i k vs l p h = elim l.1 [ ]
-reads_param [] (aliased a f m) ps zs i k vs l p h = elim l.0 [ ]
+pub reads_param : (ns : List Name) (f : SyntaxForm) (zs : List Lexeme) (i : ℕ) (k : List Symbol) (vs : Vals k) → IsTypedParam ns f → PlacedTyped i ns f → Reads k zs (past i (typed_names ns f)) vs → Reads (s.Param ∷ k) (typed_names ns f ++ zs) i (record { names = ns; of_type = f }, vs)
+reads_param (n ∷ ns) f zs i k vs l p h = rw (both_right (name_row ns) (mark t.Colon) (write_form f ++ (mark t.RParen ∷ [])) zs, pname_names ns f zs (i + 1 + 1) k vs p.0.1 l p.1 (rw past_op at h)) (ap (λ v. Some (record { names = name v n.text ∷ ns; of_type = f }, vs)) (sym p.0.0))
+reads_param [] (type_variable a w) zs i k vs l p h = rw (h, p) refl
+reads_param [] (composed a c no_forms) zs i k vs l p h = rw (append-nil (write_called c), p.0, p.1) (param_headed c.scopes c.own zs i k vs l.1.0 (rw append-nil at h))
+reads_param [] (composed a c (more_forms g gs)) zs i k vs l p h = elim l.0 [ ]
+reads_param [] (enclosed a ts) zs i k vs l p h = rw (p.0, pparen_types ((form_list ts ++ (mark t.RParen ∷ [])) ++ zs) (i + 1) k (ts, vs) (reads_tuple ts zs (i + 1) k vs l.1 p.1 h)) refl
+reads_param [] (wild a) zs i k vs l p h = elim l.1 [ ]
+reads_param [] (variable a m) zs i k vs l p h = elim l.1 [ ]
+reads_param [] (aliased a f m) zs i k vs l p h = elim l.0 [ ]
+
+params_extend : Extends s.Params s.Param (s.Params ∷ []) (λ v vs. v ∷ vs.0) []
+params_extend = record { is = refl; due = refl; apart = λ x r h. refl }
 
 pub reads_params : (ps : List ParamGroup) (zs : List Lexeme) (i : ℕ) (k : List Symbol) (vs : Vals k) → AreParams ps → PlacedParams i ps → Stops s.Params zs → Reads k zs (past i (param_row ps)) vs → Reads (s.Params ∷ k) (param_row ps ++ zs) i (ps, vs)
 reads_params [] zs i k vs l p n h = passed s.Params [] k zs i vs refl refl n h
-reads_params (q ∷ ps) zs i k vs l p n h = rw (append_assoc (write_param q) (param_row ps) zs) (reads_param q.names q.of_type ps (param_row ps ++ zs) i k vs l.0 p.0 (reads_params ps zs (past i (write_param q)) k vs l.1 p.1 n (rw past-append at h)))
+reads_params (q ∷ ps) zs i k vs l p n h = rw (append_assoc (write_param q) (param_row ps) zs) (extended s.Params s.Param (s.Params ∷ []) (λ v vs. v ∷ vs.0) [] params_extend (write_param q ++ (param_row ps ++ zs)) i k q (ps, vs)
+    (reads_param q.names q.of_type (param_row ps ++ zs) i (s.Params ∷ k) (ps, vs) l.0 p.0 (reads_params ps zs (past i (write_param q)) k vs l.1 p.1 n (rw past-append at h))))
 
 -- type variables
 pub elem_vars : (ns : List Name) (f : SyntaxForm) (zs : List Lexeme) (i : ℕ) (k : List Symbol) (vs : Vals k) → PlacedNames i ns → IsForm type_forms f → IsPlaced (past i (variable_row ns) + 1) f → Stops s.Targs zs → Reads k zs (past (past i (variable_row ns) + 1) (write_form f)) vs → Reads (s.Elvars ∷ k) (variable_row ns ++ (mark t.Equal ∷ (write_form f ++ zs))) i (record { vars = ns; type = f }, vs)
@@ -116,42 +120,42 @@ elem_vars [] f zs i k vs p l q n h = rw (reads_type f zs (i + 1) k vs l q n h) r
 elem_vars (x ∷ ns) f zs i k vs p l q n h = rw (elem_vars ns f zs (i + 1) k vs p.1 l q n h) (ap (λ v. Some (record { vars = name v x.text ∷ ns; type = f }, vs)) (sym p.0))
 
 -- fields, constructors and algebraic types
-fields_apart : (x : Terminal) (r : ReadingRow s.Atype) → find (rows s.Atype) x ≡ Some r → find fields_own x ≡ None
+fields_apart : (x : Terminal) (r : ReadingRow s.Param) → find (rows s.Param) x ≡ Some r → find fields_own x ≡ None
 fields_apart t.Bar r h = cc
 fields_apart t.WithWord r h = cc
 fields_apart _ r h = refl
 
-fields_extend : Extends s.Fields s.Atype (s.Fields ∷ []) (λ v vs. record { fields = more_forms v vs.0.fields; constructors = vs.0.constructors; others = vs.0.others }) fields_own
+fields_extend : Extends s.Fields s.Param (s.Fields ∷ []) (λ v vs. record { fields = v ∷ vs.0.fields; constructors = vs.0.constructors; others = vs.0.others }) fields_own
 fields_extend = record { is = refl; due = refl; apart = fields_apart }
 
-pub reads_fields : (fs : SyntaxForms) (cs : List Constructor) (as_ : List Algebraic) (zs : List Lexeme) (i : ℕ) (k : List Symbol) (vs : Vals k) → AreParts type_forms fs → PlacedRow i fs → Reads (s.Fields ∷ k) zs (past i (form_row fs)) (record { fields = no_forms; constructors = cs; others = as_ }, vs) → Reads (s.Fields ∷ k) (form_row fs ++ zs) i (record { fields = fs; constructors = cs; others = as_ }, vs)
-reads_fields no_forms cs as_ zs i k vs l p h = h
-reads_fields (more_forms f fs) cs as_ zs i k vs l p h = rw (append_assoc (write_form f) (form_row fs) zs) (extended s.Fields s.Atype (s.Fields ∷ []) (λ v vs. record { fields = more_forms v vs.0.fields; constructors = vs.0.constructors; others = vs.0.others }) fields_own fields_extend (write_form f ++ (form_row fs ++ zs)) i k f (record { fields = fs; constructors = cs; others = as_ }, vs)
-    (reads_atype f (form_row fs ++ zs) i (s.Fields ∷ k) (record { fields = fs; constructors = cs; others = as_ }, vs) l.0 l.1 p.0 (reads_fields fs cs as_ zs (past i (write_form f)) k vs l.2 p.1 (rw past-append at h))))
+pub reads_fields : (fs : List ParamGroup) (cs : List Constructor) (as_ : List Algebraic) (zs : List Lexeme) (i : ℕ) (k : List Symbol) (vs : Vals k) → AreParams fs → PlacedParams i fs → Reads (s.Fields ∷ k) zs (past i (param_row fs)) (record { fields = []; constructors = cs; others = as_ }, vs) → Reads (s.Fields ∷ k) (param_row fs ++ zs) i (record { fields = fs; constructors = cs; others = as_ }, vs)
+reads_fields [] cs as_ zs i k vs l p h = h
+reads_fields (f ∷ fs) cs as_ zs i k vs l p h = rw (append_assoc (write_param f) (param_row fs) zs) (extended s.Fields s.Param (s.Fields ∷ []) (λ v vs. record { fields = v ∷ vs.0.fields; constructors = vs.0.constructors; others = vs.0.others }) fields_own fields_extend (write_param f ++ (param_row fs ++ zs)) i k f (record { fields = fs; constructors = cs; others = as_ }, vs)
+    (reads_param f.names f.of_type (param_row fs ++ zs) i (s.Fields ∷ k) (record { fields = fs; constructors = cs; others = as_ }, vs) l.0 p.0 (reads_fields fs cs as_ zs (past i (write_param f)) k vs l.1 p.1 (rw past-append at h))))
 
-pub con_tail : (cs : List Constructor) (as_ : List Algebraic) (zs : List Lexeme) (i : ℕ) (k : List Symbol) (vs : Vals k) → AreConstructors cs → PlacedConstructors (i + 1) cs → Reads (s.Fields ∷ k) zs (past i (constructor_tail cs)) (record { fields = no_forms; constructors = []; others = as_ }, vs) → Reads (s.Fields ∷ k) (constructor_tail cs ++ zs) i (record { fields = no_forms; constructors = cs; others = as_ }, vs)
+pub con_tail : (cs : List Constructor) (as_ : List Algebraic) (zs : List Lexeme) (i : ℕ) (k : List Symbol) (vs : Vals k) → AreConstructors cs → PlacedConstructors (i + 1) cs → Reads (s.Fields ∷ k) zs (past i (constructor_tail cs)) (record { fields = []; constructors = []; others = as_ }, vs) → Reads (s.Fields ∷ k) (constructor_tail cs ++ zs) i (record { fields = []; constructors = cs; others = as_ }, vs)
 con_tail [] as_ zs i k vs l p h = h
-con_tail (c ∷ cs) as_ zs i k vs l p h = rw (append_assoc (form_row c.fields) (constructor_tail cs) zs, reads_fields c.fields cs as_ (constructor_tail cs ++ zs) (i + 1 + 1) k vs l.0 p.1 (con_tail cs as_ zs (past (i + 1 + 1) (form_row c.fields)) k vs l.1 p.2 (rw past-append at h))) (ap (λ v. Some (record { fields = no_forms; constructors = record { name = name v c.name.text; fields = c.fields } ∷ cs; others = as_ }, vs)) (sym p.0))
+con_tail (c ∷ cs) as_ zs i k vs l p h = rw (append_assoc (param_row c.fields) (constructor_tail cs) zs, reads_fields c.fields cs as_ (constructor_tail cs ++ zs) (i + 1 + 1) k vs l.0 p.1 (con_tail cs as_ zs (past (i + 1 + 1) (param_row c.fields)) k vs l.1 p.2 (rw past-append at h))) (ap (λ v. Some (record { fields = []; constructors = record { name = name v c.name.text; fields = c.fields } ∷ cs; others = as_ }, vs)) (sym p.0))
 
 -- after an algebraic type's equality sign
-pub reads_con : (bar : Bool) (cs : List Constructor) (as_ : List Algebraic) (zs : List Lexeme) (i : ℕ) (k : List Symbol) (vs : Vals k) → HasSome cs → AreConstructors cs → PlacedConstructors (past i (bar_before bar)) cs → Reads (s.Fields ∷ k) zs (past (past i (bar_before bar)) (constructor_list cs)) (record { fields = no_forms; constructors = []; others = as_ }, vs) → Reads (s.Con ∷ k) (bar_before bar ++ (constructor_list cs ++ zs)) i (record { bar = bar; constructors = cs; others = as_ }, vs)
+pub reads_con : (bar : Bool) (cs : List Constructor) (as_ : List Algebraic) (zs : List Lexeme) (i : ℕ) (k : List Symbol) (vs : Vals k) → HasSome cs → AreConstructors cs → PlacedConstructors (past i (bar_before bar)) cs → Reads (s.Fields ∷ k) zs (past (past i (bar_before bar)) (constructor_list cs)) (record { fields = []; constructors = []; others = as_ }, vs) → Reads (s.Con ∷ k) (bar_before bar ++ (constructor_list cs ++ zs)) i (record { bar = bar; constructors = cs; others = as_ }, vs)
 reads_con bar [] as_ zs i k vs s l p h = elim s [ ]
-reads_con true (c ∷ cs) as_ zs i k vs e l p h = rw (append_assoc (form_row c.fields) (constructor_tail cs) zs, reads_fields c.fields cs as_ (constructor_tail cs ++ zs) (i + 1 + 1) k vs l.0 p.1 (con_tail cs as_ zs (past (i + 1 + 1) (form_row c.fields)) k vs l.1 p.2 (rw past-append at h))) (ap (λ v. Some (record { bar = true; constructors = record { name = name v c.name.text; fields = c.fields } ∷ cs; others = as_ }, vs)) (sym p.0))
-reads_con false (c ∷ cs) as_ zs i k vs e l p h = rw (append_assoc (form_row c.fields) (constructor_tail cs) zs, reads_fields c.fields cs as_ (constructor_tail cs ++ zs) (i + 1) k vs l.0 p.1 (con_tail cs as_ zs (past (i + 1) (form_row c.fields)) k vs l.1 p.2 (rw past-append at h))) (ap (λ v. Some (record { bar = false; constructors = record { name = name v c.name.text; fields = c.fields } ∷ cs; others = as_ }, vs)) (sym p.0))
+reads_con true (c ∷ cs) as_ zs i k vs e l p h = rw (append_assoc (param_row c.fields) (constructor_tail cs) zs, reads_fields c.fields cs as_ (constructor_tail cs ++ zs) (i + 1 + 1) k vs l.0 p.1 (con_tail cs as_ zs (past (i + 1 + 1) (param_row c.fields)) k vs l.1 p.2 (rw past-append at h))) (ap (λ v. Some (record { bar = true; constructors = record { name = name v c.name.text; fields = c.fields } ∷ cs; others = as_ }, vs)) (sym p.0))
+reads_con false (c ∷ cs) as_ zs i k vs e l p h = rw (append_assoc (param_row c.fields) (constructor_tail cs) zs, reads_fields c.fields cs as_ (constructor_tail cs ++ zs) (i + 1) k vs l.0 p.1 (con_tail cs as_ zs (past (i + 1) (param_row c.fields)) k vs l.1 p.2 (rw past-append at h))) (ap (λ v. Some (record { bar = false; constructors = record { name = name v c.name.text; fields = c.fields } ∷ cs; others = as_ }, vs)) (sym p.0))
 
 pub reads_algvars : (ns : List Name) (c : ConPart) (zs : List Lexeme) (i : ℕ) (k : List Symbol) (vs : Vals k) → PlacedNames i ns → Reads (s.Con ∷ k) zs (past i (variable_row ns) + 1) (c, vs) → Reads (s.Algvars ∷ k) (variable_row ns ++ (mark t.Equal ∷ zs)) i (record { vars = ns; con = c }, vs)
 reads_algvars [] c zs i k vs p h = rw h refl
 reads_algvars (n ∷ ns) c zs i k vs p h = rw (reads_algvars ns c zs (i + 1) k vs p.1 h) (ap (λ v. Some (record { vars = name v n.text ∷ ns; con = c }, vs)) (sym p.0))
 
-pub alg_tail : (as_ : List Algebraic) (zs : List Lexeme) (i : ℕ) (k : List Symbol) (vs : Vals k) → AreAlgebraic as_ → PlacedAlgebraics (i + 1) as_ → Stops s.Fields zs → Reads k zs (past i (algebraic_tail as_)) vs → Reads (s.Fields ∷ k) (algebraic_tail as_ ++ zs) i (record { fields = no_forms; constructors = []; others = as_ }, vs)
-alg_tail [] zs i k vs l p n h = passed s.Fields (record { fields = no_forms; constructors = []; others = [] }) k zs i vs refl refl n h
+pub alg_tail : (as_ : List Algebraic) (zs : List Lexeme) (i : ℕ) (k : List Symbol) (vs : Vals k) → AreAlgebraic as_ → PlacedAlgebraics (i + 1) as_ → Stops s.Fields zs → Reads k zs (past i (algebraic_tail as_)) vs → Reads (s.Fields ∷ k) (algebraic_tail as_ ++ zs) i (record { fields = []; constructors = []; others = as_ }, vs)
+alg_tail [] zs i k vs l p n h = passed s.Fields (record { fields = []; constructors = []; others = [] }) k zs i vs refl refl n h
 alg_tail (a ∷ as_) zs i k vs l p n h = rw (
   alg_whole (variable_row a.vars) (bar_before a.bar) (constructor_list a.constructors) (algebraic_tail as_) zs,
   reads_algvars a.vars (record { bar = a.bar; constructors = a.constructors; others = as_ }) (bar_before a.bar ++ (constructor_list a.constructors ++ (algebraic_tail as_ ++ zs))) (i + 1 + 1) k vs p.0.1
       (reads_con a.bar a.constructors as_ (algebraic_tail as_ ++ zs) (past (i + 1 + 1) (variable_row a.vars) + 1) k vs l.0 l.1 p.0.2
       (alg_tail as_ zs (past (past (past (i + 1 + 1) (variable_row a.vars) + 1) (bar_before a.bar)) (constructor_list a.constructors)) k vs l.2 (rw (past-append, past-append) at p.1) n (rw (past-append, past-append, past-append) at h))),
 )
-    (ap (λ v. Some (record { fields = no_forms; constructors = []; others = record { name = name v a.name.text; vars = a.vars; bar = a.bar; constructors = a.constructors } ∷ as_ }, vs)) (sym p.0.0))
+    (ap (λ v. Some (record { fields = []; constructors = []; others = record { name = name v a.name.text; vars = a.vars; bar = a.bar; constructors = a.constructors } ∷ as_ }, vs)) (sym p.0.0))
 
 -- paths and new names
 pub reads_path : (w : Word) (ws : List Word) (zs : List Lexeme) (i : ℕ) (k : List Symbol) (vs : Vals k) → Reads k zs (past i (path_from w ws)) vs → Reads (s.Path ∷ k) (path_from w ws ++ zs) i (record { at = i; parts = w ∷ ws }, vs)

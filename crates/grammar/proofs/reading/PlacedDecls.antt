@@ -1,9 +1,9 @@
 -- Each right file can be placed: one with the same tokens has its places.
-use Rattle.grammar.proofs.reading.Common.{◌≡◌, ℕ, ◌+◌, List, [], ◌∷◌, ◌++◌, Option, Some, None, refl, ap, Name, Link, Word, at, lx, mark, name, SyntaxForm, SyntaxForms, past, type_forms, write_called, write_form, HasSome, PlacedNames, IsTypePart, PlacedPart, SyntaxTree, bar_before, name_row, type_part, write, Algebraic, Clause, Constructor, SyntaxDeclaration, SyntaxDeclarations, Element, Inductive, Member, ParamGroup, SyntaxTheory, algebraic_decl, algebraic_list, algebraic_tail, all_axioms, clause_list, clause_tail, clone_decl, constant_decl, constructor_list, constructor_tail, definition, element_tail, function_decl, heading, inductive_decl, inductive_list, inductive_tail, link_words, more_decls, no_decls, other_members, param_row, predicate_decl, prop_decl, prop_element, prop_word, renamed, scope_decl, substitution, symbol_element, typed_names, type_decl, type_element, type_equation, use_decl, variable_row, write_algebraic, write_clause, write_constructor, write_decl, write_decls, write_element, write_file, write_inductive, write_member, write_param, write_path, write_theory, AreAlgebraic, AreClauses, AreConstructors, AreElements, AreInductive, AreLevelDecls, AreMembers, AreParams, IsDefined, IsOptionalDefinition, IsElement, IsLevelDecl, IsLevelFile, IsLink, IsMember, IsTypedParam, PlacedAlgebraics, PlacedClauses, PlacedConstructors, PlacedDecl, PlacedDecls, PlacedDefinition, PlacedElement, PlacedElements, PlacedFile, PlacedInductives, PlacedMember, PlacedMembers, PlacedParams, PlacedRenamed, PlacedTyped}
+use Rattle.grammar.proofs.reading.Common.{◌≡◌, ℕ, ◌+◌, List, [], ◌∷◌, ◌++◌, Option, Some, None, refl, ap, Name, Link, Word, at, lx, mark, name, SyntaxForm, past, type_forms, write_called, write_form, HasSome, PlacedNames, IsTypePart, PlacedPart, SyntaxTree, bar_before, name_row, type_part, write, Algebraic, Clause, Constructor, SyntaxDeclaration, SyntaxDeclarations, Element, Inductive, Member, ParamGroup, SyntaxTheory, algebraic_decl, algebraic_list, algebraic_tail, all_axioms, clause_list, clause_tail, clone_decl, constant_decl, constructor_list, constructor_tail, definition, element_tail, function_decl, heading, inductive_decl, inductive_list, inductive_tail, link_words, more_decls, no_decls, other_members, param_row, predicate_decl, prop_decl, prop_element, prop_word, renamed, scope_decl, substitution, symbol_element, typed_names, type_decl, type_element, type_equation, use_decl, variable_row, write_algebraic, write_clause, write_constructor, write_decl, write_decls, write_element, write_file, write_inductive, write_member, write_param, write_path, write_theory, AreAlgebraic, AreClauses, AreConstructors, AreElements, AreInductive, AreLevelDecls, AreMembers, AreParams, IsDefined, IsOptionalDefinition, IsElement, IsLevelDecl, IsLevelFile, IsLink, IsMember, IsTypedParam, PlacedAlgebraics, PlacedClauses, PlacedConstructors, PlacedDecl, PlacedDecls, PlacedDefinition, PlacedElement, PlacedElements, PlacedFile, PlacedInductives, PlacedMember, PlacedMembers, PlacedParams, PlacedRenamed, PlacedTyped}
 use Rattle.tokens_why.specs.declared.terminal.Terminal.TheVariants as t
 use Rattle.surface.specs.declared.names.Path.{Path}
 use Rattle.surface.specs.declared.declarations.Link.TheVariants as lk
-use Rattle.grammar.proofs.reading.PlacedForms.{Put, PutList, behind, form_at, join, moved, row_at}
+use Rattle.grammar.proofs.reading.PlacedForms.{Put, PutList, behind, form_at, join, moved}
 use Rattle.grammar.proofs.reading.PlacedTerms.{names_at, part_at, tree_at}
 
 variables_at : (i : ℕ) (ns : List Name) → Put (λ v. Unit {0}) (PlacedNames i) variable_row ns
@@ -75,12 +75,12 @@ defined_at i None (d ∷ ds) h = absurd h
 defined_at i (Some e) ds h = let u = tree_at (i + 1) e h.0 in let r = members_at (past (i + 1) (write u.tree)) ds h.1 in
     record { value = Some u.tree; members = r.value; right = (u.right, r.right); placed = (u.placed, r.placed); tokens = behind (mark t.Equal) (join u.tokens r.tokens) }
 
-abbrev constructor : Name → SyntaxForms → Constructor
+abbrev constructor : Name → List ParamGroup → Constructor
 constructor n fs = record { name = n; fields = fs }
 
 constructors_at : (i : ℕ) (cs : List Constructor) → AreConstructors cs → PutList AreConstructors (PlacedConstructors i) HasSome constructor_list constructor_tail cs
 constructors_at i [] h = record { value = []; right = tt; placed = tt; tokens = refl; tail = refl; some = λ p. p }
-constructors_at i (c ∷ cs) h = let u = row_at type_forms (i + 1) c.fields h.0 in
+constructors_at i (c ∷ cs) h = let u = params_at (i + 1) c.fields h.0 in
     let e : write_constructor (constructor (name i c.name.text) u.value) ≡ write_constructor c = behind (lx t.Uident c.name.text) u.tokens in
     let r = constructors_at (past i (write_constructor (constructor (name i c.name.text) u.value)) + 1) cs h.1 in
     record { value = constructor (name i c.name.text) u.value ∷ r.value; right = (u.right, r.right); placed = (refl, u.placed, r.placed); tokens = join e r.tail; tail = behind (mark t.Bar) (join e r.tail); some = λ p. tt }

@@ -6,7 +6,7 @@ use Rattle.grammar.specs.reading.Parts.{Dotted}
 
 -- after a constructor's name: its fields, other constructors and other types
 pub record FieldsPart : Type 0 where
-  pub fields : SyntaxForms
+  pub fields : List ParamGroup
   pub constructors : List Constructor
   pub others : List Algebraic
 

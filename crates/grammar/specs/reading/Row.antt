@@ -56,6 +56,7 @@ Val s.Algvars = AlgPart
 Val s.Con = ConPart
 Val s.Op = Called
 Val s.Ident = Called
+Val s.Param = ParamGroup
 Val s.Params = List ParamGroup
 Val s.Pparen = ParamPart
 Val s.Pname = NamePart

@@ -192,30 +192,37 @@ abbrev pub prop_row : Terminal → PropKind → ReadingRow s.Decls
 prop_row x q = row s.Decls x (s.Ident ∷ s.Take t.Colon ∷ s.Expr 0 ∷ s.Decls ∷ [])
     (λ i w vs. more_decls (prop_decl (at i) q vs.0 vs.1.1.0) vs.1.1.1.0)
 
+abbrev pub param_own : List (ReadingRow s.Param)
+param_own = row s.Param t.LParen (s.Pparen ∷ []) (λ i w vs. param i vs.0) ∷ []
+
+abbrev pub param_rows : List (ReadingRow s.Param)
+param_rows = param_own
+    ++ extend s.Param s.Atype [] (λ v vs. record { names = []; of_type = v }) atype_rows
+
 abbrev pub fields_own : List (ReadingRow s.Fields)
 fields_own = row s.Fields t.Bar (s.Take t.Uident ∷ s.Fields ∷ [])
     (λ i w vs. record {
-      fields = no_forms;
+      fields = [];
       constructors =
           new_constructor vs.0 vs.1.0 ∷ vs.1.0.constructors;
       others = vs.1.0.others;
     })
     ∷ row s.Fields t.WithWord (s.Take t.Lident ∷ s.Algvars ∷ [])
     (λ i w vs. record {
-      fields = no_forms;
+      fields = [];
       constructors = [];
       others =
           new_algebraic vs.0 vs.1.0.vars vs.1.0.con ∷ vs.1.0.con.others;
     }) ∷ []
 
 abbrev pub fields_rows : List (ReadingRow s.Fields)
-fields_rows = fields_own ++ extend s.Fields s.Atype (s.Fields ∷ [])
+fields_rows = fields_own ++ extend s.Fields s.Param (s.Fields ∷ [])
     (λ v vs. record {
-      fields = more_forms v vs.0.fields;
+      fields = v ∷ vs.0.fields;
       constructors = vs.0.constructors;
       others =
           vs.0.others;
-    }) atype_rows
+    }) param_rows
 
 abbrev pub upper_own : List (ReadingRow s.Upper)
 upper_own = row s.Upper t.Dot (s.Qlid ∷ s.Targs ∷ []) (λ i w vs. scope_of vs.0 vs.1.0) ∷ []
@@ -224,9 +231,6 @@ abbrev pub op_rows : List (ReadingRow s.Op)
 op_rows = row s.Op t.Lident [] (λ i w vs. called i [] (lower w))
     ∷ row s.Op t.StarName [] (λ i w vs. called i [] star)
     ∷ row s.Op t.LParen (s.Opname ∷ []) (λ i w vs. called i [] (own_op vs.0.prefix vs.0.op)) ∷ []
-
-abbrev pub params_own : List (ReadingRow s.Params)
-params_own = row s.Params t.LParen (s.Pparen ∷ s.Params ∷ []) (λ i w vs. param i vs.0 ∷ vs.1.0) ∷ []
 
 abbrev pub pparen_own : List (ReadingRow s.Pparen)
 pparen_own = row s.Pparen t.Lident (s.Pname ∷ []) (λ i w vs. behind_paren i w vs.0) ∷ []
@@ -404,8 +408,8 @@ rows s.Con = row s.Con t.Uident (s.Fields ∷ []) (λ i w vs. with_constructor f
 rows s.Op = op_rows
 rows s.Ident = row s.Ident t.Lident [] (λ i w vs. called i [] (lower w))
     ∷ row s.Ident t.Uident [] (λ i w vs. called i [] (upper w)) ∷ []
-rows s.Params = params_own ++ extend s.Params s.Atype (s.Params ∷ [])
-    (λ v vs. record { names = []; of_type = v } ∷ vs.0) atype_rows
+rows s.Param = param_rows
+rows s.Params = extend s.Params s.Param (s.Params ∷ []) (λ v vs. v ∷ vs.0) param_rows
 rows s.Pparen = pparen_own ++ extend s.Pparen s.Ttuple [] (λ v vs. param_types v) ttuple_rows
 rows s.Pname = pname_args ++ extend s.Pname s.Tmore [] (λ v vs. name_types no_forms v) tmore_rows
 rows s.Body = row s.Body t.Equal (s.Expr 0 ∷ s.Members ∷ [])

@@ -1,7 +1,7 @@
 -- Which tokens are those of a tree, which begin one, where tokens go wrong, and where the longest
 -- tree ends: for trees of any kind, given which of them are right, which have the places of their
 -- tokens, and the tokens that each writes.
-use Rattle.grammar.specs.reading.Common.{Terminal, Lexeme, lexeme_by, terminals}
+use Rattle.grammar.specs.reading.Common.{Lexeme, lexeme_by}
 use Rattle.std.specs.Prelude.{◌+◌, ◌++◌, ℕ, ◌≡◌, ◌<◌, ◌≤◌, List, [], ◌∷◌, length, take}
 use Rattle.std.specs.Bool.{⊤}
 use Rattle.tokens_why.specs.declared.token.TokenKind.{TokenKind}

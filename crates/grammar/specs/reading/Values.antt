@@ -2,7 +2,7 @@
 use Rattle.std.specs.Prelude.{◌+◌}
 use Rattle.grammar.specs.reading.Common.{Bool, true, cond, Option, option_map, Terminal, Symbol, Word, Lexeme, no_forms, none, same}
 use Rattle.std.proofs.Common.{ℕ, false, List, [], ◌∷◌, Some, None}
-use Rattle.grammar.specs.reading.Parts.{nothing, stop}
+use Rattle.grammar.specs.reading.Parts.{stop}
 use Rattle.grammar.specs.reading.Row.{ReadingRow, Val, Vals}
 use Rattle.grammar.specs.reading.DeclParts.{fields_of}
 use Rattle.grammar.specs.Machine.{is_seal, sealed}
@@ -21,8 +21,8 @@ blank s.Args = Some none
 blank s.Scoped = Some None
 blank s.File = Some []
 blank s.Tvars = Some (record { vars = []; equation = None })
-blank s.Upper = Some (fields_of (record { fields = no_forms; constructors = []; others = [] }))
-blank s.Fields = Some (record { fields = no_forms; constructors = []; others = [] })
+blank s.Upper = Some (fields_of (record { fields = []; constructors = []; others = [] }))
+blank s.Fields = Some (record { fields = []; constructors = []; others = [] })
 blank s.Params = Some []
 blank s.Body = Some (record { definition = None; members = [] })
 blank s.Members = Some []

@@ -6,7 +6,7 @@ pub use Rattle.parser.proofs.parse_decls.DeclaredRead.{operator_start, prop_read
 pub use Rattle.parser.proofs.parse_decls.DeclaringRead.{constant_value, constant_type, Inductives, predicate_params, function_type, predicate_start, constant_read, predicate_body, function_params, constant_start, function_body, function_start}
 pub use Rattle.parser.proofs.parse_decls.FilesRead.{prop_left, scope_within, theory_so, is_end, theory_start, theories_done, Theories, Declared, decls_many, can_file, scope_start}
 pub use Rattle.parser.proofs.parse_decls.NamesThere.{made, upper_there}
-pub use Rattle.parser.proofs.parse_decls.ParamsRead.{Params, listed_start, names_end, paren_param, names_over, Naming, paren_start, single_start, params_none}
+pub use Rattle.parser.proofs.parse_decls.ParamsRead.{Params, listed_start, names_end, paren_param, names_over, Naming, paren_start, single_start, params_item, params_none}
 pub use Rattle.parser.proofs.parse_decls.SourcesRead.{is_file, only_file}
 pub use Rattle.parser.proofs.parse_decls.TypesRead.{alias_start, field_on, algebraics_done, unbarred_read, constructor_done, typed, type_name, algebraic_done, named_more, type_start, with_read, bar_read, con_start, algebraics_start, algebraic_sign, constructors_done, algebraics_more, barred_read, barred, field_item, unbarred_name, run_of, Constructors, Fields, constructors_more, Algebraics, unbarred, constructors_start, algebraic_equal}
 pub use Rattle.parser.proofs.parse_terms.ClimbRead.{unopen}

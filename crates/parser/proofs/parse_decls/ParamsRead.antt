@@ -1,5 +1,5 @@
 -- What follows where parameters are read.
-use Rattle.parser.proofs.parse_decls.Common.{◌≡◌, ℕ, zero, suc, ◌+◌, ◌<◌, ◌≤◌, ◌⊎◌, inl, inr, Bool, true, false, ◌&&◌, if◌then◌else◌, List, [], ◌∷◌, ◌++◌, length, Some, None, refl, sym, ap, ◌∙◌, subst, arith, get_or_past, Terminal, Symbol, same, same_true, Name, Lexeme, at, name, SyntaxForm, SyntaxForms, called, composed, enclosed, lower, more_forms, no_forms, type_variable, ParamGroup, NamePart, ParamPart, name_before, behind_paren, name_names, name_types, param, param_types, ReadingRow, Vals, row, then_row, params_own, pparen_own, rows, find, read, below_or, by_first, first_row, from_cons, from_end, stands_within, Begun, CanRead, CanRun, IsRead, begins_atype, from, nowhere, lexemes_from, terminal_at, token_at, again, and_cases, expand, extended, extended_due, many, many_more, missed, next, only, reread, stands, stands_by, start, unexpand, IsParam, begins_names, names_before_colon}
+use Rattle.parser.proofs.parse_decls.Common.{◌≡◌, ℕ, zero, suc, ◌+◌, ◌<◌, ◌≤◌, ◌⊎◌, inl, inr, Bool, true, false, ◌&&◌, if◌then◌else◌, List, [], ◌∷◌, ◌++◌, length, Some, None, refl, sym, ap, ◌∙◌, subst, arith, get_or_past, Terminal, Symbol, same, same_true, Name, Lexeme, at, name, SyntaxForm, SyntaxForms, called, composed, enclosed, lower, more_forms, no_forms, type_variable, ParamGroup, NamePart, ParamPart, name_before, behind_paren, name_names, name_types, param, param_types, ReadingRow, Vals, row, then_row, param_own, pparen_own, rows, find, read, below_or, by_first, first_row, from_cons, from_end, stands_within, Begun, CanRead, CanRun, IsRead, begins_atype, from, nowhere, lexemes_from, terminal_at, token_at, again, and_cases, done, expand, extended, extended_due, many, many_more, missed, next, only, reread, stands, stands_by, start, unexpand, IsParam, begins_names, names_before_colon}
 use Rattle.tokens_why.specs.declared.terminal.Terminal.TheVariants as t
 use Rattle.grammar.specs.declared.symbols.Symbol.TheVariants as s
 use Rattle.grammar.proofs.reading.Common.{no_false}
@@ -122,16 +122,24 @@ module _ (xs : List Lexeme) (i : ℕ) (ns : List Name) (j : ℕ) (g : Naming xs 
     pub type_start : Begun xs 1 (λ k. s.Pparen ∷ k) i (λ k. s.TypeOf ∷ s.Take t.RParen ∷ k) (λ k us. (behind_paren g.first.at g.first.text (many behind_each g.others (name_names [] us.0)), us.1.1)) (j + 1)
     type_start = let p = expand g.is t.Colon colon_there refl refl in again p 1 refl (λ k us. refl)
 
--- parameters
-module _ {xs : List Lexeme} {i : ℕ} (c : CanRead xs s.Params i) where
-  pub paren_start : same t.LParen (terminal_at xs i) ≡ true → Begun xs 1 (λ k. s.Params ∷ k) i (λ k. s.Pparen ∷ s.Params ∷ k) (λ k us. (param i us.0 ∷ us.1.0, us.1.1)) (i + 1)
+-- a parameter, or fields of one type
+module _ {xs : List Lexeme} {i : ℕ} (c : CanRead xs s.Param i) where
+  pub paren_start : same t.LParen (terminal_at xs i) ≡ true → Begun xs 1 (λ k. s.Param ∷ k) i (λ k. s.Pparen ∷ k) (λ k us. (param i us.0, us.1)) (i + 1)
   paren_start e = let p = expand (start c) t.LParen e refl refl in again p 1 refl (λ k us. refl)
 
   pub paren_param : (v : ParamPart) (m : ℕ) → same t.LParen (terminal_at xs i) ≡ true → IsRead xs s.Pparen (i + 1) v m → IsParam xs i (param i v) m
-  paren_param v m e r = let p = next (paren_start e) r in again p 1 refl (λ k us. refl)
+  paren_param v m e r = done (next (paren_start e) r) (param i v) refl (λ k us. refl)
 
-  pub single_start : begins_atype (terminal_at xs i) ≡ true → same t.LParen (terminal_at xs i) ≡ false → Begun xs 0 (λ k. s.Params ∷ k) i (λ k. s.Atype ∷ s.Params ∷ k) (λ k us. (record { names = []; of_type = us.0 } ∷ us.1.0, us.1.1)) i
-  single_start b n = extended (start c) s.Atype (s.Params ∷ []) (λ v vs. record { names = []; of_type = v } ∷ vs.0) params_own refl (stands_by begins_atype xs i refl b) (missed (row s.Params t.LParen (s.Pparen ∷ s.Params ∷ []) (λ i w vs. param i vs.0 ∷ vs.1.0)) [] (terminal_at xs i) n refl) (params_some (terminal_at xs i) b)
+  pub single_start : same t.LParen (terminal_at xs i) ≡ false → Begun xs 0 (λ k. s.Param ∷ k) i (λ k. s.Atype ∷ k) (λ k us. (record { names = []; of_type = us.0 }, us.1)) i
+  single_start n = extended_due (start c) s.Atype [] (λ v vs. record { names = []; of_type = v }) param_own refl refl (missed (row s.Param t.LParen (s.Pparen ∷ []) (λ i w vs. param i vs.0)) [] (terminal_at xs i) n refl)
+
+-- parameters
+abbrev pub Params : List Lexeme → ℕ → List ParamGroup → ℕ → Type 0
+Params xs i ps j = Begun xs 0 (λ k. s.Params ∷ k) i (λ k. s.Params ∷ k) (λ k us. (ps ++ us.0, us.1)) j
+
+module _ (xs : List Lexeme) (i : ℕ) (ps : List ParamGroup) (j : ℕ) (g : Params xs i ps j) where
+  pub params_item : begins_atype (terminal_at xs j) ≡ true → Begun xs 0 (λ k. s.Params ∷ k) i (λ k. s.Param ∷ s.Params ∷ k) (λ k us. (ps ++ us.0 ∷ us.1.0, us.1.1)) j
+  params_item e = extended g s.Param (s.Params ∷ []) (λ v vs. v ∷ vs.0) [] refl (stands_by begins_atype xs j refl e) refl (params_some (terminal_at xs j) e)
     where
       params_some : (x : Terminal) → begins_atype x ≡ true → find (rows s.Params) x ≡ None → ⊥
       params_some t.TyVar h e = cc
@@ -139,9 +147,6 @@ module _ {xs : List Lexeme} {i : ℕ} (c : CanRead xs s.Params i) where
       params_some t.Uident h e = cc
       params_some t.LParen h e = cc
       params_some _ h e = no_false h
-
-abbrev pub Params : List Lexeme → ℕ → List ParamGroup → ℕ → Type 0
-Params xs i ps j = Begun xs 0 (λ k. s.Params ∷ k) i (λ k. s.Params ∷ k) (λ k us. (ps ++ us.0, us.1)) j
 
 pub params_none : (x : Terminal) → begins_atype x ≡ false → find (rows s.Params) x ≡ None
 params_none x h = none_where (rows s.Params) begins_atype (t.TyVar ∷ t.Lident ∷ t.Uident ∷ t.LParen ∷ []) x refl refl h

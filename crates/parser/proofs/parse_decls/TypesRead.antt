@@ -1,12 +1,11 @@
 -- What follows where type variables, constructors and algebraic types are read.
-use Rattle.parser.proofs.parse_decls.Common.{◌≡◌, ℕ, ◌+◌, ◌<◌, ◌≤◌, ◌⊎◌, inl, inr, Bool, true, false, not, ◌&&◌, ◌||◌, nat_le, List, [], ◌∷◌, ◌++◌, length, Option, Some, None, option_map, refl, sym, ap, ◌∙◌, subst, arith, append_assoc, append-nil, get_or_past, Terminal, Symbol, same, Name, Lexeme, at, name, SyntaxForm, SyntaxForms, called, composed, lower, more_forms, no_forms, forms, Algebraic, Constructor, algebraic_decl, more_decls, type_decl, AlgPart, FieldsPart, TvarsPart, VarsPart, fields_of, is_algebraic, is_alias, new_algebraic, scope_of, typed_as, upper_type, with_constructor, fields_own, fields_rows, upper_own, rows, ReadingRow, Val, Vals, extend, row, then_row, blank, find, read, below_or, from_cons, from_end, Begun, CanRead, CanRun, begins_atype, nowhere, lexemes_from, terminal_at, token_at, again, expand, extended, follow, many, missed, only, pass, stands_by, start, take, unexpand, IsDecl, IsReadAlgebraic, IsCon, IsConstructor, IsConstructors, IsReadNames, AreTypeVariablesAt, alg_part, begins_constructor, con_part, constructor_at, fields_part}
+use Rattle.parser.proofs.parse_decls.Common.{◌≡◌, ℕ, ◌+◌, ◌<◌, ◌≤◌, ◌⊎◌, inl, inr, Bool, true, false, not, ◌&&◌, ◌||◌, nat_le, List, [], ◌∷◌, ◌++◌, length, Option, Some, None, option_map, refl, sym, ap, ◌∙◌, subst, arith, append_assoc, append-nil, get_or_past, Terminal, Symbol, same, Name, Lexeme, at, name, called, composed, lower, ParamGroup, Algebraic, Constructor, algebraic_decl, more_decls, type_decl, AlgPart, FieldsPart, TvarsPart, VarsPart, fields_of, is_algebraic, is_alias, new_algebraic, scope_of, typed_as, upper_type, with_constructor, fields_own, fields_rows, upper_own, rows, ReadingRow, Val, Vals, extend, row, then_row, blank, find, read, below_or, from_cons, from_end, Begun, CanRead, CanRun, begins_atype, nowhere, lexemes_from, terminal_at, token_at, again, expand, extended, follow, many, missed, only, pass, stands_by, start, take, unexpand, IsDecl, IsReadAlgebraic, IsCon, IsConstructor, IsConstructors, IsReadNames, AreTypeVariablesAt, alg_part, begins_constructor, con_part, constructor_at, fields_part}
 use Rattle.tokens_why.specs.declared.terminal.Terminal.TheVariants as t
 use Rattle.grammar.specs.declared.symbols.Symbol.TheVariants as s
 use Rattle.grammar.specs.Machine.{is_seal}
 use Rattle.grammar.proofs.reading.Reading.{Stops, find_apart, find_extend, passed}
 use Rattle.grammar.proofs.reading.Common.{no_false}
 use Rattle.parser.proofs.parse_terms.Steps.{all_apart, none_of, none_where}
-use Rattle.parser.proofs.parse_terms.FormsRead.{forms_many}
 
 le_self : (n : ℕ) → nat_le n n ≡ true
 le_self n = search (arith)
@@ -68,10 +67,10 @@ elvars_many [] v = refl
 elvars_many (n ∷ ns) v = ap (elvars_on n) (elvars_many ns v)
 
 -- the fields of a constructor
-abbrev pub field_on : SyntaxForm → FieldsPart → FieldsPart
-field_on f v = fields_part (more_forms f v.fields) v.constructors v.others
+abbrev pub field_on : ParamGroup → FieldsPart → FieldsPart
+field_on f v = fields_part (f ∷ v.fields) v.constructors v.others
 
-pub field_many : (fs : List SyntaxForm) (v : FieldsPart) → many field_on fs v ≡ fields_part (many more_forms fs v.fields) v.constructors v.others
+pub field_many : (fs : List ParamGroup) (v : FieldsPart) → many field_on fs v ≡ fields_part (fs ++ v.fields) v.constructors v.others
 field_many [] v = refl
 field_many (f ∷ fs) v = ap (field_on f) (field_many fs v)
 
@@ -89,30 +88,30 @@ fields_some _ h e = no_false h
 fields_none : (x : Terminal) → begins_atype x ≡ false → same t.Bar x ≡ false → same t.WithWord x ≡ false → find (rows s.Fields) x ≡ None
 fields_none x h b w = none_of s.Fields (t.Bar ∷ t.WithWord ∷ t.TyVar ∷ t.Lident ∷ t.Uident ∷ t.LParen ∷ []) x refl (b, (w, all_apart begins_atype (t.TyVar ∷ t.Lident ∷ t.Uident ∷ t.LParen ∷ []) x refl h))
 
-abbrev pub Fields : List Lexeme → ℕ → List SyntaxForm → ℕ → Type 0
+abbrev pub Fields : List Lexeme → ℕ → List ParamGroup → ℕ → Type 0
 Fields xs i fs j = Begun xs 0 (λ k. s.Fields ∷ k) i (λ k. s.Fields ∷ k) (λ k us. (many field_on fs us.0, us.1)) j
 
 -- Where no field is there are no more of them.
 module _ {xs : List Lexeme} {n : ℕ} {from : List Symbol → List Symbol} {i : ℕ} {K : List Symbol → List Symbol} {act : (k : List Symbol) → Vals (s.Fields ∷ K k) → Vals (from k)} {j : ℕ} (g : Begun xs n from i (λ k. s.Fields ∷ K k) act j) (o : begins_atype (terminal_at xs j) ≡ false) where
   abbrev NoFields : Type 0
-  NoFields = Begun xs 0 from i (λ k. s.Fields ∷ K k) (λ k us. act k (fields_part no_forms us.0.constructors us.0.others, us.1)) j
+  NoFields = Begun xs 0 from i (λ k. s.Fields ∷ K k) (λ k us. act k (fields_part [] us.0.constructors us.0.others, us.1)) j
 
   abbrev NoConstructors : Type 0
   NoConstructors = Begun xs 0 from i (λ k. s.Fields ∷ K k) (λ k us. act k (fields_part us.0.fields [] us.0.others, us.1)) j
 
-  behind_all : (by : (k : List Symbol) → Vals (s.Fields ∷ K k) → Vals (from k)) → ((k : List Symbol) (us : Vals (K k)) → act k (fields_part no_forms [] [], us) ≡ by k (fields_part no_forms [] [], us)) → same t.Bar (terminal_at xs j) ≡ false → same t.WithWord (terminal_at xs j) ≡ false → Begun xs 0 from i (λ k. s.Fields ∷ K k) by j
+  behind_all : (by : (k : List Symbol) → Vals (s.Fields ∷ K k) → Vals (from k)) → ((k : List Symbol) (us : Vals (K k)) → act k (fields_part [] [] [], us) ≡ by k (fields_part [] [] [], us)) → same t.Bar (terminal_at xs j) ≡ false → same t.WithWord (terminal_at xs j) ≡ false → Begun xs 0 from i (λ k. s.Fields ∷ K k) by j
   behind_all by f b w = let e = fields_none (terminal_at xs j) o b w in let p = pass g refl refl e in
-      unpass s.Fields (fields_part no_forms [] []) K by refl refl e (again p 0 (zero_le n) f)
+      unpass s.Fields (fields_part [] [] []) K by refl refl e (again p 0 (zero_le n) f)
 
   pub no_fields : NoFields
   no_fields = by_bar (same t.Bar (terminal_at xs j)) refl
     where
       by_with : (b : Bool) → same t.Bar (terminal_at xs j) ≡ false → same t.WithWord (terminal_at xs j) ≡ b → NoFields
-      by_with true h w = let l = g.ahead in let p = expand g t.WithWord w refl refl in unexpand s.Fields K (λ k us. act k (fields_part no_forms us.0.constructors us.0.others, us.1)) j t.WithWord w refl refl (omega arith) p
-      by_with false h w = behind_all (λ k us. act k (fields_part no_forms us.0.constructors us.0.others, us.1)) (λ k us. refl) h w
+      by_with true h w = let l = g.ahead in let p = expand g t.WithWord w refl refl in unexpand s.Fields K (λ k us. act k (fields_part [] us.0.constructors us.0.others, us.1)) j t.WithWord w refl refl (omega arith) p
+      by_with false h w = behind_all (λ k us. act k (fields_part [] us.0.constructors us.0.others, us.1)) (λ k us. refl) h w
 
       by_bar : (b : Bool) → same t.Bar (terminal_at xs j) ≡ b → NoFields
-      by_bar true h = let l = g.ahead in let p = expand g t.Bar h refl refl in unexpand s.Fields K (λ k us. act k (fields_part no_forms us.0.constructors us.0.others, us.1)) j t.Bar h refl refl (omega arith) p
+      by_bar true h = let l = g.ahead in let p = expand g t.Bar h refl refl in unexpand s.Fields K (λ k us. act k (fields_part [] us.0.constructors us.0.others, us.1)) j t.Bar h refl refl (omega arith) p
       by_bar false h = by_with (same t.WithWord (terminal_at xs j)) h refl
 
   pub no_constructors : same t.Bar (terminal_at xs j) ≡ false → NoConstructors
@@ -122,27 +121,27 @@ module _ {xs : List Lexeme} {n : ℕ} {from : List Symbol → List Symbol} {i : 
       by_with true w = let l = g.ahead in let p = expand g t.WithWord w refl refl in unexpand s.Fields K (λ k us. act k (fields_part us.0.fields [] us.0.others, us.1)) j t.WithWord w refl refl (omega arith) p
       by_with false w = behind_all (λ k us. act k (fields_part us.0.fields [] us.0.others, us.1)) (λ k us. refl) h w
 
-  pub no_others : same t.Bar (terminal_at xs j) ≡ false → same t.WithWord (terminal_at xs j) ≡ false → Begun xs n from i K (λ k us. act k (fields_part no_forms [] [], us)) j
+  pub no_others : same t.Bar (terminal_at xs j) ≡ false → same t.WithWord (terminal_at xs j) ≡ false → Begun xs n from i K (λ k us. act k (fields_part [] [] [], us)) j
   no_others h w = pass g refl refl (fields_none (terminal_at xs j) o h w)
 
-module _ (xs : List Lexeme) (i : ℕ) (fs : List SyntaxForm) (j : ℕ) (g : Fields xs i fs j) where
-  pub field_item : begins_atype (terminal_at xs j) ≡ true → Begun xs 0 (λ k. s.Fields ∷ k) i (λ k. s.Atype ∷ s.Fields ∷ k) (λ k us. (many field_on fs (field_on us.0 us.1.0), us.1.1)) j
-  field_item e = extended g s.Atype (s.Fields ∷ []) (λ v vs. field_on v vs.0) fields_own refl (stands_by begins_atype xs j refl e) (fields_apart (terminal_at xs j) e) (fields_some (terminal_at xs j) e)
+module _ (xs : List Lexeme) (i : ℕ) (fs : List ParamGroup) (j : ℕ) (g : Fields xs i fs j) where
+  pub field_item : begins_atype (terminal_at xs j) ≡ true → Begun xs 0 (λ k. s.Fields ∷ k) i (λ k. s.Param ∷ s.Fields ∷ k) (λ k us. (many field_on fs (field_on us.0 us.1.0), us.1.1)) j
+  field_item e = extended g s.Param (s.Fields ∷ []) (λ v vs. field_on v vs.0) fields_own refl (stands_by begins_atype xs j refl e) (fields_apart (terminal_at xs j) e) (fields_some (terminal_at xs j) e)
 
-pub constructor_done : (xs : List Lexeme) (i : ℕ) (n : Name) (fs : List SyntaxForm) (j : ℕ) → n ≡ name i (token_at xs i).text → begins_atype (terminal_at xs j) ≡ false → Fields xs (i + 1) fs j → IsConstructor xs i (record { name = n; fields = forms fs }) j
+pub constructor_done : (xs : List Lexeme) (i : ℕ) (n : Name) (fs : List ParamGroup) (j : ℕ) → n ≡ name i (token_at xs i).text → begins_atype (terminal_at xs j) ≡ false → Fields xs (i + 1) fs j → IsConstructor xs i (record { name = n; fields = fs }) j
 constructor_done xs i n fs j e o g = record {
-  fields = forms fs;
-  spelled = ap (λ v. called_so v (forms fs)) (sym e);
+  fields = fs;
+  spelled = ap called_so (sym e);
   ends = o;
-  is = again (no_fields g o) 0 refl (λ k us. ap (λ v. (v, us.1)) (field_many fs (fields_part no_forms us.0.constructors us.0.others) ∙ ap (λ v. fields_part v us.0.constructors us.0.others) (forms_many fs)));
+  is = again (no_fields g o) 0 refl (λ k us. ap (λ v. (v, us.1)) (field_many fs (fields_part [] us.0.constructors us.0.others) ∙ ap (λ v. fields_part v us.0.constructors us.0.others) (append-nil fs)));
 }
   where
-    called_so : Name → SyntaxForms → Constructor
-    called_so v gs = record { name = v; fields = gs }
+    called_so : Name → Constructor
+    called_so v = record { name = v; fields = fs }
 
 -- constructors with bars between them
 pub record Constructors (xs : List Lexeme) (i : ℕ) (cs : List Constructor) (j : ℕ) : Type 0 where
-  pub fields : SyntaxForms
+  pub fields : List ParamGroup
   pub others : List Constructor
   pub spelled : constructor_at xs i fields ∷ others ≡ cs
   pub ends : begins_atype (terminal_at xs j) ≡ false
@@ -236,7 +235,7 @@ module _ {xs : List Lexeme} {n : ℕ} {from : List Symbol → List Symbol} {i : 
     where
       by_found : (o : Option (ReadingRow s.Fields)) → find (rows s.Fields) (terminal_at xs (j + 1)) ≡ o → Begun xs 1 from i (λ k. s.Fields ∷ K k) (λ k us. act k (upper_type j (token_at xs j).text (fields_of us.0), us.1)) (j + 1)
       by_found (Some r) f = extended (upper_found e) s.Fields [] (λ v vs. fields_of v) upper_own refl (found_within xs (j + 1) r f) (missed (row s.Upper t.Dot (s.Qlid ∷ s.Targs ∷ []) (λ i w vs. scope_of vs.0 vs.1.0)) [] (terminal_at xs (j + 1)) d refl) (upper_some (terminal_at xs (j + 1)) r d f)
-      by_found None f = unpass s.Fields (fields_part no_forms [] []) K (λ k us. act k (upper_type j (token_at xs j).text (fields_of us.0), us.1)) refl refl f (pass (upper_found e) refl refl (upper_none (terminal_at xs (j + 1)) d f))
+      by_found None f = unpass s.Fields (fields_part [] [] []) K (λ k us. act k (upper_type j (token_at xs j).text (fields_of us.0), us.1)) refl refl f (pass (upper_found e) refl refl (upper_none (terminal_at xs (j + 1)) d f))
 
   -- constructors
   pub typedef_con : begins_constructor (terminal_at xs j) (terminal_at xs (j + 1)) ≡ true → Begun xs 0 from i (λ k. s.Con ∷ K k) (λ k us. act k (is_algebraic us.0, us.1)) j

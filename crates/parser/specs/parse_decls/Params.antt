@@ -1,6 +1,6 @@
 -- What is read as parameters.
 use Rattle.std.specs.Prelude.{ℕ, ◌+◌, Bool, false, ◌&&◌, if◌then◌else◌, List, [], ◌∷◌}
-use Rattle.parser.specs.parse_decls.Common.{same, Lexeme, ParamGroup, param_names, Begun, IsRead, from, terminal_at}
+use Rattle.parser.specs.parse_decls.Common.{same, Lexeme, ParamGroup, param_names, IsRead, from, terminal_at}
 use Rattle.tokens_why.specs.declared.terminal.Terminal.TheVariants as t
 use Rattle.grammar.specs.declared.symbols.Symbol.TheVariants as s
 
@@ -18,6 +18,6 @@ begins_names xs i = same t.Lident (terminal_at xs i) && names_before_colon (from
 abbrev pub IsNamedParam : List Lexeme → ℕ → ParamGroup → ℕ → Type 0
 IsNamedParam xs i p j = IsRead xs s.Pparen i (param_names p.names p.of_type) j
 
--- What is read as parameters has this one first, and goes on as parameters.
+-- What is read as a parameter, or as fields of one type, is this.
 abbrev pub IsParam : List Lexeme → ℕ → ParamGroup → ℕ → Type 0
-IsParam xs i p j = Begun xs 1 (λ k. s.Params ∷ k) i (λ k. s.Params ∷ k) (λ k us. (p ∷ us.0, us.1)) j
+IsParam xs i p j = IsRead xs s.Param i p j

@@ -1,6 +1,6 @@
 -- What is read as type variables, constructors and algebraic types.
 use Rattle.std.specs.Prelude.{ℕ, ◌+◌, ◌≡◌, Bool, false, true, not, ◌&&◌, ◌||◌, List, [], ◌∷◌}
-use Rattle.parser.specs.parse_decls.Common.{Terminal, same, Name, Lexeme, name, SyntaxForms, Algebraic, Constructor, AlgPart, ConPart, FieldsPart, Begun, begins_atype, terminal_at, token_at}
+use Rattle.parser.specs.parse_decls.Common.{Terminal, same, Name, Lexeme, name, ParamGroup, Algebraic, Constructor, AlgPart, ConPart, FieldsPart, Begun, begins_atype, terminal_at, token_at}
 use Rattle.tokens_why.specs.declared.terminal.Terminal.TheVariants as t
 use Rattle.grammar.specs.declared.symbols.Symbol.TheVariants as s
 
@@ -20,7 +20,7 @@ pub record IsReadNames (xs : List Lexeme) (i : ℕ) (ns : List Name) (j : ℕ) :
 abbrev pub begins_constructor : Terminal → Terminal → Bool
 begins_constructor x y = same t.Bar x || (same t.Uident x && not (same t.Dot y))
 
-abbrev pub fields_part : SyntaxForms → List Constructor → List Algebraic → FieldsPart
+abbrev pub fields_part : List ParamGroup → List Constructor → List Algebraic → FieldsPart
 fields_part fs cs as_ = record { fields = fs; constructors = cs; others = as_ }
 
 abbrev pub con_part : Bool → List Constructor → List Algebraic → ConPart
@@ -29,12 +29,12 @@ con_part b cs as_ = record { bar = b; constructors = cs; others = as_ }
 abbrev pub alg_part : List Name → ConPart → AlgPart
 alg_part vs c = record { vars = vs; con = c }
 
-abbrev pub constructor_at : List Lexeme → ℕ → SyntaxForms → Constructor
+abbrev pub constructor_at : List Lexeme → ℕ → List ParamGroup → Constructor
 constructor_at xs i fs = record { name = name i (token_at xs i).text; fields = fs }
 
 -- What is read after a constructor's name has these fields, and then no more.
 pub record IsConstructor (xs : List Lexeme) (i : ℕ) (c : Constructor) (j : ℕ) : Type 0 where
-  pub fields : SyntaxForms
+  pub fields : List ParamGroup
   pub spelled : constructor_at xs i fields ≡ c
   pub ends : begins_atype (terminal_at xs j) ≡ false
   pub is : Begun xs 0 (λ k. s.Fields ∷ k) (i + 1) (λ k. s.Fields ∷ k)
@@ -42,7 +42,7 @@ pub record IsConstructor (xs : List Lexeme) (i : ℕ) (c : Constructor) (j : ℕ
 
 -- What is read after the name of the first of constructors has these, and then no more.
 pub record IsConstructors (xs : List Lexeme) (i : ℕ) (cs : List Constructor) (j : ℕ) : Type 0 where
-  pub fields : SyntaxForms
+  pub fields : List ParamGroup
   pub others : List Constructor
   pub spelled : constructor_at xs i fields ∷ others ≡ cs
   pub ends : begins_atype (terminal_at xs j) ≡ false

@@ -1,6 +1,6 @@
 // Parameters of what is declared: types side by side, some of them with names.
 ghost use Rattle.std.specs.Prelude.{true, ◌≡◌, IfOk, map};
-ghost use Rattle.parser.specs.parse_decls.Common.{param_of, CanRead, IsRead, begins_atype, terminal_at, lexemes};
+ghost use Rattle.parser.specs.parse_decls.Common.{param_of, CanRead, IsRead, lexemes};
 ghost use Rattle.grammar.specs.declared.symbols.Symbol.TheVariants as rule;
 ghost use Rattle.parser.specs.parse_decls.Params.{IsNamedParam, IsParam, begins_names};
 
@@ -49,10 +49,9 @@ fn named_param(alloc: Global, source: Source, i: usize) -> Result<(ParamTree, us
     Ok((param, end + 1))
 }
 
-/// A parameter, and the token after it. Only want of memory refuses.
-fn param(alloc: Global, source: Source, i: usize) -> Result<(ParamTree, usize), AllocError>
-    requires can { CanRead (lexemes source) rule.Params i }
-    requires begins { begins_atype (terminal_at (lexemes source) i) ≡ true }
+/// A parameter, or fields of one type, and the token after it. Only want of memory refuses.
+pub fn param(alloc: Global, source: Source, i: usize) -> Result<(ParamTree, usize), AllocError>
+    requires { CanRead (lexemes source) rule.Param i }
     ensures { IfOk result (λ r. IsParam (lexemes source.entry) i (param_of r.0) r.1) }
 {
     let is_paren = is_at(source, i, Terminal::LParen);

@@ -6,10 +6,11 @@ ghost use Rattle.tokens_why.specs.declared.terminal.Terminal.TheVariants as t;
 ghost use Rattle.parser.specs.parse_decls.Bodies.{IsDecl};
 ghost use Rattle.parser.specs.parse_decls.Types.{IsReadAlgebraic, IsCon, IsConstructor, IsConstructors, IsReadNames, begins_constructor};
 
-use crate::parse_terms::{Source, argument, at_type, is_at, name_at, place, type_tree};
+use crate::parse_decls::parameters::param;
+use crate::parse_terms::{Source, at_type, is_at, name_at, place, type_tree};
 use outside::Seq;
 use std::alloc::{AllocError, Global};
-use surface::{AlgTree, ConTree, DeclNode, DeclTree, Name, TypeTree};
+use surface::{AlgTree, ConTree, DeclNode, DeclTree, Name, ParamTree};
 use tokens_why::Terminal;
 
 /// The type variables that stand side by side, and the token after them. Only want of memory refuses.
@@ -43,10 +44,10 @@ fn constructor(alloc: Global, source: Source, i: usize) -> Result<(ConTree, usiz
         (λ r. IsConstructor (lexemes source.entry) i (constructor_of r.0) r.1) }
 {
     let name = name_at(alloc, source, i)?;
-    let mut parts: Vec<TypeTree> = Vec::new(alloc);
+    let mut parts: Vec<ParamTree> = Vec::new(alloc);
     let mut j = i + 1;
     'fields: while at_type(source, j) {
-        let (next, end) = argument(alloc, source, j)?;
+        let (next, end) = param(alloc, source, j)?;
         parts.push(next)?;
         j = end;
     }

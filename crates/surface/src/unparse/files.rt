@@ -10,7 +10,6 @@ ghost use Rattle.surface.specs.SurfaceDeclarations.{declared_name, plain_name, p
 use crate::unparse::expressions::push_expr;
 use crate::unparse::parts::{
     push_bar, push_called, push_names, push_own, push_terminal, push_type, push_type_part,
-    push_types,
 };
 use crate::unparse::writing::Written;
 use crate::{
@@ -118,7 +117,7 @@ fn push_constructor(constructor: &ConTree, out: &mut Written)
         (write_constructor (constructor_of constructor.now))) }
 {
     out.push(Terminal::Uident);
-    push_types(constructor.fields.as_slice(), out)
+    push_params(constructor.fields.as_slice(), out)
 }
 
 fn push_constructors(of: &[ConTree], out: &mut Written)
