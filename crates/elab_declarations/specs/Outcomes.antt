@@ -1,7 +1,7 @@
 -- What the elaboration of each kind of declaration gives, or its first fault (Why3 manual, "logical
 -- declarations").
 use Rattle.std.specs.Prelude.{◌≡◌, ℕ, ◌+◌, true, false, All, List, [], ◌∷◌, ◌++◌, map, length, Option, Some, None}
-use Rattle.tasks.specs.trees.Tree.{Tree, Leaf, HTyRigid}
+use Rattle.tasks.specs.trees.Tree.{Tree}
 use Rattle.tasks.specs.trees.Binding.{inst_types}
 use Rattle.tasks.specs.Task.{MakesType, Says}
 use Rattle.tasks.specs.Rigid.{rigid_symbol}

@@ -10,7 +10,9 @@ mod solution;
 
 ghost use Rattle.std.specs.Prelude.{◌≡◌};
 
-pub use entries::{join_words, push_constructor, push_entry, push_tuples, push_type, variables};
+pub use entries::{
+    NewConstructor, join_words, push_constructor, push_entry, push_tuples, push_type, variables,
+};
 pub use made::{Elaborated, Place, declare, naming_fault, typing_fault};
 pub use name_resolution::variables::{Seen, enter_form, enter_variables};
 pub use name_resolution::{NamingFault, own_name};

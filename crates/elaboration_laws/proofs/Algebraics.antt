@@ -1,5 +1,5 @@
 -- Algebraic types are valid: their entries are at the numbers that their declaration names.
-use Rattle.std.proofs.Common.{◌≡◌, ℕ, ◌+◌, ◌<◌, ◌≤◌, zero, suc, true, false, List, [], ◌∷◌, ◌++◌, length, slice_get, All, Some, refl, sym, ap, subst, ◌∙◌, arith, length-append, append_assoc}
+use Rattle.std.proofs.Common.{◌≡◌, ℕ, ◌+◌, ◌<◌, ◌≤◌, zero, suc, true, false, List, [], ◌∷◌, ◌++◌, length, slice_get, All, IsTrue, Some, refl, sym, ap, subst, ◌∙◌, arith, length-append, append_assoc}
 use Rattle.std.proofs.lemmas.List.Elements.{All-nil, All-cons, All-append}
 use Rattle.elab_groups.specs.trees.Tree.{Tree}
 use Rattle.elab_groups.specs.tasks.declared.signature.SymbolKind.TheVariants.{Kind, Constructor, Projection}
@@ -11,19 +11,20 @@ use Rattle.elab_groups.specs.scopes.Names.{EntryOf}
 use Rattle.elab_groups.specs.scopes.declared.Table.TheVariants.{Types, Symbols}
 use Rattle.elab_groups.specs.scopes.declared.Referent.TheVariants as stands
 use Rattle.elab_groups.specs.surface.Lexeme.{Word}
-use Rattle.elab_groups.specs.name_resolution.Abstract.{count_forms}
 use Rattle.elab_groups.specs.name_resolution.Where.{Where, NamesTree}
-use Rattle.elab_groups.specs.open_types.Pieces.{types_at}
+use Rattle.elab_declarations.specs.elab_groups.members.Members.{parameter_types, words_of_parameters}
+use Rattle.elab_declarations.proofs.elab_groups.members.MembersScoped.{types_count}
 use Rattle.elab_groups.specs.parts.Declarations.{AlgebraicConstructor as ConstructorOf, AlgebraicType, words, with_vars}
 use Rattle.std.specs.Str.{bytes_eq}
-use Rattle.elab_groups.specs.parts.Entries.{builtin, type_entry, projections, constructor_entries}
-use Rattle.elab_declarations.specs.type_declarations.Algebraics.{entry_count, numbering_from, with_constructors, with_types, type_entries, constructor_trees, algebraic_trees, constructors_entries, group_entries}
+use Rattle.elab_groups.specs.parts.Entries.{builtin, type_entry, other_words, field_entries, named_entries}
+use Rattle.elab_declarations.specs.type_declarations.Algebraics.{NumberedName, count_fields, entry_count, numbering_from, numbered_constructors, with_numbered, with_constructors, with_types, type_entries, constructor_trees, algebraic_trees, constructors_entries, group_entries}
 use Rattle.elaboration_laws.specs.Signature.{with_entries}
-use Rattle.elaboration_laws.specs.Scopes.{IsNamedBy, NamesNew, IsTypedEntry, IsTypedSignature, IsTypeNumber, IsSymbolNumber, IsTypedThing, AreTypedScopes}
+use Rattle.elaboration_laws.specs.Scopes.{is_nameable, IsNamedBy, NamesNew, IsTypedEntry, IsTypedSignature, IsTypeNumber, IsSymbolNumber, IsTypedThing, AreTypedScopes}
 use Rattle.elaboration_laws.proofs.Scopes.{scopes_more, typed_entry, OnTypes}
-use Rattle.elaboration_laws.proofs.Tuples.{own_in, constructor_typed}
-use Rattle.elab_declarations.proofs.type_declarations.Made.{cons_length as count_cons, projections_length as count_projections}
-use Rattle.elab_declarations.proofs.type_declarations.Counted.{types_length}
+use Rattle.elaboration_laws.proofs.Tuples.{own_in, named_typed}
+use Rattle.elaboration_laws.proofs.Extended.{slice_all}
+use Rattle.elab_declarations.proofs.type_declarations.Placed.{AreNumbered, constructors_numbered}
+use Rattle.elab_declarations.proofs.type_declarations.Made.{cons_length as count_cons, fields_length as count_entries}
 
 -- ---- entries at numbers, which may be named
 pub record IsThere (base : Vocabulary) (all : List SymbolTree) (k : ℕ) (e : SymbolTree) : Type 0 where
@@ -58,7 +59,10 @@ got [] k e q = absurd (cc)
 got (x ∷ xs) zero e q = (omega arith, cc)
 got (x ∷ xs) (suc k) e q = let r = got xs k e q in (omega (arith, r.0), r.1)
 
--- ---- how many
+entry_there : (es : List SymbolTree) (j : ℕ) → j < length es → (e : SymbolTree) × (slice_get es j ≡ Some e)
+entry_there [] j l = absurd (omega arith)
+entry_there (e ∷ es) zero l = (e, refl)
+entry_there (e ∷ es) (suc j) l = entry_there es j (omega arith)
 
 module _ (theory within : Word) (named : is_empty theory ≡ false) where
   -- ---- over a signature that has them
@@ -69,9 +73,9 @@ module _ (theory within : Word) (named : is_empty theory ≡ false) where
     type_there : (name : Word) (vars i : ℕ) → IsThere base all i (type_entry theory name vars) → IsTypeNumber v i
     type_there name vars i h = let g = got all i (type_entry theory name vars) h.at in record { there = g.0; usable = h.named.usable (rw named refl); kind = ap (λ (e : SymbolTree). e.kind) g.1 }
 
-    projections_valid : (name : Word) (type vars i : ℕ) (fs : List Tree) (n : ℕ) → EntriesAt base all n (projections theory name vars (own_type type vars) i fs) → AreProjections v type vars fs (numbering_from n fs)
-    projections_valid name type vars i [] n h = tt
-    projections_valid name type vars i (f ∷ fs) n h =
+    projections_valid : (name : Word) (type vars i : ℕ) (ws : List Word) (fs : List Tree) (n : ℕ) → EntriesAt base all n (field_entries theory within name vars (own_type type vars) i ws fs) → AreProjections v type vars fs (numbering_from n fs)
+    projections_valid name type vars i ws [] n h = tt
+    projections_valid name type vars i ws (f ∷ fs) n h =
         let g = got all n _ h.0.at in
         let kind : (symbol_or all n).kind ≡ Projection = ap (λ (e : SymbolTree). e.kind) g.1 in (
           record {
@@ -81,11 +85,11 @@ module _ (theory within : Word) (named : is_empty theory ≡ false) where
             args = ap (λ (e : SymbolTree). e.args) g.1;
             result = ap (λ (e : SymbolTree). e.result) g.1;
           },
-          projections_valid name type vars (suc i) fs (n + 1) h.1,
+          projections_valid name type vars (suc i) (other_words ws) fs (n + 1) h.1,
         )
 
-    constructor_valid : (name : Word) (type vars n : ℕ) (fs : List Tree) → EntriesAt base all n (constructor_entries theory name vars (own_type type vars) fs) → IsConstructorOf v type vars (record { symbol = n; fields = fs; projections = numbering_from (n + 1) fs })
-    constructor_valid name type vars n fs h =
+    constructor_valid : (name : Word) (type vars n : ℕ) (ws : List Word) (fs : List Tree) → EntriesAt base all n (named_entries theory within name vars (own_type type vars) ws fs) → IsConstructorOf v type vars (record { symbol = n; fields = fs; projections = numbering_from (n + 1) fs })
+    constructor_valid name type vars n ws fs h =
         let g = got all n _ h.0.at in
         let kind : (symbol_or all n).kind ≡ Constructor = ap (λ (e : SymbolTree). e.kind) g.1 in
         record {
@@ -94,29 +98,24 @@ module _ (theory within : Word) (named : is_empty theory ≡ false) where
           vars_are = ap (λ (e : SymbolTree). e.vars) g.1;
           args = ap (λ (e : SymbolTree). e.args) g.1;
           result = ap (λ (e : SymbolTree). e.result) g.1;
-          projections = projections_valid name type vars 1 fs (n + 1) h.1;
+          projections = projections_valid name type vars 1 ws fs (n + 1) h.1;
         }
-
-    symbol_there : (name : Word) (vars n : ℕ) (t : Tree) (fs : List Tree) → EntriesAt base all n (constructor_entries theory name vars t fs) → IsSymbolNumber v n
-    symbol_there name vars n t fs h =
-        let g = got all n _ h.0.at in
-        let kind : (symbol_or all n).kind ≡ Constructor = ap (λ (e : SymbolTree). e.kind) g.1 in
-        record { there = g.0; usable = h.0.named.usable (rw named refl); kind = λ q. let z : Constructor ≡ Kind = sym kind ∙ q in cc }
 
     -- the first constructor's entries, and those of the others
     first_entries : (vars n : ℕ) (t : Tree) (w : Where) (k : ConstructorOf) (ks : List ConstructorOf) → EntriesAt base all n (constructors_entries theory within vars t (k ∷ ks) (constructor_trees w n (k ∷ ks)))
-        → EntriesAt base all n (constructor_entries theory (within ++ k.called.name) vars t (types_at w k.fields)) × EntriesAt base all (n + (count_forms k.fields + 1)) (constructors_entries theory within vars t ks (constructor_trees w (n + (count_forms k.fields + 1)) ks))
+        → EntriesAt base all n (named_entries theory within k.called.name vars t (words_of_parameters k.fields) (parameter_types w k.fields)) × EntriesAt base all (n + (count_fields k.fields + 1)) (constructors_entries theory within vars t ks (constructor_trees w (n + (count_fields k.fields + 1)) ks))
     first_entries vars n t w k ks h =
-        let fs = types_at w k.fields in
-        let one = constructor_entries theory (within ++ k.called.name) vars t fs in
-        let p : length (projections theory (within ++ k.called.name) vars t 1 fs) ≡ length fs = count_projections theory (within ++ k.called.name) vars t 1 fs in
-        entries_split base all one (constructors_entries theory within vars t ks (constructor_trees w (n + (count_forms k.fields + 1)) ks)) n (n + (count_forms k.fields + 1)) (omega (arith, p, types_length w k.fields)) h
+        let fs = parameter_types w k.fields in
+        let ws = words_of_parameters k.fields in
+        let one = named_entries theory within k.called.name vars t ws fs in
+        let p : length (field_entries theory within k.called.name vars t 1 ws fs) ≡ length fs = count_entries theory within k.called.name vars t 1 ws fs in
+        entries_split base all one (constructors_entries theory within vars t ks (constructor_trees w (n + (count_fields k.fields + 1)) ks)) n (n + (count_fields k.fields + 1)) (omega (arith, p, types_count w k.fields)) h
 
     constructors_valid : (type vars : ℕ) (w : Where) (ks : List ConstructorOf) (n : ℕ) → EntriesAt base all n (constructors_entries theory within vars (own_type type vars) ks (constructor_trees w n ks)) → All (IsConstructorOf v type vars) (constructor_trees w n ks)
     constructors_valid type vars w [] n h = All-nil (IsConstructorOf v type vars)
     constructors_valid type vars w (k ∷ ks) n h =
         let e = first_entries vars n (own_type type vars) w k ks h in
-        All-cons (IsConstructorOf v type vars) _ (constructor_trees w (n + (count_forms k.fields + 1)) ks) (constructor_valid (within ++ k.called.name) type vars n (types_at w k.fields) e.0) (constructors_valid type vars w ks (n + (count_forms k.fields + 1)) e.1)
+        All-cons (IsConstructorOf v type vars) _ (constructor_trees w (n + (count_fields k.fields + 1)) ks) (constructor_valid k.called.name type vars n (words_of_parameters k.fields) (parameter_types w k.fields) e.0) (constructors_valid type vars w ks (n + (count_fields k.fields + 1)) e.1)
 
     -- the first type's entries, and those of the others
     group_split : (w : Where) (a : AlgebraicType) (ts : List AlgebraicType) (i n : ℕ) → EntriesAt base all n (group_entries theory within (a ∷ ts) (algebraic_trees w i n (a ∷ ts)))
@@ -141,11 +140,43 @@ module _ (theory within : Word) (named : is_empty theory ≡ false) where
         }) (groups_valid w ts (i + 1) (n + entry_count a.constructors) g.1 e.1)
 
     -- ---- names
+    -- a symbol of the theory
+    record IsOwnSymbol (e : SymbolTree) : Type 0 where
+      nameable : IsTrue (is_nameable e)
+      kind : e.kind ≡ Kind → ⊥
+
+    there_at : (es : List SymbolTree) (n j : ℕ) (e : SymbolTree) → EntriesAt base all n es → slice_get es j ≡ Some e → IsThere base all (n + j) e
+    there_at [] n j e h q = absurd (cc)
+    there_at (x ∷ es) n zero e h q = let same : x ≡ e = cc in let m : n ≡ n + 0 = omega arith in subst (λ (i : ℕ). IsThere base all i e) m (subst (IsThere base all n) same h.0)
+    there_at (x ∷ es) n (suc j) e h q = let m : n + 1 + j ≡ n + suc j = omega arith in subst (λ (i : ℕ). IsThere base all i e) m (there_at es (n + 1) j e h.1 q)
+
+    symbol_there : (k : ℕ) (e : SymbolTree) → IsThere base all k e → IsOwnSymbol e → IsSymbolNumber v k
+    symbol_there k e h s = let g = got all k e h.at in record { there = g.0; usable = h.named.usable s.nameable; kind = λ q. s.kind (ap (λ (x : SymbolTree). x.kind) (sym g.1) ∙ q) }
+
+    fields_own : (name : Word) (vars : ℕ) (t : Tree) (i : ℕ) (ws : List Word) (fs : List Tree) → All IsOwnSymbol (field_entries theory within name vars t i ws fs)
+    fields_own name vars t i ws [] = All-nil IsOwnSymbol
+    fields_own name vars t i ws (f ∷ fs) = All-cons IsOwnSymbol _ (field_entries theory within name vars t (suc i) (other_words ws) fs) (record { nameable = rw (named, source) refl; kind = λ q. cc }) (fields_own name vars t (suc i) (other_words ws) fs)
+
+    constructors_own : (vars : ℕ) (t : Tree) (ks : List ConstructorOf) (cs : List ConstructorTree) → All IsOwnSymbol (constructors_entries theory within vars t ks cs)
+    constructors_own vars t [] cs = All-nil IsOwnSymbol
+    constructors_own vars t (k ∷ ks) [] = All-nil IsOwnSymbol
+    constructors_own vars t (k ∷ ks) (c ∷ cs) =
+        let ws = words_of_parameters k.fields in
+        All-append IsOwnSymbol (named_entries theory within k.called.name vars t ws c.fields) (constructors_entries theory within vars t ks cs)
+        (All-cons IsOwnSymbol _ (field_entries theory within k.called.name vars t 1 ws c.fields) (record { nameable = rw named refl; kind = λ q. cc }) (fields_own k.called.name vars t 1 ws c.fields))
+        (constructors_own vars t ks cs)
+
+    numbered_scoped : (xs : List NumberedName) (names : NamesTree) → AreNumbered (IsSymbolNumber v) xs → AreTypedScopes v names → AreTypedScopes v (with_numbered xs names)
+    numbered_scoped [] names h k = k
+    numbered_scoped (x ∷ xs) names h k = numbered_scoped xs _ h.1 (scopes_more (IsTypedThing v) names Symbols x.name (stands.Entry x.number) true h.0 k)
+
     constructors_scoped : (vars : ℕ) (t : Tree) (w : Where) (ks : List ConstructorOf) (n : ℕ) (names : NamesTree) → EntriesAt base all n (constructors_entries theory within vars t ks (constructor_trees w n ks)) → AreTypedScopes v names → AreTypedScopes v (with_constructors n ks names)
-    constructors_scoped vars t w [] n names h k = k
-    constructors_scoped vars t w (c ∷ ks) n names h k =
-        let e = first_entries vars n t w c ks h in
-        constructors_scoped vars t w ks (n + (count_forms c.fields + 1)) _ e.1 (scopes_more (IsTypedThing v) names Symbols c.called.name (stands.Entry n) true (symbol_there (within ++ c.called.name) vars n t (types_at w c.fields) e.0) k)
+    constructors_scoped vars t w ks n names h k =
+        let es = constructors_entries theory within vars t ks (constructor_trees w n ks) in
+        let l : length es ≡ entry_count ks = count_cons theory within vars t w n ks in
+        let each : (j : ℕ) → j < entry_count ks → IsSymbolNumber v (n + j) =
+        λ j m. let e = entry_there es j (omega (arith, l, m)) in symbol_there (n + j) e.0 (there_at es n j e.0 h e.1) (slice_all IsOwnSymbol es (constructors_own vars t ks (constructor_trees w n ks)) j e.0 e.1) in
+        numbered_scoped (numbered_constructors n ks) names (constructors_numbered (IsSymbolNumber v) n ks each) k
 
     pub types_scoped : (w : Where) (ts : List AlgebraicType) (i n : ℕ) (names : NamesTree) → EntriesAt base all i (type_entries theory within ts) → EntriesAt base all n (group_entries theory within ts (algebraic_trees w i n ts)) → AreTypedScopes v names → AreTypedScopes v (with_types i n ts names)
     types_scoped w [] i n names g h k = k
@@ -158,14 +189,14 @@ module _ (theory within : Word) (named : is_empty theory ≡ false) where
     abbrev pub TypesOn : NamesTree → Type 0
     TypesOn names = All (λ (es : List (EntryOf Tree)). All (λ (e : EntryOf Tree). OnTypes v e.table e.thing) es) names.entries
 
-    constructors_on : (ks : List ConstructorOf) (n : ℕ) (names : NamesTree) → TypesOn names → TypesOn (with_constructors n ks names)
-    constructors_on [] n names k = k
-    constructors_on (c ∷ ks) n names k = constructors_on ks (n + (count_forms c.fields + 1)) _ (scopes_more (OnTypes v) names Symbols c.called.name (stands.Entry n) true tt k)
+    numbered_on : (xs : List NumberedName) (names : NamesTree) → TypesOn names → TypesOn (with_numbered xs names)
+    numbered_on [] names k = k
+    numbered_on (x ∷ xs) names k = numbered_on xs _ (scopes_more (OnTypes v) names Symbols x.name (stands.Entry x.number) true tt k)
 
     pub types_on : (ts : List AlgebraicType) (i n : ℕ) (names : NamesTree) → EntriesAt base all i (type_entries theory within ts) → TypesOn names → TypesOn (with_types i n ts names)
     types_on [] i n names g k = k
     types_on (a ∷ ts) i n names g k =
-        types_on ts (i + 1) (n + entry_count a.constructors) _ g.1 (constructors_on a.constructors n _ (scopes_more (OnTypes v) names Types a.called.name (stands.Entry i) true (type_there (within ++ a.called.name) (length a.vars) i g.0) k))
+        types_on ts (i + 1) (n + entry_count a.constructors) _ g.1 (numbered_on (numbered_constructors n a.constructors) _ (scopes_more (OnTypes v) names Types a.called.name (stands.Entry i) true (type_there (within ++ a.called.name) (length a.vars) i g.0) k))
 
   -- ---- entries of types over a signature that has the types
   module _ (v : Vocabulary) where
@@ -183,7 +214,7 @@ module _ (theory within : Word) (named : is_empty theory ≡ false) where
     cons_typed vars t [] cs h k = All-nil (IsTypedEntry v)
     cons_typed vars t (x ∷ ks) [] h k = All-nil (IsTypedEntry v)
     cons_typed vars t (x ∷ ks) (c ∷ cs) h k =
-        All-append (IsTypedEntry v) (constructor_entries theory (within ++ x.called.name) vars t c.fields) (constructors_entries theory within vars t ks cs) (constructor_typed v theory (within ++ x.called.name) vars t c.fields h k.0) (cons_typed vars t ks cs h k.1)
+        All-append (IsTypedEntry v) (named_entries theory within x.called.name vars t (words_of_parameters x.fields) c.fields) (constructors_entries theory within vars t ks cs) (named_typed v theory within x.called.name vars t (words_of_parameters x.fields) c.fields h k.0) (cons_typed vars t ks cs h k.1)
 
     pub group_typed : (ts : List AlgebraicType) (ys : List AlgebraicTree) → GroupIn ts ys → All (IsTypedEntry v) (group_entries theory within ts ys)
     group_typed [] ys h = All-nil (IsTypedEntry v)

@@ -1,5 +1,5 @@
 -- A group of algebraic types is valid.
-use Rattle.std.proofs.Common.{◌≡◌, ℕ, ◌+◌, ◌≤◌, suc, true, false, List, [], ◌∷◌, ◌++◌, length, get_or, All, None, IfSome, refl, sym, ap, subst, ◌∙◌, arith, length-append, append_assoc, append-nil}
+use Rattle.std.proofs.Common.{◌≡◌, ℕ, ◌+◌, ◌≤◌, suc, true, false, List, [], ◌∷◌, ◌++◌, length, get_or, All, Option, None, IfSome, refl, sym, ap, subst, ◌∙◌, arith, length-append, append_assoc, append-nil}
 use Rattle.std.proofs.lemmas.List.Elements.{All-nil, All-cons}
 use Rattle.std.proofs.Math.ListN.{length-map}
 use Rattle.elab_groups.specs.trees.Tree.{Tree}
@@ -8,26 +8,30 @@ use Rattle.elab_groups.specs.tasks.Vocabulary.{Vocabulary, is_empty}
 use Rattle.elab_groups.specs.tasks.Typing.{IsTypeSymbol}
 use Rattle.elab_groups.specs.tasks.Valid.{IsTypeIn, IsAlgebraic, IsValidDecl}
 use Rattle.elab_groups.specs.surface.Lexeme.{Word}
-use Rattle.elab_groups.specs.name_resolution.Abstract.{TypeExpressions, count_forms}
-use Rattle.elab_groups.specs.name_resolution.Faults.{forms_fault}
+use Rattle.elab_groups.specs.name_resolution.Abstract.{no_types, more_types}
+use Rattle.elab_groups.specs.name_resolution.declared.NamingFault.{NamingFault}
+use Rattle.elab_groups.specs.name_resolution.Faults.{first_of, form_fault, forms_fault}
 use Rattle.elab_groups.specs.name_resolution.Where.{Where}
-use Rattle.elab_groups.specs.name_resolution.variables.Seen.{SeenTree, has_width, forms_seen}
+use Rattle.elab_groups.specs.name_resolution.variables.Seen.{SeenTree, has_width, form_seen}
 use Rattle.elab_groups.specs.open_types.Scoped.{IsScoped}
-use Rattle.elab_groups.specs.open_types.Pieces.{types_at}
-use Rattle.elab_groups.proofs.open_types.Below.{AreBelow, forms_below}
+use Rattle.elab_groups.specs.open_types.Pieces.{type_at}
+use Rattle.elab_groups.proofs.open_types.Below.{AreBelow}
 use Rattle.elab_groups.proofs.open_types.Walking.{none_both}
 use Rattle.elab_groups.specs.parts.Elaborated.{unseen}
 use Rattle.elab_groups.specs.parts.Entries.{tuple_in}
-use Rattle.elab_groups.specs.parts.Declarations.{TokenName, AlgebraicConstructor, AlgebraicType, words, with_vars, constructors_fault, types_fault}
+use Rattle.elab_groups.specs.parts.Declarations.{TokenName, Parameter, AlgebraicConstructor, AlgebraicType, words, with_vars, params_seen, params_fault, constructors_fault, types_fault}
+use Rattle.elab_declarations.specs.elab_groups.members.Members.{type_copies, parameter_types}
+use Rattle.elab_declarations.proofs.elab_groups.members.ParamsClosed.{fields_below}
 use Rattle.elab_groups.specs.parts.Outcomes.{Setting, tuples_wanting}
 use Rattle.elab_groups.proofs.parts.Scopes.{tuples_below}
-use Rattle.elab_declarations.specs.type_declarations.Algebraics.{constructors_seen, types_seen, group_seen, entry_count, first_type, first_constructor, group_names, type_entries, constructor_trees, algebraic_trees, group_trees, group_entries, group_outcome}
+use Rattle.elab_declarations.specs.type_declarations.Algebraics.{constructors_seen, types_seen, group_seen, count_fields, entry_count, first_type, first_constructor, group_names, type_entries, constructor_trees, algebraic_trees, group_trees, group_entries, group_outcome}
 use Rattle.elab_declarations.specs.type_declarations.Algebraics as group
 use Rattle.elaboration_laws.specs.Signature.{with_entries, IsMeaning, HasTuple}
 use Rattle.elaboration_laws.specs.Scopes.{NamesNew, IsTypedEntry, IsTypedSignature, AreTypedScopes}
 use Rattle.elaboration_laws.proofs.Over.{AreOver, over_good}
 use Rattle.elaboration_laws.proofs.Signed.{forms_by}
-use Rattle.elaboration_laws.proofs.Widths.{IsWithin, forms_grow, forms_tuples}
+use Rattle.elaboration_laws.proofs.Widths.{IsWithin, forms_tuples}
+use Rattle.elaboration_laws.proofs.Bodies.{params_grow}
 use Rattle.elaboration_laws.proofs.Scopes.{types_alone, types_meant}
 use Rattle.elaboration_laws.proofs.Extended.{entries_part, news_front, news_later, type_more, signature_more, scopes_extended}
 use Rattle.elaboration_laws.proofs.Tuples.{has_tuple, tuple_front, tuples_there, tuple_of, type_entry_typed}
@@ -38,7 +42,7 @@ use Rattle.elaboration_laws.proofs.Algebraics.{EntriesAt, entries_at, groups_val
 -- ---- widths
 constructors_grow : (ks : List AlgebraicConstructor) (s : SeenTree) → IsWithin s (constructors_seen s ks)
 constructors_grow [] s = λ n h. h
-constructors_grow (k ∷ ks) s = λ n h. constructors_grow ks (forms_seen s k.fields) n (forms_grow k.fields s n h)
+constructors_grow (k ∷ ks) s = λ n h. constructors_grow ks (params_seen s k.fields) n (params_grow k.fields s n h)
 
 types_grow : (ts : List AlgebraicType) (s : SeenTree) → IsWithin s (types_seen s ts)
 types_grow [] s = λ n h. h
@@ -73,11 +77,32 @@ module _ (base : Vocabulary) (w : Where) (sig : IsTypedSignature base w.symbols)
   each_in n [] o b = All-nil (IsTypeIn v n)
   each_in n (t ∷ ts) o b = let g = over_good v true [] t o.0 in All-cons (IsTypeIn v n) t ts (record { sort = g.1; typed = g.0.0; variables = of_below n t b.0 }) (each_in n ts o.1 b.1)
 
-  fields_in : (a : AlgebraicType) (fs : TypeExpressions) (s : SeenTree) → HaveAll (forms_seen s fs) → forms_fault (with_vars w (words a.vars)) false fs ≡ None → All (IsTypeIn v (length a.vars)) (types_at (with_vars w (words a.vars)) fs)
-  fields_in a fs s g q =
+  -- of fields, each type once for each name
+  both_over : (ts us : List Tree) → AreOver v ts → AreOver v us → AreOver v (ts ++ us)
+  both_over [] us o q = q
+  both_over (t ∷ ts) us o q = (o.0, both_over ts us o.1 q)
+
+  copies_over : (t : Tree) (xs : List TokenName) → AreOver v (t ∷ []) → AreOver v (type_copies t xs)
+  copies_over t [] o = o
+  copies_over t (x ∷ []) o = o
+  copies_over t (x ∷ y ∷ ys) o = (o.0, copies_over t (y ∷ ys) o)
+
+  params_over : (vs : List Word) (ps : List Parameter) (s : SeenTree) → HaveAll (params_seen s ps) → params_fault (with_vars w vs) false ps ≡ None → AreOver v (parameter_types (with_vars w vs) ps)
+  params_over vs [] s g q = tt
+  params_over vs (p ∷ ps) s g q =
+      let wa = with_vars w vs in
+      let k = none_both (form_fault wa false p.of_type) (params_fault wa false ps) q in
+      let one = more_types p.of_type no_types in
+      let tuples = forms_tuples base wa one s (λ m h. g m (params_grow ps (form_seen s p.of_type) m h)) in
+      let free : forms_fault wa false one ≡ None = ap (λ (f : Option NamingFault). first_of f None) k.0 in
+      both_over (type_copies (type_at wa p.of_type) p.names) (parameter_types wa ps)
+      (copies_over (type_at wa p.of_type) p.names (forms_by base wa sig.int sig.int_usable types one free tuples)) (params_over vs ps (form_seen s p.of_type) g k.1)
+
+  fields_in : (a : AlgebraicType) (ps : List Parameter) (s : SeenTree) → HaveAll (params_seen s ps) → params_fault (with_vars w (words a.vars)) false ps ≡ None → All (IsTypeIn v (length a.vars)) (parameter_types (with_vars w (words a.vars)) ps)
+  fields_in a ps s g q =
       let wa = with_vars w (words a.vars) in
       let n : length (words a.vars) ≡ length a.vars = length-map a.vars (λ (i : TokenName). i.name) in
-      subst (λ (m : ℕ). All (IsTypeIn v m) (types_at wa fs)) n (each_in (length (words a.vars)) (types_at wa fs) (forms_by base wa sig.int sig.int_usable types fs q (forms_tuples base wa fs s g)) (forms_below wa (scoped (words a.vars)) fs q))
+      subst (λ (m : ℕ). All (IsTypeIn v m) (parameter_types wa ps)) n (each_in (length (words a.vars)) (parameter_types wa ps) (params_over (words a.vars) ps s g q) (fields_below wa (scoped (words a.vars)) ps q))
 
   -- over a signature with further entries
   module _ (u : Vocabulary) (more : (n : ℕ) (t : Tree) → IsTypeIn v n t → IsTypeIn u n t) where
@@ -85,10 +110,10 @@ module _ (base : Vocabulary) (w : Where) (sig : IsTypedSignature base w.symbols)
     cons_in theory within named a [] n s g q = tt
     cons_in theory within named a (k ∷ ks) n s g q =
         let wa = with_vars w (words a.vars) in
-        let p = none_both (forms_fault wa false k.fields) (constructors_fault wa ks) q in
-        let t = forms_seen s k.fields in
+        let p = none_both (params_fault wa false k.fields) (constructors_fault wa ks) q in
+        let t = params_seen s k.fields in
         let fs = fields_in a k.fields s (λ m h. g m (constructors_grow ks t m h)) p.0 in
-        ((λ j d l. more (length a.vars) (get_or (types_at wa k.fields) j d) (fs j d l)), cons_in theory within named a ks (n + (count_forms k.fields + 1)) t g p.1)
+        ((λ j d l. more (length a.vars) (get_or (parameter_types wa k.fields) j d) (fs j d l)), cons_in theory within named a ks (n + (count_fields k.fields + 1)) t g p.1)
 
     group_in : (theory within : Word) (all : List SymbolTree) → u ≡ with_entries base all → (named : is_empty theory ≡ false) (ts : List AlgebraicType) (i n : ℕ) (s : SeenTree) → EntriesAt base all i (type_entries theory within ts) → HaveAll (types_seen s ts) → types_fault w ts ≡ None
         → GroupIn theory within named u ts (algebraic_trees w i n ts)

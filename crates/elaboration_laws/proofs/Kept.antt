@@ -16,8 +16,11 @@ use Rattle.elaboration_laws.proofs.Extended.{further, in_either, slice_all}
 use Rattle.elaboration_laws.specs.Lists.{is_built}
 use Rattle.theory_states.specs.goal_tasks.Meaning.{IsTupleAt, AreTuples}
 use Rattle.elaboration_laws.specs.Built.{IsOfTuple, IsBuiltRight}
-use Rattle.elab_declarations.proofs.type_declarations.Made.{projections_length as projections_count}
 use Rattle.theory_states.proofs.goal_tasks.TuplesMade.{variables_count as count_variables}
+
+projections_count : (theory constructor : Word) (vars : ℕ) (t : Tree) (i : ℕ) (fs : List Tree) → length (projections theory constructor vars t i fs) ≡ length fs
+projections_count theory constructor vars t i [] = refl
+projections_count theory constructor vars t i (f ∷ fs) = ap suc (projections_count theory constructor vars t (suc i) fs)
 
 -- ---- the first constructor of a width, in two lists
 found_front : (n k c : ℕ) (xs ys : List SymbolTree) → tuple_from n k xs ≡ Some c → tuple_from n k (xs ++ ys) ≡ Some c

@@ -14,7 +14,7 @@ use Rattle.elab_groups.specs.scopes.declared.Table.{Table}
 use Rattle.elab_groups.specs.scopes.declared.Table.TheVariants.{Types, Symbols, Propositions}
 use Rattle.elab_groups.specs.name_resolution.declared.NamingFault.TheVariants.{Duplicate}
 use Rattle.elab_groups.specs.name_resolution.Where.{place_of}
-use Rattle.elab_groups.specs.parts.Declarations.{TokenName, Declaration, parameter_of, group_member, constructor, algebraic_type, clause, inductive_predicate, declaration, symbol, word, Made, makes, binds_names, names_of_parameters, made_by_constructors, made_type_names, made_by_members, made_by_clauses, made_by_inductives, made_names, list_fault, made_before, made_fault}
+use Rattle.elab_groups.specs.parts.Declarations.{TokenName, Declaration, parameter_of, group_member, constructor, algebraic_type, clause, inductive_predicate, declaration, symbol, word, Made, makes, binds_names, names_of_parameters, constructor_names, made_by_constructors, made_type_names, made_by_members, made_by_clauses, made_by_inductives, made_names, list_fault, made_before, made_fault}
 use Rattle.elaboration_laws.specs.Checked.{IsLeastFailing}
 use Rattle.elaboration_laws.specs.UsedNames.{ListFails, MadeFails}
 use Rattle.elaboration_laws.proofs.Least.{past_both, past_up, past_more, Ranged, none_at, both_at, if_at}
@@ -121,29 +121,36 @@ members_within (d ∷ ds) i p =
     within_up i (past z (other_members ds)) (past (i + 1) (write_member d ++ other_members ds)) (made_tokens (made_by_members (map group_member (d ∷ ds)))) (omega (arith, e))
     (symbol_within d.name.at j i z (past z (other_members ds)) d.params (made_tokens (made_by_members (map group_member ds))) (omega (arith, p.0.0)) (omega (arith, p.0.0, l)) p.0.1 (omega (arith, e1, e2)) (members_within ds z p.1))
 
+-- names of symbols
+symbols_tokens : (cs : List TokenName) → made_tokens (map (makes Symbols) cs) ≡ tokens_of cs
+symbols_tokens [] = refl
+symbols_tokens (c ∷ cs) = ap (λ (is : List ℕ). c.at ∷ is) (symbols_tokens cs)
+
+-- a constructor with its fields, before others
+constructor_within : (c : Constructor) (cs : List TokenName) (lo i hi : ℕ) → lo ≤ i → c.name.at ≡ i → PlacedParams (i + 1) c.fields → Within (past i (write_constructor c)) hi (tokens_of cs) → Within lo hi (tokens_of (word c.name ∷ (names_of_parameters (map parameter_of c.fields) ++ cs)))
+constructor_within c cs lo i hi l q p h =
+    let ns = names_of_parameters (map parameter_of c.fields) in
+    subst (λ (is : List ℕ). Within lo hi (c.name.at ∷ is)) (sym (map-append (λ (x : TokenName). x.at) ns cs))
+    (symbol_within c.name.at (i + 1) lo (past i (write_constructor c)) hi c.fields (tokens_of cs) (omega (arith, l, q)) (omega (arith, q)) p (omega arith) h)
+
 -- constructors and clauses, with a token between
-constructors_tail : (cs : List Constructor) (j : ℕ) → PlacedConstructors (j + 1) cs → Within j (past j (constructor_tail cs)) (made_tokens (made_by_constructors (map constructor cs)))
+constructors_tail : (cs : List Constructor) (j : ℕ) → PlacedConstructors (j + 1) cs → Within j (past j (constructor_tail cs)) (tokens_of (constructor_names (map constructor cs)))
 constructors_tail [] j p = omega arith
 constructors_tail (c ∷ cs) j p =
     let k = past (j + 1) (write_constructor c) in
-    let l = past_up (j + 1) (write_constructor c) in
     let e = past_both (j + 1) (write_constructor c) (constructor_tail cs) in
-    let is = made_tokens (made_by_constructors (map constructor cs)) in (
-      omega (arith, p.0),
-      within_up c.name.at (past k (constructor_tail cs)) (past (j + 1) (write_constructor c ++ constructor_tail cs)) (made_tokens (made_by_constructors (map constructor cs))) (omega (arith, e))
-          (within_more c.name.at k (past k (constructor_tail cs)) (made_tokens (made_by_constructors (map constructor cs))) (omega (arith, p.0, l)) (constructors_tail cs k p.2)),
-    )
+    let ds = constructor_names (map constructor cs) in
+    within_up j (past k (constructor_tail cs)) (past (j + 1) (write_constructor c ++ constructor_tail cs)) (tokens_of (constructor_names (map constructor (c ∷ cs)))) (omega (arith, e))
+    (constructor_within c ds j (j + 1) (past k (constructor_tail cs)) (omega arith) p.0 p.1 (constructors_tail cs k p.2))
 
-constructors_within : (cs : List Constructor) (i : ℕ) → PlacedConstructors i cs → Within i (past i (constructor_list cs)) (made_tokens (made_by_constructors (map constructor cs)))
+constructors_within : (cs : List Constructor) (i : ℕ) → PlacedConstructors i cs → Within i (past i (constructor_list cs)) (tokens_of (constructor_names (map constructor cs)))
 constructors_within [] i p = omega arith
 constructors_within (c ∷ cs) i p =
     let k = past i (write_constructor c) in
-    let l = past_up i (write_constructor c) in
-    let e = past_both i (write_constructor c) (constructor_tail cs) in (
-      omega (arith, p.0),
-      within_up c.name.at (past k (constructor_tail cs)) (past i (write_constructor c ++ constructor_tail cs)) (made_tokens (made_by_constructors (map constructor cs))) (omega (arith, e))
-          (within_more c.name.at k (past k (constructor_tail cs)) (made_tokens (made_by_constructors (map constructor cs))) (omega (arith, p.0, l)) (constructors_tail cs k p.2)),
-    )
+    let e = past_both i (write_constructor c) (constructor_tail cs) in
+    let ds = constructor_names (map constructor cs) in
+    within_up i (past k (constructor_tail cs)) (past i (write_constructor c ++ constructor_tail cs)) (tokens_of (constructor_names (map constructor (c ∷ cs)))) (omega (arith, e))
+    (constructor_within c ds i i (past k (constructor_tail cs)) (omega arith) p.0 p.1 (constructors_tail cs k p.2))
 
 clauses_tail : (cs : List Clause) (j : ℕ) → PlacedClauses (j + 1) cs → Within j (past j (clause_tail cs)) (made_tokens (made_by_clauses (map clause cs)))
 clauses_tail [] j p = omega arith
@@ -178,11 +185,12 @@ types_within (a ∷ as') i p =
     let q = past_both (j + 1) (bar_before a.bar) (constructor_list a.constructors) in
     let rest = types_within as' (past i (write_algebraic a) + 1) p.1 in
     let vs = tokens_of (map word a.vars) in
-    let cs = made_tokens (made_by_constructors (map constructor a.constructors)) in
+    let names = constructor_names (map constructor a.constructors) in
+    let cs = tokens_of names in
     let ts = made_tokens (made_type_names (map algebraic_type as')) in
     let both : Within k rest.0 (cs ++ ts) = within_both k z rest.0 cs ts (constructors_within a.constructors k p.0.2) (within_more z (past i (write_algebraic a) + 1) rest.0 ts (omega (arith, e, q)) rest.1) in
     let whole = within_both a.name.at j rest.0 vs (cs ++ ts) (within_more a.name.at (i + 1) j vs (omega (arith, p.0.0)) (variables_within a.vars (i + 1) p.0.1)) (within_more j k rest.0 (cs ++ ts) (omega (arith, m)) both) in
-    (rest.0, (omega (arith, p.0.0), subst (λ (is : List ℕ). Within a.name.at rest.0 (vs ++ is)) (sym (made_both (made_by_constructors (map constructor a.constructors)) (made_type_names (map algebraic_type as')))) whole))
+    (rest.0, (omega (arith, p.0.0), subst (λ (is : List ℕ). Within a.name.at rest.0 (vs ++ is)) (sym (made_both (made_by_constructors (map constructor a.constructors)) (made_type_names (map algebraic_type as')) ∙ ap (λ (is : List ℕ). is ++ ts) (symbols_tokens names))) whole))
 
 inductives_within : (ds : List Inductive) (i : ℕ) → PlacedInductives i ds → (hi : ℕ) × Within i hi (made_tokens (made_by_inductives (map inductive_predicate ds)))
 inductives_within [] i p = (i, omega arith)

@@ -1,16 +1,16 @@
 -- The first fault of the names that a declaration of a source uses is the failing check at the least token.
-use Rattle.std.proofs.Common.{◌≡◌, ℕ, ◌+◌, ◌≤◌, true, false, List, [], ◌∷◌, ◌++◌, map, reverse, Option, Some, None, IfSome, option_map, refl, sym, subst, arith}
+use Rattle.std.proofs.Common.{◌≡◌, ℕ, ◌+◌, ◌≤◌, Bool, true, false, List, [], ◌∷◌, ◌++◌, map, reverse, Option, Some, None, IfSome, option_map, refl, sym, subst, arith}
 use Rattle.std.specs.Option.{is_none}
 use Rattle.elab_groups.specs.tokens_why.declared.terminal.Terminal.TheVariants as t
 use Rattle.elab_groups.specs.surface.declared.names.Name.{Name}
 use Rattle.elab_groups.specs.surface.Lexeme.{Word, mark}
-use Rattle.elab_groups.specs.surface.Forms.{SyntaxForm, form_row, past, write_called, write_form}
+use Rattle.elab_groups.specs.surface.Forms.{SyntaxForm, past, write_called, write_form}
 use Rattle.elab_groups.specs.surface.Trees.{SyntaxTree, write, name_row, type_part, bar_before}
 use Rattle.elab_groups.specs.surface.Declarations.{ParamGroup, Member, Constructor, Algebraic, Clause, Inductive, SyntaxDeclaration, type_decl, algebraic_decl, function_decl, predicate_decl, constant_decl, inductive_decl, prop_decl, use_decl, clone_decl, scope_decl, variable_row, typed_names, write_param, param_row, definition, write_member, other_members, write_constructor, constructor_tail, constructor_list, write_algebraic, algebraic_tail, algebraic_list, write_clause, clause_tail, clause_list, write_inductive}
 use Rattle.elab_groups.specs.surface.DeclarationRules.{IsTypedParam, AreParams, IsMember, AreMembers, IsOptionalDefinition, IsDefined, AreConstructors, AreAlgebraic, AreClauses, AreInductive, IsLevelDecl, PlacedTyped, PlacedParams, PlacedDefinition, PlacedMember, PlacedMembers, PlacedConstructors, PlacedAlgebraic, PlacedAlgebraics, PlacedClauses, PlacedInductives, PlacedDecl}
-use Rattle.elab_groups.specs.name_resolution.Abstract.{Expression, type_expression, type_expressions, expression}
+use Rattle.elab_groups.specs.name_resolution.Abstract.{Expression, type_expression, expression}
 use Rattle.elab_groups.specs.name_resolution.Where.{Where}
-use Rattle.elab_groups.specs.name_resolution.Faults.{form_fault, forms_fault, type_fault, fault}
+use Rattle.elab_groups.specs.name_resolution.Faults.{form_fault, type_fault, fault}
 use Rattle.elab_groups.specs.parts.Declarations.{Parameter, GroupMember, Declaration, parameter_of, group_member, constructor, algebraic_type, clause, inductive_predicate, declaration, symbol, word, words, params_fault, constructors_fault, types_fault, clauses_fault, inductives_fault, with_vars, own_variables}
 use Rattle.elab_groups.specs.parts.Outcomes.{Setting, around}
 use Rattle.elab_groups.specs.members.Members.{words_of_parameters, body_fault, member_fault, members_fault}
@@ -18,28 +18,28 @@ use Rattle.elab_groups.specs.Groups.{within_group}
 use Rattle.elab_declarations.specs.Outcomes.{used_fault}
 use Rattle.elab_declarations.specs.type_declarations.Algebraics.{inside_types}
 use Rattle.elab_declarations.specs.inductive_declarations.Inductives.{within_inductives}
-use Rattle.elaboration_laws.specs.Checked.{IsLeastFailing, FormFails, FormsFail, TypeFails, NamesFail}
+use Rattle.elaboration_laws.specs.Checked.{IsLeastFailing, FormFails, TypeFails, NamesFail}
 use Rattle.elaboration_laws.specs.UsedNames.{ParamsFail, BodyFails, MemberFails, MembersFail, ConstructorsFail, TypesFail, ClausesFail, InductivesFail, UsesFail}
-use Rattle.elaboration_laws.proofs.Least.{past_both, past_up, past_more, Ranged, wider, none_at, both_at, form_at, row_at, parts_forms, type_at, tree_at}
+use Rattle.elaboration_laws.proofs.Least.{past_both, past_up, past_more, Ranged, wider, none_at, both_at, form_at, type_at, tree_at}
 
 -- ---- parameters and members
-typed_at : (w : Where) (ns : List Name) (f : SyntaxForm) (i : ℕ) → IsTypedParam ns f → PlacedTyped i ns f → Ranged i (past i (typed_names ns f)) (form_fault w true (type_expression f)) (FormFails w true (type_expression f))
-typed_at w [] f i o p = form_at w true f i o.1 p
-typed_at w (n ∷ ns) f i o p =
+typed_at : (w : Where) (b : Bool) (ns : List Name) (f : SyntaxForm) (i : ℕ) → IsTypedParam ns f → PlacedTyped i ns f → Ranged i (past i (typed_names ns f)) (form_fault w b (type_expression f)) (FormFails w b (type_expression f))
+typed_at w b [] f i o p = form_at w b f i o.1 p
+typed_at w b (n ∷ ns) f i o p =
     let j = past (i + 1) (name_row (n ∷ ns)) in
     let l = past_up (i + 1) (name_row (n ∷ ns)) in
     let e : past i (typed_names (n ∷ ns) f) ≡ past (past (i + 1) (name_row (n ∷ ns)) + 1) (write_form f ++ (mark t.RParen ∷ [])) = past_both (i + 1) (name_row (n ∷ ns)) _ in
     let q = past_more (j + 1) (write_form f) (mark t.RParen ∷ []) in
-    wider (j + 1) (past (j + 1) (write_form f)) i (past i (typed_names (n ∷ ns) f)) _ _ (omega (arith, l)) (omega (arith, e, q)) (form_at w true f (j + 1) o p.1)
+    wider (j + 1) (past (j + 1) (write_form f)) i (past i (typed_names (n ∷ ns) f)) _ _ (omega (arith, l)) (omega (arith, e, q)) (form_at w b f (j + 1) o p.1)
 
-params_at : (w : Where) (ps : List ParamGroup) (i : ℕ) → AreParams ps → PlacedParams i ps → Ranged i (past i (param_row ps)) (params_fault w (map parameter_of ps)) (ParamsFail w (map parameter_of ps))
-params_at w [] i o p = none_at i i
-params_at w (q ∷ ps) i o p =
+params_at : (w : Where) (b : Bool) (ps : List ParamGroup) (i : ℕ) → AreParams ps → PlacedParams i ps → Ranged i (past i (param_row ps)) (params_fault w b (map parameter_of ps)) (ParamsFail w b (map parameter_of ps))
+params_at w b [] i o p = none_at i i
+params_at w b (q ∷ ps) i o p =
     let j = past i (write_param q) in
     let l = past_up i (write_param q) in
     let m = past_up j (param_row ps) in
     let e = past_both i (write_param q) (param_row ps) in
-    both_at i j j (past j (param_row ps)) i (past i (write_param q ++ param_row ps)) _ _ _ _ (omega arith) (omega arith) (omega (arith, l)) (omega (arith, m)) (omega (arith, e)) (typed_at w q.names q.of_type i o.0 p.0) (params_at w ps j o.1 p.1)
+    both_at i j j (past j (param_row ps)) i (past i (write_param q ++ param_row ps)) _ _ _ _ (omega arith) (omega arith) (omega (arith, l)) (omega (arith, m)) (omega (arith, e)) (typed_at w b q.names q.of_type i o.0 p.0) (params_at w b ps j o.1 p.1)
 
 definition_at : (w : Where) (m : GroupMember) (vars : List Word) (e : Option SyntaxTree) (i : ℕ) → IsOptionalDefinition e → PlacedDefinition i e → Ranged i (past i (definition e)) (body_fault w m vars (option_map expression e)) (BodyFails w m vars (option_map expression e))
 definition_at w m vars None i o p = none_at i i
@@ -59,7 +59,7 @@ member_at w d i o p =
     let e1 = past_both i (write_called d.name) (param_row d.params ++ (type_part d.result ++ (mark t.Equal ∷ write d.body))) in
     let e2 = past_both j (param_row d.params) (type_part d.result ++ (mark t.Equal ∷ write d.body)) in
     let e3 : past k (type_part d.result ++ (mark t.Equal ∷ write d.body)) ≡ past (past k (type_part d.result) + 1) (write d.body) = past_both k (type_part d.result) (mark t.Equal ∷ write d.body) in
-    both_at j k k z i (past i (write_member d)) _ _ _ _ (omega (arith, l)) (omega arith) (omega (arith, m)) (omega (arith, n, s)) (omega (arith, e1, e2, e3)) (params_at w d.params j o.1 p.1)
+    both_at j k k z i (past i (write_member d)) _ _ _ _ (omega (arith, l)) (omega arith) (omega (arith, m)) (omega (arith, n, s)) (omega (arith, e1, e2, e3)) (params_at w true d.params j o.1 p.1)
     (both_at k h (h + 1) z k z _ _ _ _ (omega arith) (omega arith) (omega (arith, n)) (omega (arith, s)) (omega arith) (type_at w true k d.result o.2 p.2)
     (tree_at (with_vars w (own_variables (group_member d))) false d.body (h + 1) (reverse (words_of_parameters (map parameter_of d.params))) (is_none (option_map type_expression d.result)) o.3 p.3))
 
@@ -83,13 +83,13 @@ group_at w m ps e ds i j h k ij pj jh hk q r o p s oe pe od pd =
     let n = past_up k (definition e) in
     let x = past_up b (other_members ds) in
     let ranged : Ranged i b (member_fault w m) (MemberFails w m) =
-    both_at i (past i (param_row ps)) j b i b _ _ _ _ (omega arith) pj l (omega (arith, jh, hk, n)) (omega arith) (subst (λ (us : List Parameter). Ranged i (past i (param_row ps)) (params_fault w us) (ParamsFail w us)) (sym q) (params_at w ps i o p))
+    both_at i (past i (param_row ps)) j b i b _ _ _ _ (omega arith) pj l (omega (arith, jh, hk, n)) (omega arith) (subst (λ (us : List Parameter). Ranged i (past i (param_row ps)) (params_fault w true us) (ParamsFail w true us)) (sym q) (params_at w true ps i o p))
     (both_at j h k b j b _ _ _ _ (omega arith) hk jh n (omega arith) s (subst (λ (y : Option Expression). Ranged k b (body_fault w m (own_variables m) y) (BodyFails w m (own_variables m) y)) (sym r) (definition_at w m (own_variables m) e k oe pe))) in
     (both_at i b b z i z _ _ _ _ (omega arith) (omega arith) (omega (arith, ij, jh, hk, n)) x (omega arith) ranged (members_at w ds b od pd)).is
 
 -- ---- algebraic types
-constructor_at : (w : Where) (c : Constructor) (i : ℕ) → AreConstructors (c ∷ []) → PlacedConstructors i (c ∷ []) → Ranged i (past i (write_constructor c)) (forms_fault w false (type_expressions c.fields)) (FormsFail w false (type_expressions c.fields))
-constructor_at w c i o p = wider (i + 1) (past (i + 1) (form_row c.fields)) i (past (i + 1) (form_row c.fields)) _ _ (omega arith) (omega arith) (row_at w false c.fields (i + 1) (parts_forms w false c.fields o.0) p.1)
+constructor_at : (w : Where) (c : Constructor) (i : ℕ) → AreConstructors (c ∷ []) → PlacedConstructors i (c ∷ []) → Ranged i (past i (write_constructor c)) (params_fault w false (map parameter_of c.fields)) (ParamsFail w false (map parameter_of c.fields))
+constructor_at w c i o p = wider (i + 1) (past (i + 1) (param_row c.fields)) i (past (i + 1) (param_row c.fields)) _ _ (omega arith) (omega arith) (params_at w false c.fields (i + 1) o.0 p.1)
 
 constructors_tail : (w : Where) (cs : List Constructor) (j : ℕ) → AreConstructors cs → PlacedConstructors (j + 1) cs → Ranged j (past j (constructor_tail cs)) (constructors_fault w (map constructor cs)) (ConstructorsFail w (map constructor cs))
 constructors_tail w [] j o p = none_at j j
@@ -180,7 +180,7 @@ inductives_at w (d ∷ ds) i o p =
     let rest = inductives_at w ds (past i (write_inductive d) + 1) o.4 p.1 in
     let end : past i (write_inductive d) ≡ z = omega (arith, e1, e2, e3) in (
       rest.0,
-      both_at j k h rest.0 i rest.0 _ _ _ _ (omega (arith, l)) (omega (arith, n)) (omega (arith, m)) (omega (arith, s, end, rest.2)) (omega arith) (params_at w d.params j o.1 p.0.1)
+      both_at j k h rest.0 i rest.0 _ _ _ _ (omega (arith, l)) (omega (arith, n)) (omega (arith, m)) (omega (arith, s, end, rest.2)) (omega arith) (params_at w true d.params j o.1 p.0.1)
           (both_at h z (past i (write_inductive d) + 1) rest.0 h rest.0 _ _ _ _ (omega arith) (omega (arith, end)) (omega (arith, s)) rest.2 (omega arith) (clauses_at w d.clauses h o.3 p.0.2) rest.1),
       omega (arith, l, m, n, s, end, rest.2),
     )

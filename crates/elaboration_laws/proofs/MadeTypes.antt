@@ -12,18 +12,17 @@ use Rattle.elab_groups.specs.tasks.Roles as roles
 use Rattle.elab_groups.specs.tasks.Valid.{own_type}
 use Rattle.elab_groups.proofs.tasks.Declared.{contains_step, any_iff}
 use Rattle.elab_groups.specs.surface.Lexeme.{Word}
-use Rattle.elab_groups.specs.name_resolution.Abstract.{count_forms}
 use Rattle.elab_groups.specs.name_resolution.Where.{Where}
-use Rattle.elab_groups.specs.open_types.Pieces.{types_at}
+use Rattle.elab_declarations.specs.elab_groups.members.Members.{parameter_types, words_of_parameters}
+use Rattle.elab_declarations.proofs.elab_groups.members.MembersScoped.{types_count}
 use Rattle.elab_groups.specs.parts.Declarations.{AlgebraicConstructor as ConstructorOf, AlgebraicType, words, with_vars}
-use Rattle.elab_groups.specs.parts.Entries.{projections}
-use Rattle.elab_declarations.specs.type_declarations.Algebraics.{entry_count, group_count, numbering_from, type_entries, constructor_trees, algebraic_trees, constructors_entries, group_entries}
+use Rattle.elab_groups.specs.parts.Entries.{other_words, field_entries}
+use Rattle.elab_declarations.specs.type_declarations.Algebraics.{count_fields, entry_count, group_count, numbering_from, type_entries, constructor_trees, algebraic_trees, constructors_entries, group_entries}
 use Rattle.elaboration_laws.proofs.Extended.{in_either, slice_all}
 use Rattle.elaboration_laws.proofs.Made.{HasFrom, from_step, AreBetween, wider, one_between, no_numbers, AreNew}
-use Rattle.elab_declarations.proofs.type_declarations.Made.{projections_length as count_projections, cons_length as count_cons}
+use Rattle.elab_declarations.proofs.type_declarations.Made.{fields_length as count_entries, cons_length as count_cons}
 use Rattle.elab_groups.specs.trees.laws.Indices.{eqb_true as equal}
 use Rattle.elaboration_laws.proofs.Declarations.{below as slice_below}
-use Rattle.elab_declarations.proofs.type_declarations.Counted.{types_length}
 
 -- ---- numbers in order
 both_from : (xs ys : List ℕ) (n m a b : ℕ) → m ≡ n + a → HasFrom xs n a → HasFrom ys m b → HasFrom (xs ++ ys) n (a + b)
@@ -47,11 +46,11 @@ numbers_has n (t ∷ ts) =
 cons_has : (w : Where) (n : ℕ) (ks : List ConstructorOf) → HasFrom (made_by_cons (constructor_trees w n ks)) n (entry_count ks)
 cons_has w n [] = λ j l. absurd (omega arith)
 cons_has w n (k ∷ ks) =
-    let fs = types_at w k.fields in
-    let c = count_forms k.fields + 1 in
+    let fs = parameter_types w k.fields in
+    let c = count_fields k.fields + 1 in
     let own = numbering_from (n + 1) fs in
     let next : n + 1 ≡ suc n = omega arith in
-    let count : suc (length fs) ≡ c = let q = types_length w k.fields in omega (arith, q) in
+    let count : suc (length fs) ≡ c = let q = types_count w k.fields in omega (arith, q) in
     let one : HasFrom (n ∷ own) n (suc (length fs)) = from_step n own (length fs) (subst (λ (i : ℕ). HasFrom own i (length fs)) next (numbers_has (n + 1) fs)) in
     both_from (n ∷ own) (made_by_cons (constructor_trees w (n + c) ks)) n (n + c) c (entry_count ks) refl (subst (λ (m : ℕ). HasFrom (n ∷ own) n m) count one) (cons_has w (n + c) ks)
 
@@ -87,9 +86,9 @@ both_between n m xs ys h k = All-append (λ (i : ℕ). (n ≤ i) × (i < m)) xs 
 pub cons_between : (w : Where) (n m : ℕ) (ks : List ConstructorOf) → n + entry_count ks ≤ m → AreBetween n m (made_by_cons (constructor_trees w n ks))
 cons_between w n m [] l = no_numbers n m
 cons_between w n m (k ∷ ks) l =
-    let fs = types_at w k.fields in
-    let c = count_forms k.fields + 1 in
-    let q = types_length w k.fields in
+    let fs = parameter_types w k.fields in
+    let c = count_fields k.fields + 1 in
+    let q = types_count w k.fields in
     let rest = made_by_cons (constructor_trees w (n + c) ks) in
     both_between n m (n ∷ numbering_from (n + 1) fs) rest
     (one_between n n m (numbering_from (n + 1) fs) (omega arith) (omega (arith, l)) (wider (n + 1) n m m (numbering_from (n + 1) fs) (omega arith) (omega arith) (numbers_between (n + 1) m fs (omega (arith, q, l)))))
@@ -119,39 +118,39 @@ not_projected n k fs c q l = let z = no_position (n + 1) 0 k fs l in rw (q, z) r
 cons_plain : (w : Where) (n k : ℕ) (ks : List ConstructorOf) → n + entry_count ks ≤ k → constructed_as k (constructor_trees w n ks) ≡ PlainRole
 cons_plain w n k [] l = refl
 cons_plain w n k (x ∷ ks) l =
-    let fs = types_at w x.fields in
-    let c = count_forms x.fields + 1 in
-    let q = types_length w x.fields in
+    let fs = parameter_types w x.fields in
+    let c = count_fields x.fields + 1 in
+    let q = types_count w x.fields in
     let tree : ConstructorTree = record { symbol = n; fields = fs; projections = numbering_from (n + 1) fs } in
     let a = differ n k (omega (arith, l)) in
     let b = not_projected n k fs tree refl (omega (arith, q, l)) in
     rw (a, b) (cons_plain w (n + c) k ks (omega (arith, l)))
 
-kinds_differ : (theory name : Word) (vars : ℕ) (t : Tree) (i : ℕ) (fs : List Tree) → All (λ (e : SymbolTree). e.kind ≡ Constructor → ⊥) (projections theory name vars t i fs)
-kinds_differ theory name vars t i [] = All-nil (λ (e : SymbolTree). e.kind ≡ Constructor → ⊥)
-kinds_differ theory name vars t i (f ∷ fs) = All-cons (λ (e : SymbolTree). e.kind ≡ Constructor → ⊥) _ (projections theory name vars t (suc i) fs) (λ q. cc) (kinds_differ theory name vars t (suc i) fs)
+kinds_differ : (theory within name : Word) (vars : ℕ) (t : Tree) (i : ℕ) (ws : List Word) (fs : List Tree) → All (λ (e : SymbolTree). e.kind ≡ Constructor → ⊥) (field_entries theory within name vars t i ws fs)
+kinds_differ theory within name vars t i ws [] = All-nil (λ (e : SymbolTree). e.kind ≡ Constructor → ⊥)
+kinds_differ theory within name vars t i ws (f ∷ fs) = All-cons (λ (e : SymbolTree). e.kind ≡ Constructor → ⊥) _ (field_entries theory within name vars t (suc i) (other_words ws) fs) (λ q. cc) (kinds_differ theory within name vars t (suc i) (other_words ws) fs)
 
 module _ (theory within : Word) where
   -- past the first constructor
   module _ (vars : ℕ) (t : Tree) (w : Where) (n : ℕ) (k : ConstructorOf) (ks : List ConstructorOf) where
     abbrev fields : List Tree
-    fields = types_at w k.fields
+    fields = parameter_types w k.fields
 
     abbrev next : ℕ
-    next = n + (count_forms k.fields + 1)
+    next = n + (count_fields k.fields + 1)
 
     abbrev own : List SymbolTree
-    own = projections theory (within ++ k.called.name) vars t 1 fields
+    own = field_entries theory within k.called.name vars t 1 (words_of_parameters k.fields) fields
 
     abbrev rest : List SymbolTree
     rest = constructors_entries theory within vars t ks (constructor_trees w next ks)
 
     cons_step : (j : ℕ) (e : SymbolTree) → e.kind ≡ Constructor → (slice_get own j ≡ Some e) ⊎ ((length own ≤ j) × (slice_get rest (j - length own) ≡ Some e))
         → ((i : ℕ) → slice_get rest i ≡ Some e → IsTrue (is_constructor (constructed_as (next + i) (constructor_trees w next ks)))) → IsTrue (is_constructor (constructed_as (n + suc j) (constructor_trees w n (k ∷ ks))))
-    cons_step j e q (inl y) f = absurd (slice_all (λ (i : SymbolTree). i.kind ≡ Constructor → ⊥) own (kinds_differ theory (within ++ k.called.name) vars t 1 fields) j e y q)
+    cons_step j e q (inl y) f = absurd (slice_all (λ (i : SymbolTree). i.kind ≡ Constructor → ⊥) own (kinds_differ theory within k.called.name vars t 1 (words_of_parameters k.fields) fields) j e y q)
     cons_step j e q (inr y) f =
-        let count = count_projections theory (within ++ k.called.name) vars t 1 fields in
-        let long = types_length w k.fields in
+        let count = count_entries theory within k.called.name vars t 1 (words_of_parameters k.fields) fields in
+        let long = types_count w k.fields in
         let tree : ConstructorTree = record { symbol = n; fields = fields; projections = numbering_from (n + 1) fields } in
         let a = differ n (n + suc j) (omega arith) in
         let b = not_projected n (n + suc j) fields tree refl (omega (arith, count, y.0)) in

@@ -1,5 +1,5 @@
 -- A group of functions and predicates is valid, with or without definitions.
-use Rattle.std.proofs.Common.{◌≡◌, ℕ, ◌+◌, suc, true, false, List, [], ◌∷◌, ◌++◌, map, reverse, length, All, Option, Some, None, refl, sym, ap, subst, ◌∙◌, arith, append_assoc, length-append}
+use Rattle.std.proofs.Common.{◌≡◌, ℕ, ◌+◌, suc, true, false, List, [], ◌∷◌, ◌++◌, map, reverse, length, All, Option, Some, None, refl, sym, ap, subst, ◌∙◌, arith, append_assoc}
 use Rattle.std.specs.Option.{is_some, is_none}
 use Rattle.std.proofs.lemmas.List.Elements.{All-nil, All-cons}
 use Rattle.elab_groups.specs.trees.Tree.{Tree}
@@ -14,15 +14,14 @@ use Rattle.elab_groups.specs.name_resolution.Faults.{first_of, type_fault}
 use Rattle.elab_groups.specs.name_resolution.Naming.{type_named}
 use Rattle.elab_groups.specs.name_resolution.Where.{Where, NamesTree}
 use Rattle.elab_groups.specs.name_resolution.variables.Seen.{SeenTree, type_seen}
-use Rattle.elab_groups.specs.open_types.Pieces.{type_at}
 use Rattle.elab_groups.proofs.open_types.Walking.{none_both}
 use Rattle.elab_groups.specs.parts.Elaborated.{unseen}
-use Rattle.elab_groups.specs.parts.Declarations.{TokenName, Parameter, GroupMember, own_variables, with_vars, params_seen, params_fault}
+use Rattle.elab_groups.specs.parts.Declarations.{GroupMember, own_variables, with_vars, params_seen, params_fault}
 use Rattle.elab_groups.specs.parts.Outcomes.{Setting, Outcome}
-use Rattle.elab_declarations.specs.elab_groups.members.Members.{SignatureTree, signature_of, signed_entries, with_members, symbol_kind_of, type_copies, parameter_types, parameter_words, words_of_parameters, body_seen, members_seen, body_fault, member_fault, members_fault}
+use Rattle.elab_declarations.specs.elab_groups.members.Members.{SignatureTree, signature_of, signed_entries, with_members, symbol_kind_of, body_seen, members_seen, body_fault, member_fault, members_fault}
 use Rattle.elab_declarations.specs.elab_groups.members.Sources.{AreResolved}
 use Rattle.elab_declarations.proofs.elab_groups.members.MembersNamed.{members_types}
-use Rattle.elab_declarations.proofs.elab_groups.members.MembersScoped.{same_kind}
+use Rattle.elab_declarations.proofs.elab_groups.members.MembersScoped.{same_kind, types_count}
 use Rattle.elab_declarations.specs.elab_groups.Bodies.{AreDefined, AllHaveBodies}
 use Rattle.elab_declarations.specs.elab_groups.Groups.{inner_equation, definitions, group_body, group_decls, group_tuples, group_signatures, group_used, IsGroup}
 use Rattle.elaboration_laws.specs.Typed.{IsTypedIn, ArePatterns}
@@ -37,24 +36,12 @@ use Rattle.elaboration_laws.proofs.Standing.{entry_of, number_of_member, signatu
 use Rattle.elaboration_laws.proofs.Bodies.{body_grows, members_grow, AreSigned, AreBodied, bodies_seen, bodies_valid, bodies_patterns}
 
 -- ---- members whose names are there: a type for each parameter, and a body without a fault
-copies_count : (t : Tree) (cs : List TokenName) → length (type_copies t cs) ≡ length (parameter_words cs)
-copies_count t [] = refl
-copies_count t (c ∷ []) = refl
-copies_count t (c ∷ d ∷ cs) = ap suc (copies_count t (d ∷ cs))
-
-types_count : (w : Where) (ps : List Parameter) → length (parameter_types w ps) ≡ length (words_of_parameters ps)
-types_count w [] = refl
-types_count w (p ∷ ps) =
-    let a = length-append (type_copies (type_at w p.of_type) p.names) (parameter_types w ps) in
-    let b = length-append (parameter_words p.names) (words_of_parameters ps) in
-    omega (arith, a, b, copies_count (type_at w p.of_type) p.names, types_count w ps)
-
 members_resolved : (v w : Where) (ms : List GroupMember) → members_fault w ms ≡ None → AreResolved w ms (map (signature_of v) ms)
 members_resolved v w [] h = tt
 members_resolved v w (m ∷ ms) h =
     let own = own_variables m in
     let p = none_both (member_fault w m) (members_fault w ms) h in
-    let q = none_both (params_fault w m.params) (first_of (type_fault w true m.result) (body_fault w m own m.body)) p.0 in
+    let q = none_both (params_fault w true m.params) (first_of (type_fault w true m.result) (body_fault w m own m.body)) p.0 in
     let r = none_both (type_fault w true m.result) (body_fault w m own m.body) q.1 in
     (record { right = r.1; count = types_count (with_vars v own) m.params; kind = same_kind (with_vars v own) m.result }, members_resolved v w ms p.1)
 

@@ -7,9 +7,10 @@ use Rattle.std.proofs.lemmas.List.Elements.{All-nil, All-cons, All-append, All-c
 use Rattle.elab_groups.specs.trees.Tree.{Tree}
 use Rattle.elab_groups.specs.tasks.Task.{SymbolTree, symbol_or, int_symbol, DefinitionTree, InductiveTree, DeclarationTree, made, made_by, made_by_cons, made_by_types}
 use Rattle.elab_groups.proofs.tasks.Declared.{none_in, contains_cases}
-use Rattle.elab_groups.specs.name_resolution.Abstract.{Expression, count_forms}
+use Rattle.elab_groups.specs.name_resolution.Abstract.{Expression}
 use Rattle.elab_groups.specs.name_resolution.Where.{Where}
-use Rattle.elab_groups.specs.open_types.Pieces.{types_at}
+use Rattle.elab_declarations.specs.elab_groups.members.Members.{parameter_types}
+use Rattle.elab_declarations.proofs.elab_groups.members.MembersScoped.{types_count}
 use Rattle.elab_groups.specs.parts.Entries.{type_entry}
 use Rattle.elab_groups.specs.parts.Declarations.{TokenName, AlgebraicConstructor, GroupMember, AlgebraicType, InductivePredicate, Declaration, abstract_type, alias, algebraic, member_group, inductive, proposition_declaration, words, with_vars}
 use Rattle.elab_groups.specs.parts.Outcomes.{Setting, Outcome, over, full_name, tuples_wanting}
@@ -17,7 +18,7 @@ use Rattle.elab_groups.specs.parts.Elaborated.{unseen}
 use Rattle.elab_declarations.specs.elab_groups.members.Members.{SignatureTree, signed_entries, signature_trees}
 use Rattle.elab_declarations.specs.elab_groups.Groups.{definitions, group_body, group_tuples, before_group, group_signatures, IsGroup}
 use Rattle.elab_declarations.specs.inductive_declarations.Inductives.{as_member, as_members, inductives_seen, before_inductives, induced, IsInductiveGroup}
-use Rattle.elab_declarations.specs.type_declarations.Algebraics.{entry_count, group_seen, first_type, first_constructor, numbering_from, type_entries, constructor_trees, algebraic_trees, group_trees, group_entries, group_outcome}
+use Rattle.elab_declarations.specs.type_declarations.Algebraics.{count_fields, entry_count, group_seen, first_type, first_constructor, numbering_from, type_entries, constructor_trees, algebraic_trees, group_trees, group_entries, group_outcome}
 use Rattle.elab_declarations.specs.type_declarations.Algebraics as group
 use Rattle.elab_declarations.specs.Outcomes.{type_outcome, IsOutcome}
 use Rattle.elaboration_laws.proofs.Standing.{count_signed}
@@ -25,7 +26,6 @@ use Rattle.elaboration_laws.proofs.Made.{AreBetween, wider, one_between, no_numb
 use Rattle.elaboration_laws.proofs.MadeTypes.{numbers_between, cons_between, group_between, group_length, count_types}
 use Rattle.elaboration_laws.proofs.Distinct.{IsDistinct, distinct_both}
 use Rattle.elaboration_laws.proofs.TaskOutcomes.{OfTheory, signed_of, types_of, group_of}
-use Rattle.elab_declarations.proofs.type_declarations.Counted.{types_length}
 
 -- ---- numbers that follow one another
 between_at : (n m : ℕ) (ks : List ℕ) (k : ℕ) → AreBetween n m ks → Contains ks k → (n ≤ k) × (k < m)
@@ -53,9 +53,9 @@ numbers_distinct n (t ∷ ts) =
 cons_distinct : (w : Where) (n : ℕ) (ks : List AlgebraicConstructor) → IsDistinct (made_by_cons (constructor_trees w n ks))
 cons_distinct w n [] = tt
 cons_distinct w n (k ∷ ks) =
-    let fs = types_at w k.fields in
-    let c = count_forms k.fields + 1 in
-    let q = types_length w k.fields in
+    let fs = parameter_types w k.fields in
+    let c = count_fields k.fields + 1 in
+    let q = types_count w k.fields in
     let own = numbering_from (n + 1) fs in
     let rest = made_by_cons (constructor_trees w (n + c) ks) in
     let next : n + 1 ≡ suc n = omega arith in

@@ -26,10 +26,13 @@ use Rattle.elab_groups.proofs.open_types.Walking.{none_both, must_be}
 use Rattle.elaboration_laws.specs.Signature.{with_entries, IsSymbol, IsTuple, IsMeaning, IsWellFormed, FormTuples, FormsTuples}
 use Rattle.elaboration_laws.proofs.Over.{IsOver, AreOver, type_over, cells_over, members_cells}
 use Rattle.elaboration_laws.proofs.Instances.{inst_over, variables_over, inst_assigned}
-use Rattle.elab_declarations.proofs.type_declarations.Counted.{types_length as count_types}
 use Rattle.elab_groups.proofs.tasks.TypeInstances.{below as is_below}
 use Rattle.std.proofs.lemmas.Option.{slice_get-get_or as some_at}
 use Rattle.theory_states.proofs.goal_tasks.TuplesMade.{variables_count as count_variables}
+
+count_types : (w : Where) (fs : TypeExpressions) → length (types_at w fs) ≡ count_forms fs
+count_types w no_types = refl
+count_types w (more_types f fs) = ap suc (count_types w fs)
 
 pub leaf_is_below : (n : ℕ) (h : Head) → LeafBelow n h → leaf_below h n
 leaf_is_below n (HTyVar j) x = x

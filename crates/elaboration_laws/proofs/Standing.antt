@@ -133,10 +133,10 @@ module _ (base : Vocabulary) (c : Setting) (h : IsTypedSetting base c) (ms : Lis
     closed_signature : (m : GroupMember) → member_fault (inner []) m ≡ None → binders_fault (outer (own_variables m)) false (as_binders m.params m.result) ≡ None
     closed_signature m q =
         let vs = own_variables m in
-        let p = none_both (params_fault (inner []) m.params) (first_of (type_fault (inner []) true m.result) (body_fault (inner []) m vs m.body)) q in
+        let p = none_both (params_fault (inner []) true m.params) (first_of (type_fault (inner []) true m.result) (body_fault (inner []) m vs m.body)) q in
         let r = none_both (type_fault (inner []) true m.result) (body_fault (inner []) m vs m.body) p.1 in
         binders_alike (outer vs) (inner vs) (types_alike vs) false (as_binders m.params m.result)
-        ∙ signature_closed (inner []) m.params m.result (both_none (params_fault (inner []) m.params) (type_fault (inner []) true m.result) p.0 r.0)
+        ∙ signature_closed (inner []) m.params m.result (both_none (params_fault (inner []) true m.params) (type_fault (inner []) true m.result) p.0 r.0)
 
     signed : (ks : List GroupMember) → AreSeen all_seen ks → members_fault (inner []) ks ≡ None → AreSigned (with_entries base front) ks (map (signature_of (outer [])) ks)
     signed [] g q = tt

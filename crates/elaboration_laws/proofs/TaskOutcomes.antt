@@ -12,10 +12,10 @@ use Rattle.elab_groups.specs.tasks.Task.{SymbolTree, int_symbol, ConstructorTree
 use Rattle.elab_groups.specs.tasks.Valid.{own_type}
 use Rattle.elab_groups.specs.surface.Lexeme.{Word}
 use Rattle.elab_groups.specs.parts.Elaborated.{unseen}
-use Rattle.elab_groups.specs.parts.Entries.{tuple_in, type_entry, projections, constructor_entries, builtin, wanting_tuples}
+use Rattle.elab_groups.specs.parts.Entries.{tuple_in, type_entry, other_words, field_entries, named_entries, builtin, wanting_tuples}
 use Rattle.elab_groups.specs.parts.Declarations.{AlgebraicConstructor, AlgebraicType, GroupMember, Declaration, abstract_type, alias, algebraic, member_group, inductive, proposition_declaration}
 use Rattle.elab_groups.specs.parts.Outcomes.{Setting, Outcome, full_name}
-use Rattle.elab_declarations.specs.elab_groups.members.Members.{SignatureTree, signed_entries, signature_trees, members_seen}
+use Rattle.elab_declarations.specs.elab_groups.members.Members.{SignatureTree, signed_entries, signature_trees, members_seen, words_of_parameters}
 use Rattle.elab_declarations.specs.elab_groups.Groups.{group_signatures}
 use Rattle.elab_declarations.specs.inductive_declarations.Inductives.{as_members, before_inductives, inductives_seen}
 use Rattle.elab_declarations.specs.type_declarations.Algebraics.{group_seen, type_entries, constructors_entries, group_trees, group_entries}
@@ -44,18 +44,17 @@ module _ (theory : Word) where
   types_of within [] = All-nil Of
   types_of within (a ∷ ts) = All-cons Of (type_entry theory (within ++ a.called.name) (length a.vars)) (type_entries theory within ts) refl (types_of within ts)
 
-  projections_of : (name : Word) (n : ℕ) (t : Tree) (i : ℕ) (fs : List Tree) → All Of (projections theory name n t i fs)
-  projections_of name n t i [] = All-nil Of
-  projections_of name n t i (f ∷ fs) = All-cons Of _ (projections theory name n t (suc i) fs) refl (projections_of name n t (suc i) fs)
-
-  constructor_of : (name : Word) (n : ℕ) (t : Tree) (fs : List Tree) → All Of (constructor_entries theory name n t fs)
-  constructor_of name n t fs = All-cons Of _ (projections theory name n t 1 fs) refl (projections_of name n t 1 fs)
+  fields_of : (within name : Word) (n : ℕ) (t : Tree) (i : ℕ) (ws : List Word) (fs : List Tree) → All Of (field_entries theory within name n t i ws fs)
+  fields_of within name n t i ws [] = All-nil Of
+  fields_of within name n t i ws (f ∷ fs) = All-cons Of _ (field_entries theory within name n t (suc i) (other_words ws) fs) refl (fields_of within name n t (suc i) (other_words ws) fs)
 
   constructors_of : (within : Word) (n : ℕ) (t : Tree) (ks : List AlgebraicConstructor) (cs : List ConstructorTree) → All Of (constructors_entries theory within n t ks cs)
   constructors_of within n t [] cs = All-nil Of
   constructors_of within n t (k ∷ ks) [] = All-nil Of
   constructors_of within n t (k ∷ ks) (c ∷ cs) =
-      All-append Of (constructor_entries theory (within ++ k.called.name) n t c.fields) (constructors_entries theory within n t ks cs) (constructor_of (within ++ k.called.name) n t c.fields) (constructors_of within n t ks cs)
+      let ws = words_of_parameters k.fields in
+      All-append Of (named_entries theory within k.called.name n t ws c.fields) (constructors_entries theory within n t ks cs)
+      (All-cons Of _ (field_entries theory within k.called.name n t 1 ws c.fields) refl (fields_of within k.called.name n t 1 ws c.fields)) (constructors_of within n t ks cs)
 
   pub group_of : (within : Word) (ts : List AlgebraicType) (ys : List AlgebraicTree) → All Of (group_entries theory within ts ys)
   group_of within [] ys = All-nil Of

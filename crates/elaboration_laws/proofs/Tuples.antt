@@ -14,7 +14,7 @@ use Rattle.elab_groups.specs.tasks.Typing.{members, IsTypeSymbol}
 use Rattle.elab_groups.specs.tasks.Valid.{VariablesBelow, IsTypeIn, own_type}
 use Rattle.elab_groups.specs.surface.Lexeme.{Word}
 use Rattle.elab_groups.specs.name_resolution.variables.Seen.{has_width}
-use Rattle.elab_groups.specs.parts.Entries.{type_entry, projections, constructor_entries, builtin, tuple_entries, is_tuple, tuple_from, tuple_in, wanting_tuple, wanting_tuples}
+use Rattle.elab_groups.specs.parts.Entries.{type_entry, projections, constructor_entries, builtin, tuple_entries, is_tuple, tuple_from, tuple_in, wanting_tuple, wanting_tuples, other_words, field_entries, named_entries}
 use Rattle.elaboration_laws.specs.Signature.{with_entries, IsTuple}
 use Rattle.elaboration_laws.specs.Scopes.{NamesNew, IsTypedEntry, IsTypedSignature}
 use Rattle.elaboration_laws.proofs.Over.{IsOver, over_good, cells_over, members_cells}
@@ -54,6 +54,17 @@ module _ (v : Vocabulary) where
   pub constructor_typed : (theory name : Word) (n : ℕ) (t : Tree) (fs : List Tree) → IsTypeIn v n t → All (IsTypeIn v n) fs → All (IsTypedEntry v) (constructor_entries theory name n t fs)
   constructor_typed theory name n t fs h k =
       All-cons (IsTypedEntry v) _ (projections theory name n t 1 fs) (record { types = record { args = k; result = h }; result = λ m. tt }) (projections_typed theory name n t 1 fs h k)
+
+  -- a constructor with fields that may have names
+  fields_typed : (theory within name : Word) (n : ℕ) (t : Tree) (i : ℕ) (ws : List Word) (fs : List Tree) → IsTypeIn v n t → All (IsTypeIn v n) fs → All (IsTypedEntry v) (field_entries theory within name n t i ws fs)
+  fields_typed theory within name n t i ws [] h k = All-nil (IsTypedEntry v)
+  fields_typed theory within name n t i ws (f ∷ fs) h k =
+      All-cons (IsTypedEntry v) _ (field_entries theory within name n t (suc i) (other_words ws) fs) (record { types = record { args = All-cons (IsTypeIn v n) t [] h (All-nil (IsTypeIn v n)); result = k 0 f (omega arith) }; result = λ m. tt })
+      (fields_typed theory within name n t (suc i) (other_words ws) fs h (λ j d l. k (suc j) d (omega arith)))
+
+  pub named_typed : (theory within name : Word) (n : ℕ) (t : Tree) (ws : List Word) (fs : List Tree) → IsTypeIn v n t → All (IsTypeIn v n) fs → All (IsTypedEntry v) (named_entries theory within name n t ws fs)
+  named_typed theory within name n t ws fs h k =
+      All-cons (IsTypedEntry v) _ (field_entries theory within name n t 1 ws fs) (record { types = record { args = k; result = h }; result = λ m. tt }) (fields_typed theory within name n t 1 ws fs h k)
 
 -- an entry after others
 at_end : (xs : List SymbolTree) (e : SymbolTree) (ys : List SymbolTree) → slice_get (xs ++ e ∷ ys) (length xs) ≡ Some e

@@ -15,12 +15,12 @@ use Rattle.elab_groups.specs.members.Members.{words_of_parameters}
 use Rattle.elab_groups.specs.Groups.{within_group}
 use Rattle.elab_declarations.specs.type_declarations.Algebraics.{inside_types}
 use Rattle.elab_declarations.specs.inductive_declarations.Inductives.{within_inductives}
-use Rattle.elaboration_laws.specs.Checked.{FormFails, FormsFail, TypeFails, NamesFail}
+use Rattle.elaboration_laws.specs.Checked.{FormFails, TypeFails, NamesFail}
 
 -- where the declaration's own names are there
-abbrev pub ParamsFail : Where → List Parameter → NamingFault → Type 0
-ParamsFail w [] g = ⊥
-ParamsFail w (p ∷ ps) g = FormFails w true p.of_type g ⊎ ParamsFail w ps g
+abbrev pub ParamsFail : Where → Bool → List Parameter → NamingFault → Type 0
+ParamsFail w open_ [] g = ⊥
+ParamsFail w open_ (p ∷ ps) g = FormFails w open_ p.of_type g ⊎ ParamsFail w open_ ps g
 
 abbrev pub BodyFails : Where → GroupMember → List Word → Option Expression → NamingFault → Type 0
 BodyFails w m vars None g = ⊥
@@ -29,7 +29,7 @@ BodyFails w m vars (Some e) g =
     (is_none m.result) e g
 
 abbrev pub MemberFails : Where → GroupMember → NamingFault → Type 0
-MemberFails w m g = ParamsFail w m.params g
+MemberFails w m g = ParamsFail w true m.params g
     ⊎ (TypeFails w true m.result g ⊎ BodyFails w m (own_variables m) m.body g)
 
 abbrev pub MembersFail : Where → List GroupMember → NamingFault → Type 0
@@ -38,7 +38,7 @@ MembersFail w (m ∷ ms) g = MemberFails w m g ⊎ MembersFail w ms g
 
 abbrev pub ConstructorsFail : Where → List AlgebraicConstructor → NamingFault → Type 0
 ConstructorsFail w [] g = ⊥
-ConstructorsFail w (c ∷ cs) g = FormsFail w false c.fields g ⊎ ConstructorsFail w cs g
+ConstructorsFail w (c ∷ cs) g = ParamsFail w false c.fields g ⊎ ConstructorsFail w cs g
 
 abbrev pub TypesFail : Where → List AlgebraicType → NamingFault → Type 0
 TypesFail w [] g = ⊥
@@ -53,7 +53,7 @@ ClausesFail w (c ∷ cs) g = NamesFail w true [] true c.prop g ⊎ ClausesFail w
 abbrev pub InductivesFail : Where → List InductivePredicate → NamingFault → Type 0
 InductivesFail w [] g = ⊥
 InductivesFail w (d ∷ ds) g =
-    ParamsFail w d.params g ⊎ (ClausesFail w d.clauses g ⊎ InductivesFail w ds g)
+    ParamsFail w true d.params g ⊎ (ClausesFail w d.clauses g ⊎ InductivesFail w ds g)
 
 -- of the names that a declaration uses
 abbrev pub UsesFail : Setting → Declaration → NamingFault → Type 0

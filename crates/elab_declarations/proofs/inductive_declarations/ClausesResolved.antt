@@ -21,9 +21,9 @@ use Rattle.elab_declarations.specs.inductive_declarations.Inductives.{as_member,
 pub members_right : (w : Where) (ds : List InductivePredicate) → inductives_fault w ds ≡ None → members_fault w (as_members ds) ≡ None
 members_right w [] h = refl
 members_right w (d ∷ ds) h =
-    let p = none_both (params_fault w d.params) (first_of (clauses_fault w d.clauses) (inductives_fault w ds)) h in
+    let p = none_both (params_fault w true d.params) (first_of (clauses_fault w d.clauses) (inductives_fault w ds)) h in
     let q = none_both (clauses_fault w d.clauses) (inductives_fault w ds) p.1 in
-    both_none (member_fault w (as_member d)) (members_fault w (as_members ds)) (both_none (params_fault w d.params) None p.0 refl) (members_right w ds q.1)
+    both_none (member_fault w (as_member d)) (members_fault w (as_members ds)) (both_none (params_fault w true d.params) None p.0 refl) (members_right w ds q.1)
 
 -- ---- clauses
 clauses_resolved : (w : Where) (d : InductivePredicate) (cs : List InductiveClause) (ms : List GroupMember) (gs : List SignatureTree) → clauses_fault w cs ≡ None → AreResolved w ms gs
@@ -37,7 +37,7 @@ clauses_resolved w d (c ∷ cs) ms gs h k =
 pub formulas_resolved : (w : Where) (ds : List InductivePredicate) → inductives_fault w ds ≡ None → AreResolved w (formula_members ds) (clause_signatures ds)
 formulas_resolved w [] h = tt
 formulas_resolved w (d ∷ ds) h =
-    let p = none_both (params_fault w d.params) (first_of (clauses_fault w d.clauses) (inductives_fault w ds)) h in
+    let p = none_both (params_fault w true d.params) (first_of (clauses_fault w d.clauses) (inductives_fault w ds)) h in
     let q = none_both (clauses_fault w d.clauses) (inductives_fault w ds) p.1 in
     clauses_resolved w d d.clauses (formula_members ds) (clause_signatures ds) q.0 (formulas_resolved w ds q.1)
 

@@ -1,25 +1,14 @@
--- So many fields, numbers that fit, the words of names, and answers that pass on an error.
+-- So many types, the words of names, and answers that pass on an error.
 use Rattle.std.proofs.Common.{◌≡◌, suc, List, [], ◌∷◌, map, length, refl, ap, Result, Ok, Err, IfErr, Option}
 use Rattle.std.specs.Result.{IsErrAnd}
 use Rattle.surface.specs.declared.names.Name.{Name}
-use Rattle.surface.specs.declared.types.TypeTree.{TypeTree}
 use Rattle.surface.specs.Lexeme.{Word}
 use Rattle.surface.specs.declared.declarations.AlgTree.{AlgTree}
-use Rattle.name_resolution.specs.Abstract.{TypeExpressions, no_types, more_types, count_forms, texts_of_names}
+use Rattle.name_resolution.specs.Abstract.{texts_of_names}
 use Rattle.name_resolution.specs.Naming.{Tells}
-use Rattle.name_resolution.specs.Where.{Where}
 use Rattle.name_resolution.specs.declared.NamingFault.{NamingFault}
-use Rattle.open_types.specs.Pieces.{types_at}
 use Rattle.elab_groups.specs.parts.Declarations.{AlgebraicType, word, words}
-use Rattle.elab_declarations.specs.type_declarations.Algebraics.{field_expressions, algebraics_of, type_entries}
-
-pub counted_fields : (ts : List TypeTree) → count_forms (field_expressions ts) ≡ length ts
-counted_fields [] = refl
-counted_fields (t ∷ ts) = ap suc (counted_fields ts)
-
-pub types_length : (w : Where) (fs : TypeExpressions) → length (types_at w fs) ≡ count_forms fs
-types_length w no_types = refl
-types_length w (more_types f fs) = ap suc (types_length w fs)
+use Rattle.elab_declarations.specs.type_declarations.Algebraics.{algebraics_of, type_entries}
 
 pub words_texts : (ns : List Name) → words (map word ns) ≡ texts_of_names ns
 words_texts [] = refl

@@ -1,22 +1,25 @@
 -- What is declared where further names are made: the same, but for the names that were made since.
-use Rattle.std.proofs.Common.{◌≡◌, ℕ, Bool, true, false, cond, zero, suc, List, [], ◌∷◌, ◌++◌, get_or, set, Option, Some, None, option_map, refl, sym, ap, subst, ◌∙◌, append_assoc, Result, Ok, Err, IfErr}
+use Rattle.std.proofs.Common.{◌≡◌, ℕ, Bool, true, false, cond, zero, suc, List, [], ◌∷◌, ◌++◌, map, length, get_or, set, Option, Some, None, option_map, refl, sym, ap, subst, ◌∙◌, append_assoc, Result, Ok, Err, IfErr}
 use Rattle.std.specs.Prelude.{◌||◌, ◌&&◌, ◌+◌, OnOk}
+use Rattle.std.proofs.lemmas.List.{map-append, append-nil}
 use Rattle.std.specs.Option.{is_some}
 use Rattle.std.specs.Str.{bytes_eq}
 use Rattle.scopes.specs.declared.Table.{Table}
 use Rattle.scopes.specs.declared.Table.TheVariants.{Types, Symbols}
-use Rattle.scopes.specs.Names.{ScopeNames, ScopeEntry, is_named, is_declared, innermost, with_entry}
+use Rattle.scopes.specs.Names.{NamesOf, ScopeNames, ScopeEntry, is_named, is_declared, innermost, with_entry}
 use Rattle.surface.specs.Lexeme.{Word}
-use Rattle.name_resolution.specs.Abstract.{count_forms}
 use Rattle.name_resolution.specs.declared.NamingFault.{NamingFault}
 use Rattle.name_resolution.specs.declared.NamingFault.TheVariants as names
 use Rattle.name_resolution.specs.Faults.{first_of, fault_if}
 use Rattle.name_resolution.specs.Naming.{Tells}
 use Rattle.name_resolution.specs.Where.{place_of}
-use Rattle.elab_groups.specs.parts.Declarations.{AlgebraicConstructor, AlgebraicType, list_fault}
+use Rattle.elab_groups.specs.parts.Declarations.{TokenName, Parameter, AlgebraicConstructor, AlgebraicType, words, names_of_parameters, constructor_names, list_fault}
+use Rattle.elab_groups.specs.members.Members.{parameter_words}
 use Rattle.elab_groups.specs.parts.Outcomes.{declared_in, IsNameRefused}
 use Rattle.elab_groups.proofs.parts.Alike.{both}
-use Rattle.elab_declarations.specs.type_declarations.Algebraics.{with_constructors, constructors_made, constructor_words, types_made}
+use Rattle.name_resolution.proofs.Told.{three as first_assoc}
+use Rattle.elab_declarations.specs.NewNames.{name_made}
+use Rattle.elab_declarations.specs.type_declarations.Algebraics.{NumberedName, count_fields, numbered_names, numbered_fields, numbered_constructors, with_numbered, with_constructors, symbols_made, constructors_made, constructor_words, types_made}
 
 -- ---- an answer on one name
 pub name_before : (d b : Bool) (i : ℕ) → b ≡ true → fault_if (d || b) (names.Duplicate i) ≡ Some (names.Duplicate i)
@@ -97,37 +100,91 @@ module _ (names : ScopeNames) (x : Word) (k : ℕ) where
   pub types_past : (before : List Word) → Agrees before (declared_in names Types) (declared_in (with_entry Symbols x k true names) Types)
   types_past before y = entered Types y _ (is_among y before) refl names.entries (innermost names)
 
+-- ---- names with the numbers of their entries
+abbrev pub numbered_words : List NumberedName → List Word
+numbered_words xs = map (λ (x : NumberedName). x.name) xs
+
+abbrev token_word : TokenName → Word
+token_word c = c.name
+
+pub named_words : (n : ℕ) (cs : List TokenName) → numbered_words (numbered_names n cs) ≡ words cs
+named_words n [] = refl
+named_words n (c ∷ cs) = ap (λ (ws : List Word). c.name ∷ ws) (named_words (n + 1) cs)
+
+both_words : (xs ys : List NumberedName) (cs ds : List TokenName) → numbered_words xs ≡ words cs → numbered_words ys ≡ words ds → numbered_words (xs ++ ys) ≡ words (cs ++ ds)
+both_words xs ys cs ds p q =
+    map-append (λ (x : NumberedName). x.name) xs ys
+    ∙ (ap (λ (ws : List Word). ws ++ numbered_words ys) p ∙ (ap (λ (ws : List Word). words cs ++ ws) q ∙ sym (map-append token_word cs ds)))
+
+pub fields_words : (n : ℕ) (ps : List Parameter) → numbered_words (numbered_fields n ps) ≡ words (names_of_parameters ps)
+fields_words n [] = refl
+fields_words n (p ∷ ps) =
+    let m = n + length (parameter_words p.names) in
+    both_words (numbered_names n p.names) (numbered_fields m ps) p.names (names_of_parameters ps) (named_words n p.names) (fields_words m ps)
+
+constructors_words : (n : ℕ) (ks : List AlgebraicConstructor) → numbered_words (numbered_constructors n ks) ≡ constructor_words ks
+constructors_words n [] = refl
+constructors_words n (k ∷ ks) =
+    let m = n + (count_fields k.fields + 1) in
+    ap (λ (ws : List Word). k.called.name ∷ ws) (both_words (numbered_fields (n + 1) k.fields) (numbered_constructors m ks) (names_of_parameters k.fields) (constructor_names ks) (fields_words (n + 1) k.fields) (constructors_words m ks))
+
+pub with_both : {A : Type 0} (xs ys : List NumberedName) (names : NamesOf A) → with_numbered (xs ++ ys) names ≡ with_numbered ys (with_numbered xs names)
+with_both [] ys names = refl
+with_both (x ∷ xs) ys names = with_both xs ys (with_entry Symbols x.name x.number true names)
+
+pub numbered_entered : (xs : List NumberedName) (names : ScopeNames) (before : List Word)
+    → Agrees (before ++ numbered_words xs) (declared_in names Symbols) (declared_in (with_numbered xs names) Symbols)
+numbered_entered [] names before = λ y. refl
+numbered_entered (x ∷ xs) names before =
+    let d = declared_in names Symbols in
+    let d1 = declared_in (with_entry Symbols x.name x.number true names) Symbols in
+    let d2 = declared_in (with_numbered (x ∷ xs) names) Symbols in
+    let more = numbered_words xs in
+    subst (λ (ws : List Word). Agrees ws d d2) (append_assoc before (x.name ∷ []) more)
+    (agrees_both ((before ++ x.name ∷ []) ++ more) d d1 d2 (agrees_more (before ++ x.name ∷ []) more d d1 (symbol_entered names x.name x.number before)) (numbered_entered xs (with_entry Symbols x.name x.number true names) (before ++ x.name ∷ [])))
+
+numbered_kept : (xs : List NumberedName) (names : ScopeNames) (before : List Word) → Agrees before (declared_in names Types) (declared_in (with_numbered xs names) Types)
+numbered_kept [] names before = λ y. refl
+numbered_kept (x ∷ xs) names before =
+    agrees_both before (declared_in names Types) (declared_in (with_entry Symbols x.name x.number true names) Types) (declared_in (with_numbered (x ∷ xs) names) Types) (types_past names x.name x.number before) (numbered_kept xs (with_entry Symbols x.name x.number true names) before)
+
 -- ---- constructors
 pub constructors_entered : (n : ℕ) (ks : List AlgebraicConstructor) (names : ScopeNames) (before : List Word)
     → Agrees (before ++ constructor_words ks) (declared_in names Symbols) (declared_in (with_constructors n ks names) Symbols)
-constructors_entered n [] names before = λ y. refl
-constructors_entered n (k ∷ ks) names before =
-    let x = k.called.name in
-    let d = declared_in names Symbols in
-    let d1 = declared_in (with_entry Symbols x n true names) Symbols in
-    let d2 = declared_in (with_constructors n (k ∷ ks) names) Symbols in
-    let more = constructor_words ks in
-    subst (λ (ws : List Word). Agrees ws d d2) (append_assoc before (x ∷ []) more)
-    (agrees_both ((before ++ x ∷ []) ++ more) d d1 d2 (agrees_more (before ++ x ∷ []) more d d1 (symbol_entered names x n before)) (constructors_entered (n + (count_forms k.fields + 1)) ks (with_entry Symbols x n true names) (before ++ x ∷ [])))
+constructors_entered n ks names before =
+    subst (λ (ws : List Word). Agrees (before ++ ws) (declared_in names Symbols) (declared_in (with_constructors n ks names) Symbols)) (constructors_words n ks) (numbered_entered (numbered_constructors n ks) names before)
 
 pub types_kept : (n : ℕ) (ks : List AlgebraicConstructor) (names : ScopeNames) (before : List Word) → Agrees before (declared_in names Types) (declared_in (with_constructors n ks names) Types)
-types_kept n [] names before = λ y. refl
-types_kept n (k ∷ ks) names before =
-    let x = k.called.name in
-    agrees_both before (declared_in names Types) (declared_in (with_entry Symbols x n true names) Types) (declared_in (with_constructors n (k ∷ ks) names) Types) (types_past names x n before) (types_kept (n + (count_forms k.fields + 1)) ks (with_entry Symbols x n true names) before)
+types_kept n ks names before = numbered_kept (numbered_constructors n ks) names before
 
 -- ---- faults
-pub constructors_same : (d d' : Word → Bool) (before : List Word) (ks : List AlgebraicConstructor) → Agrees before d d' → constructors_made d' before ks ≡ constructors_made d before ks
-constructors_same d d' before [] h = refl
-constructors_same d d' before (k ∷ ks) h =
-    both (ap (λ (b : Bool). fault_if b (names.Duplicate k.called.at)) (h k.called.name)) (constructors_same d d' (before ++ k.called.name ∷ []) ks (agrees_more before (k.called.name ∷ []) d d' h))
+pub symbols_same : (d d' : Word → Bool) (before : List Word) (cs : List TokenName) → Agrees before d d' → symbols_made d' before cs ≡ symbols_made d before cs
+symbols_same d d' before [] h = refl
+symbols_same d d' before (c ∷ cs) h =
+    both (ap (λ (b : Bool). fault_if b (names.Duplicate c.at)) (h c.name)) (symbols_same d d' (before ++ c.name ∷ []) cs (agrees_more before (c.name ∷ []) d d' h))
+
+pub symbols_append : (d : Word → Bool) (before : List Word) (cs ds : List TokenName) → symbols_made d before (cs ++ ds) ≡ first_of (symbols_made d before cs) (symbols_made d (before ++ words cs) ds)
+symbols_append d before [] ds = ap (λ (ws : List Word). symbols_made d ws ds) (sym (append-nil before))
+symbols_append d before (c ∷ cs) ds =
+    let f = name_made (d c.name) before c in
+    let next = before ++ c.name ∷ [] in
+    ap (first_of f) (symbols_append d next cs ds ∙ ap (λ (ws : List Word). first_of (symbols_made d next cs) (symbols_made d ws ds)) (append_assoc before (c.name ∷ []) (words cs)))
+    ∙ sym (first_assoc f (symbols_made d next cs) (symbols_made d (before ++ words (c ∷ cs)) ds))
+
+-- after names that were made since
+pub symbols_after : (names : ScopeNames) (xs : List NumberedName) (before ws : List Word) (cs : List TokenName) → numbered_words xs ≡ ws
+    → symbols_made (declared_in (with_numbered xs names) Symbols) (before ++ ws) cs ≡ symbols_made (declared_in names Symbols) (before ++ ws) cs
+symbols_after names xs before ws cs e =
+    let d = declared_in names Symbols in
+    let d' = declared_in (with_numbered xs names) Symbols in
+    symbols_same d d' (before ++ ws) cs (subst (λ (vs : List Word). Agrees (before ++ vs) d d') e (numbered_entered xs names before))
 
 pub types_same : (d d' : Table → Word → Bool) (us vs : List Word) (ts : List AlgebraicType) → Agrees us (d Types) (d' Types) → Agrees vs (d Symbols) (d' Symbols) → types_made d' us vs ts ≡ types_made d us vs ts
 types_same d d' us vs [] h k = refl
 types_same d d' us vs (a ∷ ts) h k =
     both (ap (λ (b : Bool). fault_if b (names.Duplicate a.called.at)) (h a.called.name))
     (ap (first_of (list_fault [] a.vars))
-    (both (constructors_same (d Symbols) (d' Symbols) vs a.constructors k)
+    (both (symbols_same (d Symbols) (d' Symbols) vs (constructor_names a.constructors) k)
     (types_same d d' (us ++ a.called.name ∷ []) (vs ++ constructor_words a.constructors) ts (agrees_more us (a.called.name ∷ []) (d Types) (d' Types) h) (agrees_more vs (constructor_words a.constructors) (d Symbols) (d' Symbols) k))))
 
 -- after a first type
@@ -139,7 +196,7 @@ module _ (names : ScopeNames) (us vs : List Word) (a : AlgebraicType) (i n : ℕ
   after = with_constructors n a.constructors named
 
   pub first_constructors : constructors_made (declared_in named Symbols) vs a.constructors ≡ constructors_made (declared_in names Symbols) vs a.constructors
-  first_constructors = constructors_same (declared_in names Symbols) (declared_in named Symbols) vs a.constructors (symbols_past names a.called.name i vs)
+  first_constructors = symbols_same (declared_in names Symbols) (declared_in named Symbols) vs (constructor_names a.constructors) (symbols_past names a.called.name i vs)
 
   pub rest_types : (ts : List AlgebraicType) → types_made (declared_in after) (us ++ a.called.name ∷ []) (vs ++ constructor_words a.constructors) ts ≡ types_made (declared_in names) (us ++ a.called.name ∷ []) (vs ++ constructor_words a.constructors) ts
   rest_types ts =

@@ -5,52 +5,51 @@ use Rattle.std.specs.List.{All}
 use Rattle.std.proofs.lemmas.List.Elements.{All-nil}
 use Rattle.trees.specs.Tree.{Tree}
 use Rattle.trees.specs.Node.{Grows}
-use Rattle.trees.proofs.Nodes.{Grows_refl}
 use Rattle.tasks.specs.Task.{SymbolTree, AlgebraicTree, Constructs, DeclarationTree}
 use Rattle.tasks.specs.Valid.{own_type}
 use Rattle.tasks.specs.Meaning.{symbol_at, symbols_at, declarations_at, DeclHeld}
 use Rattle.tasks.specs.declared.signature.Signature.{Signature}
 use Rattle.scopes.specs.Names.{ScopeNames}
 use Rattle.surface.specs.Lexeme.{Word}
-use Rattle.name_resolution.specs.Abstract.{count_forms}
 use Rattle.name_resolution.specs.Naming.{Tells, type_tree_at, scope_at}
 use Rattle.name_resolution.specs.Where.{Where, NamesTree}
 use Rattle.name_resolution.specs.declared.NamingFault.{NamingFault}
 use Rattle.open_types.specs.Drafts.{MatchHeld, match_at}
 use Rattle.open_types.specs.Patterns.{no_notes}
-use Rattle.open_types.specs.Pieces.{types_at}
 use Rattle.elab_groups.specs.declared.parts.made.Elaborated.{Elaborated}
 use Rattle.elab_groups.specs.declared.parts.made.Place.{Place}
 use Rattle.elab_groups.specs.parts.Elaborated.{elab_naming_fault}
 use Rattle.elab_groups.specs.parts.Declarations.{AlgebraicConstructor, AlgebraicType, words, made_type_names, with_vars, types_fault}
-use Rattle.elab_groups.specs.parts.Entries.{wanting_tuples, projections, constructor_entries, IsExtended, AreScopes}
+use Rattle.elab_groups.specs.parts.Entries.{wanting_tuples, other_words, field_entries, named_entries, IsExtended, AreScopes}
+use Rattle.elab_groups.specs.members.Members.{parameter_types, words_of_parameters}
+use Rattle.elab_groups.proofs.members.MembersScoped.{types_count}
 use Rattle.elab_groups.specs.parts.Outcomes.{Setting, over, setting, IsKept}
 use Rattle.elab_groups.proofs.parts.Entering.{extended_both, extended_grows}
 use Rattle.elab_groups.proofs.parts.Keeping.{length_extended}
 use Rattle.elab_groups.proofs.parts.Overs.{scope_stays}
 use Rattle.elab_groups.proofs.parts.Refused.{no_fault, used_refusal}
 use Rattle.elab_groups.proofs.parts.Scopes.{scopes_grow}
-use Rattle.elab_declarations.specs.type_declarations.Algebraics.{group_seen, entry_count, group_count, first_type, first_constructor, with_types, group_names, type_entries, inside_types, constructor_trees, algebraic_trees, group_trees, constructors_entries, group_entries, first_name, first_vars, group_outcome, group_made, AreTypesElaborated, IsTypesRefusal}
-use Rattle.elab_declarations.proofs.type_declarations.Counted.{types_length}
+use Rattle.elab_declarations.specs.type_declarations.Algebraics.{group_seen, count_fields, entry_count, group_count, first_type, first_constructor, with_types, group_names, type_entries, inside_types, constructor_trees, algebraic_trees, group_trees, constructors_entries, group_entries, first_name, first_vars, group_outcome, group_made, AreTypesElaborated, IsTypesRefusal}
 use Rattle.elab_declarations.proofs.Over.{made_at}
 use Rattle.elab_declarations.proofs.type_declarations.Placed.{scopes_types, types_with}
 
 -- ---- so many entries
-pub projections_length : (theory x : Word) (n : ℕ) (t : Tree) (i : ℕ) (fs : List Tree) → length (projections theory x n t i fs) ≡ length fs
-projections_length theory x n t i [] = refl
-projections_length theory x n t i (f ∷ fs) = ap suc (projections_length theory x n t (suc i) fs)
+pub fields_length : (theory within x : Word) (n : ℕ) (t : Tree) (i : ℕ) (ws : List Word) (fs : List Tree) → length (field_entries theory within x n t i ws fs) ≡ length fs
+fields_length theory within x n t i ws [] = refl
+fields_length theory within x n t i ws (f ∷ fs) = ap suc (fields_length theory within x n t (suc i) (other_words ws) fs)
 
 pub cons_length : (theory within : Word) (v : ℕ) (t : Tree) (w : Where) (n : ℕ) (ks : List AlgebraicConstructor) → length (constructors_entries theory within v t ks (constructor_trees w n ks)) ≡ entry_count ks
 cons_length theory within v t w n [] = refl
 cons_length theory within v t w n (k ∷ ks) =
-    let fs = types_at w k.fields in
-    let m = n + (count_forms k.fields + 1) in
-    let here : List SymbolTree = constructor_entries theory (within ++ k.called.name) v t fs in
+    let fs = parameter_types w k.fields in
+    let ws = words_of_parameters k.fields in
+    let m = n + (count_fields k.fields + 1) in
+    let here : List SymbolTree = named_entries theory within k.called.name v t ws fs in
     let rest : List SymbolTree = constructors_entries theory within v t ks (constructor_trees w m ks) in
     let a : length (here ++ rest) ≡ length here + length rest = length-append here rest in
-    let b : length here ≡ suc (count_forms k.fields) = ap suc (projections_length theory (within ++ k.called.name) v t 1 fs ∙ types_length w k.fields) in
+    let b : length here ≡ suc (count_fields k.fields) = ap suc (fields_length theory within k.called.name v t 1 ws fs ∙ types_count w k.fields) in
     let d : length rest ≡ entry_count ks = cons_length theory within v t w m ks in
-    let e : length (here ++ rest) ≡ (count_forms k.fields + 1) + entry_count ks = omega (arith, a, b, d) in e
+    let e : length (here ++ rest) ≡ (count_fields k.fields + 1) + entry_count ks = omega (arith, a, b, d) in e
 
 group_length : (theory within : Word) (w : Where) (i n : ℕ) (ts : List AlgebraicType) → length (group_entries theory within ts (algebraic_trees w i n ts)) ≡ group_count ts
 group_length theory within w i n [] = refl

@@ -1,5 +1,6 @@
 -- What names mean where the names of a group are there, among them those of entries that aren't made yet.
-use Rattle.std.proofs.Common.{◌≡◌, ℕ, ◌+◌, ◌≤◌, true, List, [], ◌∷◌, length, IfSome, refl, sym, ap, subst, ◌∙◌, arith}
+use Rattle.std.proofs.Common.{◌≡◌, ℕ, suc, ◌+◌, ◌<◌, ◌≤◌, true, List, [], ◌∷◌, ◌++◌, length, length-append, IfSome, refl, sym, ap, subst, ◌∙◌, arith}
+use Rattle.std.proofs.Math.ListN.{length-map}
 use Rattle.trees.specs.Tree.{Tree}
 use Rattle.trees.specs.Node.{Grows}
 use Rattle.trees.proofs.Nodes.{Grows_refl}
@@ -12,26 +13,67 @@ use Rattle.scopes.specs.declared.Table.TheVariants.{Types, Symbols}
 use Rattle.scopes.specs.declared.Referent.TheVariants as stands
 use Rattle.surface.specs.Lexeme.{Word}
 use Rattle.name_resolution.specs.Naming.{type_named, scope_at}
-use Rattle.name_resolution.specs.Abstract.{count_forms}
 use Rattle.name_resolution.specs.Where.{NamesTree}
 use Rattle.name_resolution.specs.declared.world.World.{World}
 use Rattle.open_types.specs.Drafts.{MeaningHeld, WorldHeld}
 use Rattle.open_types.specs.Scoped.{IsScoped}
-use Rattle.elab_groups.specs.parts.Declarations.{AlgebraicConstructor, AlgebraicType}
+use Rattle.elab_groups.specs.parts.Declarations.{TokenName, Parameter, AlgebraicConstructor, AlgebraicType}
+use Rattle.elab_groups.specs.members.Members.{parameter_words, words_of_parameters}
 use Rattle.elab_groups.specs.parts.Entries.{IsSignature, IsExtended, AreScopes}
 use Rattle.elab_groups.specs.parts.Outcomes.{over}
 use Rattle.elab_groups.proofs.parts.AtScope.{entered_with}
 use Rattle.elab_groups.proofs.parts.Overs.{scope_stays}
 use Rattle.elab_groups.proofs.parts.Entering.{entries_stay, extended_none, extended_both}
 use Rattle.elab_groups.proofs.parts.Scopes.{type_thing, meaning_held, scoped_at, tuples_below, scopes_grow, scopes_more}
-use Rattle.elab_declarations.specs.type_declarations.Algebraics.{entry_count, group_count, with_constructors, with_types}
+use Rattle.elab_declarations.specs.type_declarations.Algebraics.{NumberedName, count_fields, entry_count, group_count, numbered_names, numbered_fields, numbered_constructors, with_numbered, with_constructors, with_types}
 use Rattle.elab_declarations.specs.type_declarations.Held.{HaveThings}
 
 -- ---- names of entries below a number
+abbrev pub AreNumbered : (ℕ → Type 0) → List NumberedName → Type 0
+AreNumbered P [] = Unit {0}
+AreNumbered P (x ∷ xs) = P x.number × AreNumbered P xs
+
+pub both_numbered : (P : ℕ → Type 0) (xs ys : List NumberedName) → AreNumbered P xs → AreNumbered P ys → AreNumbered P (xs ++ ys)
+both_numbered P [] ys h k = k
+both_numbered P (x ∷ xs) ys h k = (h.0, both_numbered P xs ys h.1 k)
+
+-- of fields from a number on: a field without a name has an entry too
+module _ (P : ℕ → Type 0) where
+  names_numbered : (n : ℕ) (cs : List TokenName) → ((i : ℕ) → i < length cs → P (n + i)) → AreNumbered P (numbered_names n cs)
+  names_numbered n [] h = tt
+  names_numbered n (c ∷ cs) h =
+      (subst P (search (arith)) (h 0 (omega arith)), names_numbered (n + 1) cs (λ i l. subst P (search (arith)) (h (suc i) (omega arith))))
+
+  names_within : (cs : List TokenName) → length cs ≤ length (parameter_words cs)
+  names_within [] = omega arith
+  names_within (c ∷ cs) = let l = length-map (c ∷ cs) (λ (x : TokenName). x.name) in omega (arith, l)
+
+  pub fields_numbered : (n : ℕ) (ps : List Parameter) → ((i : ℕ) → i < count_fields ps → P (n + i)) → AreNumbered P (numbered_fields n ps)
+  fields_numbered n [] h = tt
+  fields_numbered n (p ∷ ps) h =
+      let m = length (parameter_words p.names) in
+      let w = names_within p.names in
+      let l : count_fields (p ∷ ps) ≡ m + count_fields ps = length-append (parameter_words p.names) (words_of_parameters ps) in
+      both_numbered P (numbered_names n p.names) (numbered_fields (n + m) ps)
+      (names_numbered n p.names (λ i e. h i (omega (arith, e, w, l))))
+      (fields_numbered (n + m) ps (λ i e. subst P (search (arith)) (h (m + i) (omega (arith, e, l)))))
+
+  pub constructors_numbered : (n : ℕ) (ks : List AlgebraicConstructor) → ((i : ℕ) → i < entry_count ks → P (n + i)) → AreNumbered P (numbered_constructors n ks)
+  constructors_numbered n [] h = tt
+  constructors_numbered n (k ∷ ks) h =
+      let m = count_fields k.fields + 1 in (
+        subst P (search (arith)) (h 0 (omega arith)),
+        both_numbered P (numbered_fields (n + 1) k.fields) (numbered_constructors (n + m) ks)
+            (fields_numbered (n + 1) k.fields (λ i e. subst P (search (arith)) (h (suc i) (omega arith))))
+            (constructors_numbered (n + m) ks (λ i e. subst P (search (arith)) (h (m + i) (omega arith)))),
+      )
+
+scopes_numbered : (s : List Tree) (m : ℕ) (xs : List NumberedName) (names : ScopeNames) → AreNumbered (λ (i : ℕ). i < m) xs → AreScopes s m names → AreScopes s m (with_numbered xs names)
+scopes_numbered s m [] names h k = k
+scopes_numbered s m (x ∷ xs) names h k = scopes_numbered s m xs (with_entry Symbols x.name x.number true names) h.1 (scopes_more s m names Symbols x.name (stands.Entry x.number) true h.0 k)
+
 pub scopes_constructors : (s : List Tree) (m n : ℕ) (ks : List AlgebraicConstructor) (names : ScopeNames) → n + entry_count ks ≤ m → AreScopes s m names → AreScopes s m (with_constructors n ks names)
-scopes_constructors s m n [] names h k = k
-scopes_constructors s m n (c ∷ ks) names h k =
-    scopes_constructors s m (n + (count_forms c.fields + 1)) ks (with_entry Symbols c.called.name n true names) (omega arith) (scopes_more s m names Symbols c.called.name (stands.Entry n) true (omega arith) k)
+scopes_constructors s m n ks names h k = scopes_numbered s m (numbered_constructors n ks) names (constructors_numbered (λ (i : ℕ). i < m) n ks (λ i e. omega (arith, e, h))) k
 
 pub scopes_types : (s : List Tree) (m i n : ℕ) (ts : List AlgebraicType) (names : ScopeNames) → i + length ts ≤ m → n + group_count ts ≤ m → AreScopes s m names → AreScopes s m (with_types i n ts names)
 scopes_types s m i n [] names h l k = k
@@ -42,11 +84,9 @@ scopes_types s m i n (a ∷ ts) names h l k =
 
 -- ---- the names of a group in the scopes of definitions
 module _ {A B : Type 0} (f : A → B) where
-  constructors_with : (n : ℕ) (ks : List AlgebraicConstructor) (names : NamesOf A) → names_with f (with_constructors n ks names) ≡ with_constructors n ks (names_with f names)
-  constructors_with n [] names = refl
-  constructors_with n (c ∷ ks) names =
-      let m = n + (count_forms c.fields + 1) in
-      constructors_with m ks (with_entry Symbols c.called.name n true names) ∙ ap (with_constructors m ks) (entered_with f Symbols c.called.name n names)
+  numbered_with : (xs : List NumberedName) (names : NamesOf A) → names_with f (with_numbered xs names) ≡ with_numbered xs (names_with f names)
+  numbered_with [] names = refl
+  numbered_with (x ∷ xs) names = numbered_with xs (with_entry Symbols x.name x.number true names) ∙ ap (with_numbered xs) (entered_with f Symbols x.name x.number names)
 
   pub types_with : (i n : ℕ) (ts : List AlgebraicType) (names : NamesOf A) → names_with f (with_types i n ts names) ≡ with_types i n ts (names_with f names)
   types_with i n [] names = refl
@@ -54,7 +94,7 @@ module _ {A B : Type 0} (f : A → B) where
       let m = n + entry_count a.constructors in
       let named = with_entry Types a.called.name i true names in
       types_with (i + 1) m ts (with_constructors n a.constructors named)
-      ∙ ap (with_types (i + 1) m ts) (constructors_with n a.constructors named ∙ ap (with_constructors n a.constructors) (entered_with f Types a.called.name i names))
+      ∙ ap (with_types (i + 1) m ts) (numbered_with (numbered_constructors n a.constructors) named ∙ ap (with_constructors n a.constructors) (entered_with f Types a.called.name i names))
 
 -- ---- names of entries below any number
 module _ (s : List Tree) (n : ℕ) (names : ScopeNames) (h : AreScopes s n names) where

@@ -11,16 +11,14 @@ use Rattle.tasks.specs.Task.{ConstructorTree, AlgebraicTree}
 use Rattle.tasks.specs.Meaning.{con_at, cons_at, algebraic_at, algebraics_at, ConHeld, AlgebraicHeld}
 use Rattle.tasks.specs.declared.declaration.Con.{Con}
 use Rattle.tasks.specs.declared.declaration.Alg.{Alg}
-use Rattle.name_resolution.specs.Abstract.{count_forms}
-use Rattle.name_resolution.specs.Faults.{forms_fault}
 use Rattle.name_resolution.specs.Where.{Where}
-use Rattle.open_types.specs.Pieces.{types_at}
 use Rattle.open_types.specs.Scoped.{IsScoped}
-use Rattle.open_types.proofs.Below.{forms_below}
 use Rattle.open_types.proofs.Growing.{types_grow, types_stay}
 use Rattle.open_types.proofs.Walking.{none_both}
-use Rattle.elab_groups.specs.parts.Declarations.{AlgebraicConstructor, AlgebraicType, words, with_vars, constructors_fault, types_fault}
-use Rattle.elab_declarations.specs.type_declarations.Algebraics.{entry_count, constructor_trees, algebraic_trees}
+use Rattle.elab_groups.specs.parts.Declarations.{AlgebraicConstructor, AlgebraicType, words, with_vars, params_fault, constructors_fault, types_fault}
+use Rattle.elab_groups.specs.members.Members.{parameter_types}
+use Rattle.elab_groups.proofs.members.ParamsClosed.{fields_below}
+use Rattle.elab_declarations.specs.type_declarations.Algebraics.{count_fields, entry_count, constructor_trees, algebraic_trees}
 use Rattle.elab_declarations.specs.type_declarations.Held.{ConTyped, AlgTyped, AreConsWithin, AreWithin}
 use Rattle.tasks.proofs.Growth.{map_agree as map_same}
 
@@ -79,8 +77,8 @@ scoped_with w vs h = record { symbols = h.symbols; types = h.types; tuples = h.t
 cons_within : (w : Where) → IsScoped w → (n : ℕ) (ks : List AlgebraicConstructor) → constructors_fault w ks ≡ None → AreConsWithin (length w.vars) (constructor_trees w n ks)
 cons_within w sc n [] h = tt
 cons_within w sc n (k ∷ ks) h =
-    let p = none_both (forms_fault w false k.fields) (constructors_fault w ks) h in
-    (All-from_recursion (TyVarsBelow (length w.vars)) (types_at w k.fields) (forms_below w sc k.fields p.0), cons_within w sc (n + (count_forms k.fields + 1)) ks p.1)
+    let p = none_both (params_fault w false k.fields) (constructors_fault w ks) h in
+    (All-from_recursion (TyVarsBelow (length w.vars)) (parameter_types w k.fields) (fields_below w sc k.fields p.0), cons_within w sc (n + (count_fields k.fields + 1)) ks p.1)
 
 pub types_within : (w : Where) → IsScoped w → (i n : ℕ) (ts : List AlgebraicType) → types_fault w ts ≡ None → AreWithin ts (algebraic_trees w i n ts)
 types_within w sc i n [] h = tt

@@ -9,30 +9,24 @@ use Rattle.scopes.specs.Names.{NamesOf, ScopeNames, with_entry}
 use Rattle.scopes.specs.declared.Table.{Table}
 use Rattle.scopes.specs.declared.Table.TheVariants.{Types, Symbols}
 use Rattle.surface.specs.Lexeme.{Word}
-use Rattle.surface.specs.declared.types.TypeTree.{TypeTree}
 use Rattle.surface.specs.declared.declarations.ConTree.{ConTree as ConSource}
 use Rattle.surface.specs.declared.declarations.AlgTree.{AlgTree}
 use Rattle.surface.specs.SurfaceDeclarations.{constructor_of, algebraic_of}
-use Rattle.surface.specs.Surface as surface
-use Rattle.name_resolution.specs.Abstract.{TypeExpressions, type_expressions, count_forms}
 use Rattle.name_resolution.specs.declared.NamingFault.{NamingFault}
 use Rattle.name_resolution.specs.Faults.{first_of}
 use Rattle.name_resolution.specs.Where.{Where, NamesTree}
-use Rattle.name_resolution.specs.variables.Seen.{SeenTree, forms_seen}
+use Rattle.name_resolution.specs.variables.Seen.{SeenTree}
 use Rattle.open_types.specs.Patterns.{no_notes}
-use Rattle.open_types.specs.Pieces.{types_at}
 use Rattle.elab_groups.specs.declared.parts.ElabFault.{ElabFault}
 use Rattle.elab_groups.specs.declared.parts.made.Elaborated.{Elaborated}
 use Rattle.elab_groups.specs.parts.Elaborated.{unseen}
-use Rattle.elab_groups.specs.parts.Declarations.{AlgebraicConstructor, AlgebraicType, constructor, algebraic_type, words, list_fault, made_type_names, made_fault, with_vars, types_fault}
-use Rattle.elab_groups.specs.parts.Entries.{type_entry, constructor_entries}
+use Rattle.elab_groups.specs.parts.Declarations.{TokenName, Parameter, AlgebraicConstructor, AlgebraicType, constructor, algebraic_type, words, list_fault, constructor_names, made_type_names, made_fault, params_seen, with_vars, types_fault}
+use Rattle.elab_groups.specs.members.Members.{parameter_types, parameter_words, words_of_parameters}
+use Rattle.elab_groups.specs.parts.Entries.{type_entry, named_entries}
 use Rattle.elab_declarations.specs.NewNames.{name_made}
 use Rattle.elab_groups.specs.parts.Outcomes.{Setting, Outcome, over, tuples_wanting, declared_in, IsRefusalFor, IsElaboratedAs}
 
 -- ---- of the trees in code
-abbrev pub field_expressions : List TypeTree → TypeExpressions
-field_expressions ts = type_expressions (surface.types ts)
-
 abbrev pub constructors_of : List ConSource → List AlgebraicConstructor
 constructors_of ks = map constructor (map constructor_of ks)
 
@@ -42,7 +36,7 @@ algebraics_of ts = map algebraic_type (map algebraic_of ts)
 -- ---- the widths of the tuples in the fields
 abbrev pub constructors_seen : SeenTree → List AlgebraicConstructor → SeenTree
 constructors_seen s [] = s
-constructors_seen s (k ∷ ks) = constructors_seen (forms_seen s k.fields) ks
+constructors_seen s (k ∷ ks) = constructors_seen (params_seen s k.fields) ks
 
 abbrev pub types_seen : SeenTree → List AlgebraicType → SeenTree
 types_seen s [] = s
@@ -53,9 +47,12 @@ group_seen ts = types_seen unseen ts
 
 -- ---- numbers: after the tuples stand the types, and after these the constructors, each before its
 -- projections
+abbrev pub count_fields : List Parameter → ℕ
+count_fields ps = length (words_of_parameters ps)
+
 abbrev pub entry_count : List AlgebraicConstructor → ℕ
 entry_count [] = 0
-entry_count (k ∷ ks) = (count_forms k.fields + 1) + entry_count ks
+entry_count (k ∷ ks) = (count_fields k.fields + 1) + entry_count ks
 
 abbrev pub group_count : List AlgebraicType → ℕ
 group_count [] = 0
@@ -73,11 +70,38 @@ numbering_from n [] = []
 numbering_from n (t ∷ ts) = n ∷ numbering_from (n + 1) ts
 
 -- ---- names
+-- a name of a symbol, and the number of its entry
+pub record NumberedName : Type 0 where
+  pub name : Word
+  pub number : ℕ
+
+abbrev pub numbered : Word → ℕ → NumberedName
+numbered x n = record { name = x; number = n }
+
+-- these names, from a number on
+abbrev pub numbered_names : ℕ → List TokenName → List NumberedName
+numbered_names n [] = []
+numbered_names n (c ∷ cs) = numbered c.name n ∷ numbered_names (n + 1) cs
+
+-- The names of fields, the first of which has a number. Each field without a name has one too.
+abbrev pub numbered_fields : ℕ → List Parameter → List NumberedName
+numbered_fields n [] = []
+numbered_fields n (p ∷ ps) =
+    numbered_names n p.names ++ numbered_fields (n + length (parameter_words p.names)) ps
+
+-- each constructor before its fields
+abbrev pub numbered_constructors : ℕ → List AlgebraicConstructor → List NumberedName
+numbered_constructors n [] = []
+numbered_constructors n (k ∷ ks) = numbered k.called.name n
+    ∷ (numbered_fields (n + 1) k.fields
+    ++ numbered_constructors (n + (count_fields k.fields + 1)) ks)
+
+abbrev pub with_numbered : {A : Type 0} → List NumberedName → NamesOf A → NamesOf A
+with_numbered [] names = names
+with_numbered (x ∷ xs) names = with_numbered xs (with_entry Symbols x.name x.number true names)
+
 abbrev pub with_constructors : {A : Type 0} → ℕ → List AlgebraicConstructor → NamesOf A → NamesOf A
-with_constructors n [] names = names
-with_constructors n (k ∷ ks) names =
-    with_constructors (n + (count_forms k.fields + 1)) ks
-    (with_entry Symbols k.called.name n true names)
+with_constructors n ks names = with_numbered (numbered_constructors n ks) names
 
 -- the types stand for the entries from i on, their constructors for those from n on
 abbrev pub with_types : {A : Type 0} → ℕ → ℕ → List AlgebraicType → NamesOf A → NamesOf A
@@ -107,11 +131,11 @@ constructor_trees w n [] = []
 constructor_trees w n (k ∷ ks) =
     record {
       symbol = n;
-      fields = types_at w k.fields;
+      fields = parameter_types w k.fields;
       projections =
-          numbering_from (n + 1) (types_at w k.fields);
+          numbering_from (n + 1) (parameter_types w k.fields);
     }
-    ∷ constructor_trees w (n + (count_forms k.fields + 1)) ks
+    ∷ constructor_trees w (n + (count_fields k.fields + 1)) ks
 
 abbrev pub algebraic_trees : Where → ℕ → ℕ → List AlgebraicType → List AlgebraicTree
 algebraic_trees w i n [] = []
@@ -128,7 +152,7 @@ abbrev pub constructors_entries : Word → Word → ℕ → Tree → List Algebr
 constructors_entries theory within vars type [] cs = []
 constructors_entries theory within vars type (k ∷ ks) [] = []
 constructors_entries theory within vars type (k ∷ ks) (c ∷ cs) =
-    constructor_entries theory (within ++ k.called.name) vars type c.fields
+    named_entries theory within k.called.name vars type (words_of_parameters k.fields) c.fields
     ++ constructors_entries theory within vars type ks cs
 
 abbrev pub group_entries : Word → Word → List AlgebraicType → List AlgebraicTree → List SymbolTree
@@ -183,16 +207,19 @@ abbrev pub IsTypesRefusal : Setting → List AlgebraicType → ElabFault → Typ
 IsTypesRefusal c ts f = IsRefusalFor c.decl (type_group_fault c ts) 0 no_notes f
 
 -- ---- the names that it makes, by those that it made before in each table
--- a constructor that the scope declared, or that the group made before
+-- the first of these that the scope declared, or that the group made before
+abbrev pub symbols_made : (Word → Bool) → List Word → List TokenName → Option NamingFault
+symbols_made declared before [] = None
+symbols_made declared before (c ∷ cs) =
+    first_of (name_made (declared c.name) before c)
+    (symbols_made declared (before ++ c.name ∷ []) cs)
+
 abbrev pub constructors_made : (Word → Bool) → List Word → List AlgebraicConstructor
     → Option NamingFault
-constructors_made declared before [] = None
-constructors_made declared before (k ∷ ks) =
-    first_of (name_made (declared k.called.name) before k.called)
-    (constructors_made declared (before ++ k.called.name ∷ []) ks)
+constructors_made declared before ks = symbols_made declared before (constructor_names ks)
 
 abbrev pub constructor_words : List AlgebraicConstructor → List Word
-constructor_words ks = map (λ (k : AlgebraicConstructor). k.called.name) ks
+constructor_words ks = words (constructor_names ks)
 
 abbrev pub types_made : (Table → Word → Bool) → List Word → List Word → List AlgebraicType
     → Option NamingFault

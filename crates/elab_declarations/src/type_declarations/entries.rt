@@ -10,7 +10,10 @@ ghost use Rattle.elab_groups.specs.parts.Entries.{IsSignature, IsExtended};
 ghost use Rattle.elab_declarations.specs.type_declarations.Algebraics.{constructors_of, algebraics_of, type_entries, constructors_entries, group_entries};
 ghost use Rattle.elab_declarations.specs.type_declarations.Held.{ConTyped, AlgTyped, AreConsWithin, AreWithin};
 
-use elab_groups::parts::{Place, join_words, push_constructor, push_type, variables};
+use elab_groups::members::push_param_names;
+use elab_groups::parts::{
+    NewConstructor, Place, join_words, push_constructor, push_type, variables,
+};
 use open_types::list_of;
 use std::alloc::{AllocError, Global};
 use surface::{AlgTree, ConTree};
@@ -79,15 +82,21 @@ fn push_constructor_entries(
     let Some((con, others)) = cons.split_first() else {
         return Ok(());
     };
-    let name = join_words(alloc, place.within, first.name.text.as_slice())?;
+    let mut words = Vec::new(alloc);
+    push_param_names(alloc, &mut words, first.fields.as_slice())?;
+    let of = NewConstructor {
+        theory: place.theory,
+        within: place.within,
+        name: first.name.text.as_slice(),
+        vars,
+        ty,
+    };
     push_constructor(
         alloc,
         store,
         sig,
-        place.theory,
-        name.as_slice(),
-        vars,
-        ty,
+        &of,
+        words.as_slice(),
         con.fields.as_slice(),
     )?;
     push_constructor_entries(alloc, store, sig, place, vars, ty, rest, others)

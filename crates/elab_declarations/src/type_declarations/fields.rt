@@ -3,51 +3,24 @@ ghost use Rattle.std.specs.Prelude.{◌≡◌, ◌++◌, ◌+◌, ◌<◌, ◌^�
 ghost use Rattle.trees.specs.Tree.{Tree};
 ghost use Rattle.trees.specs.Node.{Grows};
 ghost use Rattle.tasks.specs.Meaning.{symbols_at, trees_at, con_at, cons_at, algebraics_at};
-ghost use Rattle.name_resolution.specs.Faults.{forms_fault};
 ghost use Rattle.name_resolution.specs.Naming.{where_at, Tells, scope_at};
 ghost use Rattle.open_types.specs.Drafts.{HoldsType, WorldHeld};
-ghost use Rattle.open_types.specs.Pieces.{types_at};
-ghost use Rattle.elab_groups.specs.parts.Declarations.{word, words, constructors_fault, types_fault};
-ghost use Rattle.elab_declarations.specs.type_declarations.Algebraics.{field_expressions, constructors_of, algebraics_of, entry_count, group_count, numbering_from, constructor_trees, algebraic_trees};
+ghost use Rattle.elab_groups.specs.parts.Declarations.{word, words, params_fault, constructors_fault, types_fault};
+ghost use Rattle.elab_groups.specs.members.Members.{parameter_types};
+ghost use Rattle.elab_groups.specs.members.Sources.{parameters_of};
+ghost use Rattle.elab_declarations.specs.type_declarations.Algebraics.{constructors_of, algebraics_of, count_fields, entry_count, group_count, numbering_from, constructor_trees, algebraic_trees};
 ghost use Rattle.elab_groups.specs.parts.Entries.{tuple_in, IsSignature};
 ghost use Rattle.elab_groups.specs.parts.Outcomes.{over};
 ghost use Rattle.elab_declarations.specs.type_declarations.Held.{ConTyped, AlgTyped, HaveThings};
 
+use elab_groups::members::{check_params, push_params};
 use elab_groups::parts::texts_of;
-use name_resolution::{NamingFault, World, check_form};
-use open_types::type_of_form;
+use name_resolution::{NamingFault, World};
 use scopes::{Scope, Seq, Text};
 use std::alloc::{AllocError, Global};
-use surface::{AlgTree, ConTree, TypeTree};
+use surface::{AlgTree, ConTree, ParamTree};
 use tasks::{Alg, Con, Signature};
 use trees::store::{Store, TermId};
-
-// The types of fields, after those that are there.
-fn push_fields(
-    alloc: Global,
-    store: &mut Store,
-    world: &World<'_>,
-    types: &mut Vec<TermId>,
-    fields: &[TypeTree],
-) -> Result<(), NamingFault>
-    requires world { WorldHeld store.old world.now }
-    requires closed { world.now.new_vars ≡ false }
-    requires held { All (HoldsType store.old) types.old.items }
-    ensures held { OnOk result (All (HoldsType store.new) types.new.items) }
-    ensures trees { OnOk result (trees_at store.new types.new.items ≡ trees_at store.old
-        types.old.items ++ types_at (where_at store.old world.now) (field_expressions fields.now)) }
-    ensures told { Tells result (forms_fault (where_at store.old world.now) false
-        (field_expressions fields.now)) }
-    ensures grows { Grows store.old store.new }
-{
-    let Some((first, rest)) = fields.split_first() else {
-        return Ok(());
-    };
-    check_form(alloc, first, world)?;
-    let ty = type_of_form(alloc, store, world, first)?;
-    types.push(ty)?;
-    push_fields(alloc, store, world, types, rest)
-}
 
 // A number for each of these types, from one on.
 fn push_numbers(numbers: &mut Vec<usize>, number: usize, types: &[TermId]) -> Result<(), AllocError>
@@ -68,26 +41,29 @@ fn make_constructor(
     store: &mut Store,
     world: &World<'_>,
     number: usize,
-    fields: &[TypeTree],
+    fields: &[ParamTree],
 ) -> Result<Con, NamingFault>
     requires world { WorldHeld store.old world.now }
     requires closed { world.now.new_vars ≡ false }
-    requires fits { number + (length fields.now + 1) < 2 ^ 64 }
+    requires fits { number + (count_fields (parameters_of fields.now) + 1) < 2 ^ 64 }
     ensures typed { IfOk result (ConTyped store.new) }
     ensures con { IfOk result (λ it. con_at store.new it ≡ record {
       symbol = number;
-      fields = types_at (where_at store.old world.now) (field_expressions fields.now);
-      projections = numbering_from (number + 1) (types_at (where_at store.old world.now)
-          (field_expressions fields.now));
+      fields = parameter_types (where_at store.old world.now) (parameters_of fields.now);
+      projections = numbering_from (number + 1) (parameter_types (where_at store.old world.now)
+          (parameters_of fields.now));
     }) }
-    ensures free { OnOk result (forms_fault (where_at store.old world.now) false
-        (field_expressions fields.now) ≡ None) }
-    ensures err { IfErr result (λ fault. Tells (Err fault) (forms_fault
-        (where_at store.old world.now) false (field_expressions fields.now))) }
+    ensures count { IfOk result (λ it. length it.fields ≡ count_fields (parameters_of
+        fields.now)) }
+    ensures free { OnOk result (params_fault (where_at store.old world.now) false (parameters_of
+        fields.now) ≡ None) }
+    ensures err { IfErr result (λ fault. Tells (Err fault) (params_fault
+        (where_at store.old world.now) false (parameters_of fields.now))) }
     ensures grows { Grows store.old store.new }
 {
+    check_params(alloc, fields, world)?;
     let mut types = Vec::new(alloc);
-    push_fields(alloc, store, world, &mut types, fields)?;
+    push_params(alloc, store, &mut types, fields, world)?;
     let mut projections = Vec::new(alloc);
     push_numbers(&mut projections, number + 1, types.as_slice())?;
     Ok(Con {
@@ -124,8 +100,8 @@ fn push_constructors(
         return Ok(());
     };
     let con = make_constructor(alloc, store, world, *number, first.fields.as_slice())?;
+    *number += con.fields.len() + 1;
     made.push(con)?;
-    *number += first.fields.len() + 1;
     push_constructors(alloc, store, world, made, number, rest)
 }
 

@@ -179,8 +179,8 @@ fn make_group(
 /// A group of algebraic types, which see each other. `place` is where the declaration stands.
 ///
 /// After `Ok` the signature has its earlier entries, then those of the tuples of new widths by first appearance, of the types, and
-/// type by type of the constructors, each before its projections; the innermost scope has the names of the types and of the
-/// constructors. A fault is the first of the names that it makes, a name in a table of the scope twice or a type variable twice,
+/// type by type of the constructors, each before its projections; the innermost scope has the names of the types, of the
+/// constructors and of the fields that have one. A fault is the first of the names that it makes, a name in a table of the scope twice or a type variable twice,
 /// and then of the names in its fields. After a refusal the signature and the scope are used no more.
 pub fn elaborate_algebraic(
     alloc: Global,

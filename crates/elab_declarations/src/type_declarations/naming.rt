@@ -2,10 +2,12 @@
 ghost use Rattle.std.specs.Prelude.{◌≡◌, ◌+◌, ◌++◌, ◌∷◌, [], ◌<◌, ◌^◌, length, map, true, IfOk, IfErr, OnOk};
 ghost use Rattle.scopes.specs.Names.{with_entry};
 ghost use Rattle.name_resolution.specs.Naming.{Tells};
-ghost use Rattle.elab_groups.specs.parts.Declarations.{word, list_fault};
+ghost use Rattle.elab_groups.specs.parts.Declarations.{word, words, names_of_parameters, list_fault};
+ghost use Rattle.elab_groups.specs.members.Members.{parameter_words};
+ghost use Rattle.elab_groups.specs.members.Sources.{parameters_of};
 ghost use Rattle.elab_groups.specs.parts.Outcomes.{declared_in};
 ghost use Rattle.elab_declarations.specs.NewNames.{indexed_names, name_made};
-ghost use Rattle.elab_declarations.specs.type_declarations.Algebraics.{constructors_of, algebraics_of, entry_count, group_count, with_constructors, with_types, constructor_words, constructors_made, types_made};
+ghost use Rattle.elab_declarations.specs.type_declarations.Algebraics.{constructors_of, algebraics_of, count_fields, entry_count, group_count, numbered_names, numbered_fields, with_numbered, with_constructors, with_types, symbols_made, constructor_words, constructors_made, types_made};
 
 use crate::new_names::declare_new;
 use elab_groups::parts::{find_repeated, gather};
@@ -13,7 +15,7 @@ use indexmap::IndexSet;
 use name_resolution::NamingFault;
 use scopes::{Scope, Table};
 use std::alloc::Global;
-use surface::{AlgTree, ConTree, Name};
+use surface::{AlgTree, ConTree, Name, ParamTree};
 
 // The name of a type or of a constructor.
 fn declare_name(
@@ -33,21 +35,87 @@ fn declare_name(
     declare_new(scope, table, before, own, name.at, number)
 }
 
-// The number after a constructor and its projections.
-fn number_behind(number: usize, fields: usize) -> Result<usize, NamingFault>
-    ensures next { IfOk result (λ next. next ≡ number + (fields + 1)) }
+// The next number.
+fn number_after(number: usize) -> Result<usize, NamingFault>
+    ensures next { IfOk result (λ next. next ≡ number + 1) }
     ensures err { IfErr result (λ fault. fault ≡ NamingFault.Memory) }
 {
-    match fields.checked_add(1) {
-        Some(count) => match number.checked_add(count) {
-            Some(next) => Ok(next),
-            None => Err(NamingFault::Memory),
-        },
+    match number.checked_add(1) {
+        Some(next) => Ok(next),
         None => Err(NamingFault::Memory),
     }
 }
 
-// The names of constructors, which stand for the entries from a number on.
+// Names of symbols, which stand for the entries from a number on.
+fn declare_symbols(
+    scope: &mut Scope,
+    before: &mut IndexSet<Vec<u8>>,
+    number: &mut usize,
+    names: &[Name],
+) -> Result<(), NamingFault>
+    ensures scope { OnOk result (scope.new ≡ with_numbered (numbered_names number.old (map word
+        names.now)) scope.old) }
+    ensures before { OnOk result (indexed_names before.new ≡ indexed_names before.old
+        ++ words (map word names.now)) }
+    ensures number { OnOk result (number.new ≡ number.old + length names.now) }
+    ensures told { Tells result (symbols_made (declared_in scope.old Table.Symbols)
+        (indexed_names before.old) (map word names.now)) }
+{
+    let Some((first, rest)) = names.split_first() else {
+        return Ok(());
+    };
+    declare_name(scope, Table::Symbols, before, first, *number)?;
+    *number = number_after(*number)?;
+    declare_symbols(scope, before, number, rest)
+}
+
+// The names of fields of one type, or of one field without a name.
+fn declare_parameter(
+    scope: &mut Scope,
+    before: &mut IndexSet<Vec<u8>>,
+    number: &mut usize,
+    names: &[Name],
+) -> Result<(), NamingFault>
+    ensures scope { OnOk result (scope.new ≡ with_numbered (numbered_names number.old (map word
+        names.now)) scope.old) }
+    ensures before { OnOk result (indexed_names before.new ≡ indexed_names before.old
+        ++ words (map word names.now)) }
+    ensures number { OnOk result (number.new ≡ number.old + length (parameter_words (map word
+        names.now))) }
+    ensures told { Tells result (symbols_made (declared_in scope.old Table.Symbols)
+        (indexed_names before.old) (map word names.now)) }
+{
+    if let [_, ..] = names {
+        return declare_symbols(scope, before, number, names);
+    }
+    *number = number_after(*number)?;
+    Ok(())
+}
+
+// The names of fields, which stand for the entries from a number on.
+fn declare_fields(
+    scope: &mut Scope,
+    before: &mut IndexSet<Vec<u8>>,
+    number: &mut usize,
+    fields: &[ParamTree],
+) -> Result<(), NamingFault>
+    ensures scope { OnOk result (scope.new ≡ with_numbered (numbered_fields number.old
+        (parameters_of fields.now)) scope.old) }
+    ensures before { OnOk result (indexed_names before.new ≡ indexed_names before.old
+        ++ words (names_of_parameters (parameters_of fields.now))) }
+    ensures number { OnOk result (number.new ≡ number.old + count_fields (parameters_of
+        fields.now)) }
+    ensures told { Tells result (symbols_made (declared_in scope.old Table.Symbols)
+        (indexed_names before.old) (names_of_parameters (parameters_of fields.now))) }
+{
+    let Some((first, rest)) = fields.split_first() else {
+        return Ok(());
+    };
+    declare_parameter(scope, before, number, first.names.as_slice())?;
+    declare_fields(scope, before, number, rest)
+}
+
+// The names of constructors, each before those of its fields, which stand for the entries from a number on.
 fn declare_constructors(
     scope: &mut Scope,
     before: &mut IndexSet<Vec<u8>>,
@@ -67,7 +135,8 @@ fn declare_constructors(
         return Ok(());
     };
     declare_name(scope, Table::Symbols, before, &first.name, *number)?;
-    *number = number_behind(*number, first.fields.len())?;
+    *number = number_after(*number)?;
+    declare_fields(scope, before, number, first.fields.as_slice())?;
     declare_constructors(scope, before, number, rest)
 }
 
@@ -90,8 +159,8 @@ pub struct Before {
     pub constructors: IndexSet<Vec<u8>>,
 }
 
-/// The names of types and of their constructors: the types stand for the entries from a number on, the constructors for those
-/// from another.
+/// The names of types, of their constructors and of the fields of these: the types stand for the entries from a number on, the
+/// constructors, each before its fields, for those from another.
 pub fn declare_types(
     alloc: Global,
     scope: &mut Scope,

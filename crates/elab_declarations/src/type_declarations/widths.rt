@@ -1,25 +1,13 @@
 // The widths of the tuples in the fields of algebraic types.
 ghost use Rattle.std.specs.Prelude.{◌≡◌, IfOk, OnOk};
-ghost use Rattle.name_resolution.specs.variables.Seen.{forms_seen};
 ghost use Rattle.name_resolution.specs.variables.Entered.{seen_at};
-ghost use Rattle.elab_declarations.specs.type_declarations.Algebraics.{field_expressions, constructors_of, algebraics_of, constructors_seen, types_seen, group_seen};
+ghost use Rattle.elab_declarations.specs.type_declarations.Algebraics.{constructors_of, algebraics_of, constructors_seen, types_seen, group_seen};
 
-use name_resolution::variables::{Seen, enter_form};
+use elab_groups::members::enter_params;
+use name_resolution::variables::Seen;
 use scopes::Seq;
 use std::alloc::{AllocError, Global};
-use surface::{AlgTree, ConTree, TypeTree};
-
-// Those of fields, after those that are there.
-fn enter_fields(alloc: Global, seen: &mut Seen, fields: &[TypeTree]) -> Result<(), AllocError>
-    ensures { OnOk result (seen_at seen.new
-        ≡ forms_seen (seen_at seen.old) (field_expressions fields.now)) }
-{
-    let Some((first, rest)) = fields.split_first() else {
-        return Ok(());
-    };
-    enter_form(alloc, seen, first)?;
-    enter_fields(alloc, seen, rest)
-}
+use surface::{AlgTree, ConTree};
 
 // Those of constructors, after those that are there.
 fn enter_constructors(alloc: Global, seen: &mut Seen, cons: &[ConTree]) -> Result<(), AllocError>
@@ -29,7 +17,7 @@ fn enter_constructors(alloc: Global, seen: &mut Seen, cons: &[ConTree]) -> Resul
     let Some((first, rest)) = cons.split_first() else {
         return Ok(());
     };
-    enter_fields(alloc, seen, first.fields.as_slice())?;
+    enter_params(alloc, seen, first.fields.as_slice())?;
     enter_constructors(alloc, seen, rest)
 }
 

@@ -32,7 +32,7 @@ copies_count t [] = refl
 copies_count t (c ∷ []) = refl
 copies_count t (c ∷ d ∷ cs) = ap suc (copies_count t (d ∷ cs))
 
-types_count : (w : Where) (ps : List Parameter) → length (parameter_types w ps) ≡ length (words_of_parameters ps)
+pub types_count : (w : Where) (ps : List Parameter) → length (parameter_types w ps) ≡ length (words_of_parameters ps)
 types_count w [] = refl
 types_count w (p ∷ ps) =
     let a = length-append (type_copies (type_at w p.of_type) p.names) (parameter_types w ps) in
@@ -46,7 +46,7 @@ same_kind w (Some f) = refl
 -- what stands of the body of a member without a fault
 body_right : (w : Where) (m : GroupMember) → member_fault w m ≡ None → body_fault w m (own_variables m) m.body ≡ None
 body_right w m h =
-    let p = none_both (params_fault w m.params) (first_of (type_fault w true m.result) (body_fault w m (own_variables m) m.body)) h in
+    let p = none_both (params_fault w true m.params) (first_of (type_fault w true m.result) (body_fault w m (own_variables m) m.body)) h in
     (none_both (type_fault w true m.result) (body_fault w m (own_variables m) m.body) p.1).1
 
 -- before the members stand these entries and names; their own entries and names are added to them
@@ -67,10 +67,10 @@ module _ (s : List Tree) (before more : List SymbolTree) (names : ScopeNames) (n
   closed : (m : GroupMember) → member_fault (within []) m ≡ None → binders_fault (outer (own_variables m)) false (as_binders m.params m.result) ≡ None
   closed m h =
       let vs = own_variables m in
-      let p = none_both (params_fault (within []) m.params) (first_of (type_fault (within []) true m.result) (body_fault (within []) m vs m.body)) h in
+      let p = none_both (params_fault (within []) true m.params) (first_of (type_fault (within []) true m.result) (body_fault (within []) m vs m.body)) h in
       let q = none_both (type_fault (within []) true m.result) (body_fault (within []) m vs m.body) p.1 in
       binders_alike (outer vs) (within vs) (types_alike vs) false (as_binders m.params m.result)
-      ∙ signature_closed (within []) m.params m.result (both_none (params_fault (within []) m.params) (type_fault (within []) true m.result) p.0 q.0)
+      ∙ signature_closed (within []) m.params m.result (both_none (params_fault (within []) true m.params) (type_fault (within []) true m.result) p.0 q.0)
 
   args_below : (m : GroupMember) → member_fault (within []) m ≡ None → AreBelow (length (own_variables m)) (signature_of (outer []) m).args
   args_below m h = params_below (outer (own_variables m)) (scoped (own_variables m)) m.params m.result (closed m h)

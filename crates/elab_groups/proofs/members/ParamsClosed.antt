@@ -1,9 +1,10 @@
 -- Signatures whose names are there: closed at their own type variables, their types have no others.
-use Rattle.std.proofs.Common.{◌≡◌, ℕ, true, false, List, [], ◌∷◌, length, Option, Some, None, IfSome, option_map, refl, sym, ap, subst, ◌∙◌}
+use Rattle.std.proofs.Common.{◌≡◌, ℕ, Bool, true, false, List, [], ◌∷◌, length, Option, Some, None, IfSome, option_map, refl, sym, ap, subst, ◌∙◌}
 use Rattle.std.specs.Option.{is_some}
 use Rattle.trees.specs.Tree.{Tree}
 use Rattle.trees.specs.Facts.{TyVarsBelow}
 use Rattle.name_resolution.specs.Abstract.{TypeExpression, BoundNames, quantified_expression, true_expression, no_expressions}
+use Rattle.name_resolution.specs.declared.NamingFault.{NamingFault}
 use Rattle.name_resolution.specs.Faults.{first_of, form_fault, type_fault, binders_fault, fault}
 use Rattle.name_resolution.specs.Where.{Where, place_of}
 use Rattle.name_resolution.specs.variables.Seen.{SeenTree, form_seen, type_seen, binders_seen, seen}
@@ -25,21 +26,21 @@ abbrev pub as_binders : List Parameter → Option TypeExpression → List BoundN
 as_binders [] r = record { names = []; of_type = r } ∷ []
 as_binders (p ∷ ps) r = as_binder p ∷ as_binders ps r
 
-bound_fault : (w : Where) (ps : List Parameter) (r : Option TypeExpression) → first_of (params_fault w ps) (type_fault w true r) ≡ binders_fault w true (as_binders ps r)
-bound_fault w [] r = sym (first_alone (type_fault w true r))
-bound_fault w (p ∷ ps) r = first_assoc (form_fault w true p.of_type) (params_fault w ps) (type_fault w true r) ∙ ap (first_of (form_fault w true p.of_type)) (bound_fault w ps r)
+bound_fault : (w : Where) (b : Bool) (ps : List Parameter) (r : Option TypeExpression) → first_of (params_fault w b ps) (type_fault w b r) ≡ binders_fault w b (as_binders ps r)
+bound_fault w b [] r = sym (first_alone (type_fault w b r))
+bound_fault w b (p ∷ ps) r = first_assoc (form_fault w b p.of_type) (params_fault w b ps) (type_fault w b r) ∙ ap (first_of (form_fault w b p.of_type)) (bound_fault w b ps r)
 
 bound_seen : (ps : List Parameter) (r : Option TypeExpression) (s : SeenTree) → binders_seen s (as_binders ps r) ≡ type_seen (params_seen s ps) r
 bound_seen [] r s = refl
 bound_seen (p ∷ ps) r s = bound_seen ps r (form_seen s p.of_type)
 
 -- under a quantifier
-pub signature_closed : (w : Where) (ps : List Parameter) (r : Option TypeExpression) → first_of (params_fault w ps) (type_fault w true r) ≡ None
+pub signature_closed : (w : Where) (ps : List Parameter) (r : Option TypeExpression) → first_of (params_fault w true ps) (type_fault w true r) ≡ None
     → binders_fault (with_vars w (signature_seen ps r).vars) false (as_binders ps r) ≡ None
 signature_closed w ps r h =
     let bs = as_binders ps r in
     let vs = (signature_seen ps r).vars in
-    let open_fault : fault w true [] true (quantified_expression 0 true bs no_expressions (true_expression 0)) ≡ None = first_alone (binders_fault w true bs) ∙ sym (bound_fault w ps r) ∙ h in
+    let open_fault : fault w true [] true (quantified_expression 0 true bs no_expressions (true_expression 0)) ≡ None = first_alone (binders_fault w true bs) ∙ sym (bound_fault w true ps r) ∙ h in
     let within : AreIn (seen unseen (quantified_expression 0 true bs no_expressions (true_expression 0))).vars vs = λ v m. subst (λ (s : SeenTree). is_some (place_of v s.vars) ≡ true) (bound_seen ps r unseen) m in
     sym (first_alone (binders_fault (with_vars w vs) false bs)) ∙ closed w vs (quantified_expression 0 true bs no_expressions (true_expression 0)) unseen [] true open_fault within
 
@@ -54,6 +55,10 @@ module _ (w : Where) (sc : IsScoped w) where
   params_below (p ∷ ps) r h =
       let q = none_both (form_fault w false p.of_type) (binders_fault w false (as_binders ps r)) h in
       both_all (TyVarsBelow (length w.vars)) (type_copies (type_at w p.of_type) p.names) (parameter_types w ps) (copies_below (length w.vars) (type_at w p.of_type) p.names (form_below w sc p.of_type q.0)) (params_below ps r q.1)
+
+  -- of fields, which have no further type variables
+  pub fields_below : (ps : List Parameter) → params_fault w false ps ≡ None → AreBelow (length w.vars) (parameter_types w ps)
+  fields_below ps h = params_below ps None (sym (bound_fault w false ps None) ∙ ap (λ (f : Option NamingFault). first_of f None) h)
 
   pub result_below : (ps : List Parameter) (r : Option TypeExpression) → binders_fault w false (as_binders ps r) ≡ None → IfSome (option_map (type_at w) r) (TyVarsBelow (length w.vars))
   result_below [] None h = tt

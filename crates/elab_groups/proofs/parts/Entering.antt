@@ -1,5 +1,5 @@
 -- Signatures to which entries are added.
-use Rattle.std.proofs.Common.{◌≡◌, ℕ, List, [], ◌∷◌, ◌++◌, map, slice_get, Option, Some, None, IfSome, option_map, refl, sym, ap, subst, ◌∙◌, arith, append_assoc}
+use Rattle.std.proofs.Common.{◌≡◌, ℕ, suc, List, [], ◌∷◌, ◌++◌, map, slice_get, Option, Some, None, IfSome, option_map, refl, sym, ap, subst, ◌∙◌, arith, append_assoc}
 use Rattle.std.specs.Prelude.{codes}
 use Rattle.std.specs.List.{All}
 use Rattle.std.proofs.lemmas.List.{map-append, append-nil}
@@ -11,6 +11,7 @@ use Rattle.tasks.specs.trees.Node.{tree_at, Grows}
 use Rattle.tasks.specs.trees.Facts.{TyVarsBelow}
 use Rattle.tasks.specs.declared.signature.SymbolInfo.{SymbolInfo}
 use Rattle.tasks.specs.declared.signature.Signature.{Signature}
+use Rattle.tasks.specs.declared.signature.SymbolKind.TheVariants.{Constructor}
 use Rattle.tasks.specs.Task.{SymbolTree, int_symbol}
 use Rattle.tasks.specs.Meaning.{symbol_at, symbols_at}
 use Rattle.tasks.specs.Rigid.{rigid_symbol}
@@ -20,7 +21,7 @@ use Rattle.open_types.specs.Drafts.{HoldsType, SymbolTyped}
 use Rattle.open_types.proofs.Growing.{type_grows, types_stay, wanted_stays, wanted_grows}
 use Rattle.open_types.proofs.Below.{variables_all, cells_below}
 use Rattle.tasks.specs.Valid.{own_type}
-use Rattle.elab_groups.specs.parts.Entries.{type_entry, constructor_entries, builtin, tuple_entries, tuple_in, wanting_tuple, wanting_tuples, IsSignature, IsExtended}
+use Rattle.elab_groups.specs.parts.Entries.{type_entry, projections, constructor_entries, field_entry, field_entries, named_entries, builtin, tuple_entries, tuple_in, wanting_tuple, wanting_tuples, IsSignature, IsExtended}
 use Rattle.tasks.proofs.Growth.{map_agree as map_same}
 
 module _ (s s' : List Tree) (g : Grows s s') where
@@ -71,8 +72,15 @@ extended_one s a b i h t c e n =
 pub extended_grows : {s s1 s2 : List Tree} {a b : Signature} (xs : List SymbolTree) → Grows s1 s2 → IsExtended s a s1 b xs → IsExtended s a s2 b xs
 extended_grows {s} {s1} {s2} {a} {b} xs g h = record { symbols = entries_stay s1 s2 g b.symbols h.signature ∙ h.symbols; signature = signature_grows s1 s2 g b.symbols h.signature; ints = h.ints }
 
--- ---- tuples
+-- ---- constructors without names of fields
+unnamed_fields : (theory name : List ℕ) (vars : ℕ) (t : Tree) (i : ℕ) (fs : List Tree) → field_entries theory [] name vars t i [] fs ≡ projections theory name vars t i fs
+unnamed_fields theory name vars t i [] = refl
+unnamed_fields theory name vars t i (f ∷ fs) = ap (λ (es : List SymbolTree). field_entry theory [] name vars t i [] f ∷ es) (unnamed_fields theory name vars t (suc i) fs)
 
+pub unnamed_entries : (theory name : List ℕ) (vars : ℕ) (t : Tree) (fs : List Tree) → named_entries theory [] name vars t [] fs ≡ constructor_entries theory name vars t fs
+unnamed_entries theory name vars t fs = ap (λ (es : List SymbolTree). record { theory = theory; name = name; kind = Constructor; vars = vars; args = fs; result = Some t } ∷ es) (unnamed_fields theory name vars t 1 fs)
+
+-- ---- tuples
 pub variables_below : (n : ℕ) → All (TyVarsBelow n) (type_variables 0 n)
 variables_below n = All-from_recursion (TyVarsBelow n) (type_variables 0 n) (variables_all 0 n n (omega arith))
 

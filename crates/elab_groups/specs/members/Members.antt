@@ -127,7 +127,7 @@ body_fault w m vars (Some e) =
     fault (with_vars w vars) false (reverse (words_of_parameters m.params)) (is_none m.result) e
 
 abbrev pub member_fault : Where → GroupMember → Option NamingFault
-member_fault w m = first_of (params_fault w m.params)
+member_fault w m = first_of (params_fault w true m.params)
     (first_of (type_fault w true m.result) (body_fault w m (own_variables m) m.body))
 
 abbrev pub members_fault : Where → List GroupMember → Option NamingFault

@@ -11,10 +11,10 @@ use Rattle.surface.specs.Declarations as source
 use Rattle.scopes.specs.declared.Table.{Table}
 use Rattle.scopes.specs.declared.Table.TheVariants.{Types, Symbols, Propositions}
 use Rattle.scopes.specs.Names.{same_table}
-use Rattle.name_resolution.specs.Abstract.{TypeExpression, TypeExpressions, Expression, type_expression, type_expressions, expression, text_of_own}
+use Rattle.name_resolution.specs.Abstract.{TypeExpression, Expression, type_expression, expression, text_of_own}
 use Rattle.name_resolution.specs.declared.NamingFault.{NamingFault}
 use Rattle.name_resolution.specs.declared.NamingFault.TheVariants.{Duplicate}
-use Rattle.name_resolution.specs.Faults.{first_of, fault_if, form_fault, forms_fault, fault}
+use Rattle.name_resolution.specs.Faults.{first_of, fault_if, form_fault, fault}
 use Rattle.name_resolution.specs.variables.Seen.{SeenTree, form_seen, type_seen, seen}
 use Rattle.name_resolution.specs.Where.{Where, place_of}
 use Rattle.elab_groups.specs.parts.Elaborated.{unseen}
@@ -27,7 +27,7 @@ pub record TokenName : Type 0 where
 abbrev pub token_name : ℕ → Word → TokenName
 token_name i x = record { at = i; name = x }
 
--- a parameter, with names or, as a type alone, without
+-- a parameter, or fields of one type, with names or, as a type alone, without
 pub record Parameter : Type 0 where
   pub names : List TokenName
   pub of_type : TypeExpression
@@ -41,7 +41,7 @@ pub record GroupMember : Type 0 where
 
 pub record AlgebraicConstructor : Type 0 where
   pub called : TokenName
-  pub fields : TypeExpressions
+  pub fields : List Parameter
 
 pub record AlgebraicType : Type 0 where
   pub called : TokenName
@@ -85,7 +85,7 @@ group_member m = record {
 }
 
 abbrev pub constructor : source.Constructor → AlgebraicConstructor
-constructor c = record { called = word c.name; fields = type_expressions c.fields }
+constructor c = record { called = word c.name; fields = map parameter_of c.fields }
 
 abbrev pub algebraic_type : source.Algebraic → AlgebraicType
 algebraic_type a = record {
@@ -149,8 +149,13 @@ abbrev pub names_of_parameters : List Parameter → List TokenName
 names_of_parameters [] = []
 names_of_parameters (p ∷ ps) = p.names ++ names_of_parameters ps
 
+-- the names of constructors, each before those of its fields
+abbrev pub constructor_names : List AlgebraicConstructor → List TokenName
+constructor_names [] = []
+constructor_names (c ∷ cs) = c.called ∷ (names_of_parameters c.fields ++ constructor_names cs)
+
 abbrev pub made_by_constructors : List AlgebraicConstructor → List Made
-made_by_constructors cs = map (λ (c : AlgebraicConstructor). makes Symbols c.called) cs
+made_by_constructors cs = map (makes Symbols) (constructor_names cs)
 
 abbrev pub made_type_names : List AlgebraicType → List Made
 made_type_names [] = []
@@ -226,13 +231,14 @@ abbrev pub with_vars : Where → List Word → Where
 with_vars w vs = record w { vars = vs }
 
 -- ---- the uses of names, where the declaration's own names are there
-abbrev pub params_fault : Where → List Parameter → Option NamingFault
-params_fault w [] = None
-params_fault w (p ∷ ps) = first_of (form_fault w true p.of_type) (params_fault w ps)
+-- of parameters, which may have further type variables, or of fields, which may not
+abbrev pub params_fault : Where → Bool → List Parameter → Option NamingFault
+params_fault w open_ [] = None
+params_fault w open_ (p ∷ ps) = first_of (form_fault w open_ p.of_type) (params_fault w open_ ps)
 
 abbrev pub constructors_fault : Where → List AlgebraicConstructor → Option NamingFault
 constructors_fault w [] = None
-constructors_fault w (c ∷ cs) = first_of (forms_fault w false c.fields) (constructors_fault w cs)
+constructors_fault w (c ∷ cs) = first_of (params_fault w false c.fields) (constructors_fault w cs)
 
 abbrev pub types_fault : Where → List AlgebraicType → Option NamingFault
 types_fault w [] = None
@@ -247,5 +253,5 @@ clauses_fault w (c ∷ cs) = first_of (fault w true [] true c.prop) (clauses_fau
 abbrev pub inductives_fault : Where → List InductivePredicate → Option NamingFault
 inductives_fault w [] = None
 inductives_fault w (d ∷ ds) =
-    first_of (params_fault w d.params)
+    first_of (params_fault w true d.params)
     (first_of (clauses_fault w d.clauses) (inductives_fault w ds))

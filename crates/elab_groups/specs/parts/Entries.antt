@@ -1,13 +1,15 @@
 -- What a signature and scopes keep, and the entries of a signature (Why3 manual, "logical
 -- declarations").
-use Rattle.std.specs.Prelude.{◌≡◌, ℕ, ◌<◌, List, ◌++◌, slice_get, All, Some}
+use Rattle.std.specs.Prelude.{◌≡◌, ℕ, suc, ◌<◌, List, [], ◌∷◌, ◌++◌, slice_get, All, Some}
 use Rattle.tasks.specs.trees.Tree.{Tree}
 use Rattle.tasks.specs.trees.Node.{tree_at}
 use Rattle.tasks.specs.trees.Facts.{TyVarsBelow}
 use Rattle.tasks.specs.declared.signature.SymbolInfo.{SymbolInfo}
+use Rattle.tasks.specs.declared.signature.SymbolKind.TheVariants.{Constructor, Projection}
 use Rattle.tasks.specs.declared.signature.Signature.{Signature}
 use Rattle.tasks.specs.Task.{SymbolTree, int_symbol}
 use Rattle.tasks.specs.Meaning.{symbols_at}
+use Rattle.surface.specs.Lexeme.{Word}
 use Rattle.scopes.specs.Names.{ScopeNames, ScopeEntry, TypeName}
 use Rattle.scopes.specs.declared.Table.{Table}
 use Rattle.scopes.specs.declared.Table.TheVariants.{Types, Symbols, Propositions, Scopes}
@@ -57,3 +59,52 @@ IsEntry s count e = IsThing s count e.table e.thing
 -- each name of the tables of types and symbols stands for one of so many entries, or for a type
 abbrev pub AreScopes : List Tree → ℕ → ScopeNames → Type 0
 AreScopes s count names = All (λ (es : List ScopeEntry). All (IsEntry s count) es) names.entries
+
+-- ---- constructors with fields, of which some have names
+-- A projection has its field's name, or else that of the constructor with the field's place: it is
+-- `C'2` for the second field of `C` where that has no name.
+abbrev pub field_name : Word → Word → ℕ → Word → Word
+field_name within constructor i [] = projection_name (within ++ constructor) i
+field_name within constructor i (x ∷ xs) = within ++ x ∷ xs
+
+-- the projection to a field, the i-th
+abbrev pub field_entry : Word → Word → Word → ℕ → Tree → ℕ → Word → Tree → SymbolTree
+field_entry theory within constructor vars type i word field = record {
+  theory = theory;
+  name = field_name within constructor i word;
+  kind = Projection;
+  vars =
+      vars;
+  args = type ∷ [];
+  result = Some field;
+}
+
+abbrev pub first_word : List Word → Word
+first_word [] = []
+first_word (w ∷ ws) = w
+
+abbrev pub other_words : List Word → List Word
+other_words [] = []
+other_words (w ∷ ws) = ws
+
+-- those to fields from the i-th on, with their words, of which one is empty where a field has no
+-- name
+abbrev pub field_entries : Word → Word → Word → ℕ → Tree → ℕ → List Word → List Tree
+    → List SymbolTree
+field_entries theory within constructor vars type i words [] = []
+field_entries theory within constructor vars type i words (t ∷ ts) =
+    field_entry theory within constructor vars type i (first_word words) t
+    ∷ field_entries theory within constructor vars type (suc i) (other_words words) ts
+
+-- a constructor of a type, before its projections
+abbrev pub named_entries : Word → Word → Word → ℕ → Tree → List Word → List Tree → List SymbolTree
+named_entries theory within constructor vars type words fields =
+    record {
+      theory = theory;
+      name = within ++ constructor;
+      kind = Constructor;
+      vars = vars;
+      args =
+          fields;
+      result = Some type;
+    } ∷ field_entries theory within constructor vars type 1 words fields

@@ -22,14 +22,13 @@ use surface::{Name, ParamTree, TypeTree};
 use tasks::SymbolKind;
 use trees::store::{Store, TermId};
 
-/// The first fault of the names of parameters' types.
+/// The first fault of the names of the types of parameters, or of fields.
 pub fn check_params(
     alloc: Global,
     params: &[ParamTree],
     world: &World<'_>,
 ) -> Result<(), NamingFault>
-    requires { world.now.new_vars ≡ true }
-    ensures { (s : List Tree) → Tells result (params_fault (where_at s world.now)
+    ensures { (s : List Tree) → Tells result (params_fault (where_at s world.now) world.now.new_vars
         (parameters_of params.now)) }
 {
     let Some((first, rest)) = params.split_first() else {
@@ -91,7 +90,7 @@ fn push_copies(types: &mut Vec<TermId>, ty: TermId, names: &[Name]) -> Result<()
     }
 }
 
-/// The types of parameters, after those that are there.
+/// The types of parameters, or of fields, after those that are there.
 pub fn push_params(
     alloc: Global,
     store: &mut Store,

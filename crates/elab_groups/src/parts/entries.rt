@@ -10,7 +10,7 @@ ghost use Rattle.tasks.specs.Equations.{type_variables};
 ghost use Rattle.tasks.specs.Vocabulary.{is_constructor_kind};
 ghost use Rattle.open_types.specs.Scoped.{IsScopedEntry};
 ghost use Rattle.open_types.specs.Drafts.{HoldsType, SymbolTyped};
-ghost use Rattle.elab_groups.specs.parts.Entries.{type_entry, projections, constructor_entries, tuple_entries, is_tuple, tuple_in, wanting_tuple, wanting_tuples, IsSignature, IsExtended};
+ghost use Rattle.elab_groups.specs.parts.Entries.{type_entry, first_word, other_words, field_name, field_entry, field_entries, named_entries, tuple_entries, is_tuple, tuple_in, wanting_tuple, wanting_tuples, IsSignature, IsExtended};
 
 use open_types::list_of;
 use scopes::{Seq, Text};
@@ -70,120 +70,135 @@ pub fn push_type(
     push_entry(store, sig, info)
 }
 
+/// A constructor that is entered: the path of its theory, the names of its scopes, its own name, and its type with so many type
+/// variables.
+#[derive(Clone, Copy)]
+pub struct NewConstructor<'a> {
+    pub theory: &'a [u8],
+    pub within: &'a [u8],
+    pub name: &'a [u8],
+    pub vars: usize,
+    pub ty: TermId,
+}
+
+// The name of the projection of a number, to a field with this word or, where that is empty, without a name.
+fn name_field(
+    alloc: Global,
+    of: &NewConstructor<'_>,
+    number: usize,
+    word: &[u8],
+) -> Result<Text, AllocError>
+    ensures { IfOk result (λ it. it ≡ field_name of.now.within.now of.now.name.now number
+        word.now) }
+{
+    if let [_, ..] = word {
+        return join_words(alloc, of.within, word);
+    }
+    let whole = join_words(alloc, of.within, of.name)?;
+    let quoted = join_words(alloc, whole.as_slice(), b"'")?;
+    numbered_word(alloc, quoted.as_slice(), number)
+}
+
 // The entry of the projection of a number.
 fn push_projection(
     alloc: Global,
     store: &Store,
     sig: &mut Signature,
-    theory: &[u8],
-    constructor: &[u8],
-    vars: usize,
-    ty: TermId,
+    of: &NewConstructor<'_>,
     number: usize,
+    word: &[u8],
     field: TermId,
 ) -> Result<(), AllocError>
     requires signature { IsSignature store.now sig.old.symbols }
-    requires ty { HoldsType store.now ty }
-    requires ty_below { TyVarsBelow vars (tree_at store.now ty) }
+    requires ty { HoldsType store.now of.now.ty }
+    requires ty_below { TyVarsBelow of.now.vars (tree_at store.now of.now.ty) }
     requires field { HoldsType store.now field }
-    requires field_below { TyVarsBelow vars (tree_at store.now field) }
+    requires field_below { TyVarsBelow of.now.vars (tree_at store.now field) }
     ensures { OnOk result (IsExtended store.now sig.old store.now sig.new
-        (projections theory.now constructor.now vars (tree_at store.now ty) number
-        (tree_at store.now field ∷ []))) }
+        (field_entry of.now.theory.now of.now.within.now of.now.name.now of.now.vars
+        (tree_at store.now of.now.ty) number word.now (tree_at store.now field) ∷ [])) }
 {
-    let quoted = join_words(alloc, constructor, b"'")?;
     let mut args = Seq::new(alloc);
-    args.push(ty)?;
+    args.push(of.ty)?;
     let info = SymbolInfo {
-        theory: Text::from_slice(alloc, theory)?,
-        name: numbered_word(alloc, quoted.as_slice(), number)?,
+        theory: Text::from_slice(alloc, of.theory)?,
+        name: name_field(alloc, of, number, word)?,
         kind: SymbolKind::Projection,
-        vars,
+        vars: of.vars,
         args,
         result: Some(field),
     };
     push_entry(store, sig, info)
 }
 
-// The entries of the projections to some fields, from the one of a number on.
+// The first word, which is empty where there is none, and the others.
+fn split_words(words: &[Text]) -> (&[u8], &[Text])
+    ensures first { result.0.now ≡ first_word words.now }
+    ensures others { result.1.now ≡ other_words words.now }
+{
+    match words.split_first() {
+        Some((word, others)) => (word.as_slice(), others),
+        None => (&[], &[]),
+    }
+}
+
+// The entries of the projections to some fields with these words, from the one of a number on.
 fn push_projections(
     alloc: Global,
     store: &Store,
     sig: &mut Signature,
-    theory: &[u8],
-    constructor: &[u8],
-    vars: usize,
-    ty: TermId,
+    of: &NewConstructor<'_>,
     number: usize,
+    words: &[Text],
     fields: &[TermId],
 ) -> Result<(), AllocError>
     requires signature { IsSignature store.now sig.old.symbols }
-    requires ty { HoldsType store.now ty }
-    requires ty_below { TyVarsBelow vars (tree_at store.now ty) }
+    requires ty { HoldsType store.now of.now.ty }
+    requires ty_below { TyVarsBelow of.now.vars (tree_at store.now of.now.ty) }
     requires fields { All (HoldsType store.now) fields.now }
-    requires fields_below { All (TyVarsBelow vars) (trees_at store.now fields.now) }
+    requires fields_below { All (TyVarsBelow of.now.vars) (trees_at store.now fields.now) }
     requires count { number + length fields.now < 2 ^ 64 }
     ensures { OnOk result (IsExtended store.now sig.old store.now sig.new
-        (projections theory.now constructor.now vars (tree_at store.now ty) number
-        (trees_at store.now fields.now))) }
+        (field_entries of.now.theory.now of.now.within.now of.now.name.now of.now.vars
+        (tree_at store.now of.now.ty) number words.now (trees_at store.now fields.now))) }
 {
-    let Some((first, rest)) = fields.split_first() else {
+    let Some((field, rest)) = fields.split_first() else {
         return Ok(());
     };
-    push_projection(
-        alloc,
-        store,
-        sig,
-        theory,
-        constructor,
-        vars,
-        ty,
-        number,
-        *first,
-    )?;
-    push_projections(
-        alloc,
-        store,
-        sig,
-        theory,
-        constructor,
-        vars,
-        ty,
-        number + 1,
-        rest,
-    )
+    let (word, others) = split_words(words);
+    push_projection(alloc, store, sig, of, number, word, *field)?;
+    push_projections(alloc, store, sig, of, number + 1, others, rest)
 }
 
-/// The entry of a constructor of a type, and those of its projections.
+/// The entry of a constructor of a type, and those of its projections, to fields with these words; a field without a name has an
+/// empty one, or none.
 pub fn push_constructor(
     alloc: Global,
     store: &Store,
     sig: &mut Signature,
-    theory: &[u8],
-    name: &[u8],
-    vars: usize,
-    ty: TermId,
+    of: &NewConstructor<'_>,
+    words: &[Text],
     fields: &[TermId],
 ) -> Result<(), AllocError>
     requires signature { IsSignature store.now sig.old.symbols }
-    requires ty { HoldsType store.now ty }
-    requires ty_below { TyVarsBelow vars (tree_at store.now ty) }
+    requires ty { HoldsType store.now of.now.ty }
+    requires ty_below { TyVarsBelow of.now.vars (tree_at store.now of.now.ty) }
     requires fields { All (HoldsType store.now) fields.now }
-    requires fields_below { All (TyVarsBelow vars) (trees_at store.now fields.now) }
+    requires fields_below { All (TyVarsBelow of.now.vars) (trees_at store.now fields.now) }
     ensures { OnOk result (IsExtended store.now sig.old store.now sig.new
-        (constructor_entries theory.now name.now vars (tree_at store.now ty)
-        (trees_at store.now fields.now))) }
+        (named_entries of.now.theory.now of.now.within.now of.now.name.now of.now.vars
+        (tree_at store.now of.now.ty) words.now (trees_at store.now fields.now))) }
 {
     let info = SymbolInfo {
-        theory: Text::from_slice(alloc, theory)?,
-        name: Text::from_slice(alloc, name)?,
+        theory: Text::from_slice(alloc, of.theory)?,
+        name: join_words(alloc, of.within, of.name)?,
         kind: SymbolKind::Constructor,
-        vars,
+        vars: of.vars,
         args: Seq::from_slice(alloc, fields)?,
-        result: Some(ty),
+        result: Some(of.ty),
     };
     push_entry(store, sig, info)?;
-    push_projections(alloc, store, sig, theory, name, vars, ty, 1, fields)
+    push_projections(alloc, store, sig, of, 1, words, fields)
 }
 
 /// The first type variables.
@@ -219,16 +234,14 @@ fn push_tuple(
     let list = list_of(store, types.as_slice())?;
     let ty = store.add(Node::TyApp(number, list))?;
     let name = numbered_word(alloc, b"Tuple", width)?;
-    push_constructor(
-        alloc,
-        store,
-        sig,
-        b"BuiltIn",
-        name.as_slice(),
-        width,
+    let constructor = NewConstructor {
+        theory: b"BuiltIn",
+        within: &[],
+        name: name.as_slice(),
+        vars: width,
         ty,
-        types.as_slice(),
-    )
+    };
+    push_constructor(alloc, store, sig, &constructor, &[], types.as_slice())
 }
 
 // The entries of the tuples of a width, where its constructor isn't there.

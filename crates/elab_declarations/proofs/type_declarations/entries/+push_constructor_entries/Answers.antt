@@ -4,7 +4,7 @@ use Rattle.elab_declarations.specs.type_declarations.Held.{ConTyped}
 use Rattle.elab_declarations.proofs.type_declarations.entries.+push_constructor_entries.Goals as goal
 
 pub push_constructor-requires-clause-fields : goal.push_constructor-requires-clause-fields
-push_constructor-requires-clause-fields t c = rw c.as_slice-3.ensures (all_first (ConTyped c.args.store.now) c.args.cons.now c.in-Some-split_first.con.now c.in-Some-split_first.others.now c.in-Some-split_first.ensures.cases.0 c.requires.typed).fields
+push_constructor-requires-clause-fields t c = rw c.as_slice-4.ensures (all_first (ConTyped c.args.store.now) c.args.cons.now c.in-Some-split_first.con.now c.in-Some-split_first.others.now c.in-Some-split_first.ensures.cases.0 c.requires.typed).fields
 
 pub push_constructor_entries-requires : goal.push_constructor_entries-requires
 push_constructor_entries-requires t c =

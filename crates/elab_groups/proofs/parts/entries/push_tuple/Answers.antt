@@ -11,7 +11,7 @@ use Rattle.tasks.specs.Equations.{cells, type_variables}
 use Rattle.tasks.specs.Valid.{own_type}
 use Rattle.open_types.proofs.Growing.{types_stay}
 use Rattle.elab_groups.specs.parts.Entries.{IsExtended, type_entry, builtin}
-use Rattle.elab_groups.proofs.parts.Entering.{signature_grows, variables_below, own_below, tuple_extended}
+use Rattle.elab_groups.proofs.parts.Entering.{signature_grows, variables_below, own_below, tuple_extended, unnamed_entries}
 use Rattle.elab_groups.proofs.parts.entries.push_tuple.Goals as goal
 
 pub push_constructor-requires-clause-signature : goal.push_constructor-requires-clause-signature
@@ -48,4 +48,4 @@ returns-clause-entries c =
     let ty : tree_at s3 c.in_ok-ty.ty ≡ own_type k n = c.in_ok-ty.ensures.tree ∙ ap (λ (e : Tree). One (HTyApp c.len-number.result) e) list ∙ ap (λ (j : ℕ). own_type j n) c.len-number.ensures in
     let fields : trees_at s3 c.as_slice-3.result.now ≡ type_variables 0 n = ap (trees_at s3) c.as_slice-3.ensures.value ∙ (types_stay c.variables.new.store s3 g c.in_ok-types.types.items c.in_ok-types.ensures.held ∙ c.in_ok-types.ensures.trees) in
     let h : IsExtended s a s b (type_entry builtin (codes "tuple" ++ decimal n) n ∷ []) = rw c.in_ok-name.ensures at c.in_ok-push_type.ensures in
-    on_ok_weaker c.push_constructor.result (λ t. tuple_extended k n g3 (Grows_refl s3) h (rw (c.as_slice-2.ensures, c.in_ok-name-2.ensures, ty, fields) at t)) c.push_constructor.ensures
+    on_ok_weaker c.push_constructor.result (λ t. tuple_extended k n g3 (Grows_refl s3) h (rw (unnamed_entries) at (rw (c.as_slice-2.ensures, c.in_ok-name-2.ensures, ty, fields) at t))) c.push_constructor.ensures
