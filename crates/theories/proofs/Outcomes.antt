@@ -9,10 +9,10 @@ use Rattle.surface.specs.Lexeme.{Word}
 use Rattle.surface.specs.declared.declarations.PropKind.{PropKind}
 use Rattle.surface.specs.declared.declarations.PropKind.TheVariants as kind
 use Rattle.elaboration_laws.specs.elab_groups.parts.Elaborated.{unseen}
-use Rattle.elaboration_laws.specs.elab_groups.parts.Entries.{type_entry, constructor_entries, wanting_tuples}
+use Rattle.elaboration_laws.specs.elab_groups.parts.Entries.{type_entry, named_entries, wanting_tuples}
 use Rattle.elaboration_laws.specs.elab_groups.parts.Declarations.{AlgebraicConstructor, AlgebraicType, GroupMember, Declaration, abstract_type, alias, algebraic, member_group, inductive, proposition_declaration}
 use Rattle.elaboration_laws.specs.elab_groups.parts.Outcomes.{Setting, Outcome, full_name}
-use Rattle.elaboration_laws.specs.elab_groups.members.Members.{SignatureTree, symbol_kind_of, signed_entries, signature_trees, members_seen}
+use Rattle.elaboration_laws.specs.elab_groups.members.Members.{SignatureTree, symbol_kind_of, signed_entries, signature_trees, members_seen, words_of_parameters}
 use Rattle.elaboration_laws.specs.elab_groups.Groups.{group_signatures}
 use Rattle.elaboration_laws.specs.elab_declarations.inductive_declarations.Inductives.{as_members, before_inductives, inductives_seen}
 use Rattle.elaboration_laws.specs.elab_declarations.type_declarations.Algebraics.{group_seen, type_entries, constructors_entries, group_trees, group_entries}
@@ -20,7 +20,7 @@ use Rattle.elaboration_laws.specs.elab_declarations.Outcomes.{alias_seen, propos
 use Rattle.tasks.specs.Words.{IsScopedName}
 use Rattle.theories.specs.Names.{HaveWords}
 use Rattle.theories.proofs.Words.{joined}
-use Rattle.theories.proofs.Tuples.{HasWord, constructor_words, tuples_words}
+use Rattle.theories.proofs.Tuples.{HasWord, named_words, tuples_words}
 use Rattle.theories.proofs.Written.{ConstructorsNamed, TypesNamed, MembersNamed, IsNamed}
 
 -- ---- type variables
@@ -51,8 +51,9 @@ module _ (theory within : Word) (inner : IsScopedName within) where
   constructors_words vars type [] cs h = All-nil HasWord
   constructors_words vars type (k ∷ ks) [] h = All-nil HasWord
   constructors_words vars type (k ∷ ks) (c ∷ cs) h =
-      All-append HasWord (constructor_entries theory (within ++ k.called.name) vars type c.fields) (constructors_entries theory within vars type ks cs)
-      (constructor_words theory (within ++ k.called.name) vars type c.fields (joined within k.called.name inner h.0)) (constructors_words vars type ks cs h.1)
+      let ws = words_of_parameters k.fields in
+      All-append HasWord (named_entries theory within k.called.name vars type ws c.fields) (constructors_entries theory within vars type ks cs)
+      (named_words theory within k.called.name vars type ws c.fields inner (joined within k.called.name inner h.0.name) h.0.fields) (constructors_words vars type ks cs h.1)
 
   group_words : (ts : List AlgebraicType) (ys : List AlgebraicTree) → TypesNamed ts → HaveWords (group_entries theory within ts ys)
   group_words [] ys h = All-nil HasWord

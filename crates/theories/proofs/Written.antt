@@ -8,11 +8,13 @@ use Rattle.surface.specs.tokens_why.declared.terminal.Terminal.TheVariants as t
 use Rattle.surface.specs.Lexeme.{Word, Lexeme, mark, lx}
 use Rattle.surface.specs.Forms.{Own, lower, upper, infix_op, prefix_op, star, scoped, write_own, write_called, write_form}
 use Rattle.surface.specs.Forms as surface
-use Rattle.surface.specs.Trees.{SyntaxTree, write, bar_before, type_part}
+use Rattle.surface.specs.Trees.{SyntaxTree, write, name_row, bar_before, type_part}
 use Rattle.surface.specs.Declarations.{variable_row, param_row, definition, write_member, other_members, write_constructor, constructor_tail, constructor_list, write_algebraic, algebraic_tail, clause_list, write_inductive, inductive_tail, prop_word, write_decl}
 use Rattle.surface.specs.Declarations as source
 use Rattle.elaboration_laws.specs.name_resolution.Abstract.{expression, spelled, prefix_name, infix_name, text_of_own}
-use Rattle.elaboration_laws.specs.elab_groups.parts.Declarations.{GroupMember, AlgebraicConstructor, AlgebraicType, Declaration, abstract_type, alias, algebraic, member_group, inductive, proposition_declaration, declaration, symbol, group_member, constructor, algebraic_type, inductive_predicate}
+use Rattle.elaboration_laws.specs.elab_groups.parts.Declarations.{GroupMember, AlgebraicConstructor, AlgebraicType, Declaration, abstract_type, alias, algebraic, member_group, inductive, proposition_declaration, declaration, symbol, word, words, parameter_of, group_member, constructor, algebraic_type, inductive_predicate}
+use Rattle.elaboration_laws.specs.elab_groups.members.Members.{parameter_words, words_of_parameters}
+use Rattle.surface.specs.declared.names.Name.{Name}
 use Rattle.elaboration_laws.specs.elab_declarations.inductive_declarations.Inductives.{as_members}
 use Rattle.elaboration_laws.specs.elab_declarations.Outcomes.{proposition_seen}
 use Rattle.tasks.specs.Words.{IsScopedName}
@@ -21,8 +23,13 @@ use Rattle.theories.proofs.Words.{written_name, joined}
 use Rattle.elaboration_laws.proofs.Variables.{VariableAs, IsVariable, tail_of, front_of, back_of, variables_told}
 
 -- ---- what is named
+-- a field without a name has an empty word
+pub record IsConstructorNamed (k : AlgebraicConstructor) : Type 0 where
+  pub name : IsScopedName k.called.name
+  pub fields : AllByRecursion IsScopedName (words_of_parameters k.fields)
+
 abbrev pub ConstructorsNamed : List AlgebraicConstructor → Type 0
-ConstructorsNamed ks = AllByRecursion (λ (k : AlgebraicConstructor). IsScopedName k.called.name) ks
+ConstructorsNamed ks = AllByRecursion IsConstructorNamed ks
 
 pub record IsTypeNamed (a : AlgebraicType) : Type 0 where
   pub name : IsScopedName a.called.name
@@ -93,8 +100,30 @@ pub proposition_words : (e : SyntaxTree) → Are (write e) → All IsScopedName 
 proposition_words e q = variables_told IsScopedName e (All-weaker IsWordLexeme (IsVariable IsScopedName) (λ l h. variable_from l.terminal l.text h) (write e) q)
 
 -- ---- algebraic types
-constructor_named : (c : source.Constructor) (rest : List Lexeme) → Are (write_constructor c ++ rest) → IsScopedName (constructor c).called.name
-constructor_named c rest q = q 0 (lx t.Uident c.name.text) (omega arith)
+both_named : (us vs : List Word) → AllByRecursion IsScopedName us → AllByRecursion IsScopedName vs → AllByRecursion IsScopedName (us ++ vs)
+both_named [] vs h k = k
+both_named (u ∷ us) vs h k = (h.0, both_named us vs h.1 k)
+
+names_are : (ns : List Name) (rest : List Lexeme) → Are (name_row ns ++ rest) → AllByRecursion IsScopedName (words (map word ns))
+names_are [] rest q = tt
+names_are (n ∷ ns) rest q = (q 0 (lx t.Lident n.text) (omega arith), names_are ns rest (tail_at (lx t.Lident n.text) (name_row ns ++ rest) q))
+
+typed_are : (ns : List Name) (f : surface.SyntaxForm) (rest : List Lexeme) → Are (source.typed_names ns f ++ rest) → AllByRecursion IsScopedName (parameter_words (map word ns))
+typed_are [] f rest q = (written_name [] refl, tt)
+typed_are (n ∷ ns) f rest q =
+    let last = mark t.Colon ∷ (write_form f ++ (mark t.RParen ∷ [])) in
+    names_are (n ∷ ns) last (front_at (name_row (n ∷ ns) ++ last) rest (tail_at (mark t.LParen) ((name_row (n ∷ ns) ++ last) ++ rest) q))
+
+params_are : (ps : List source.ParamGroup) → Are (param_row ps) → AllByRecursion IsScopedName (words_of_parameters (map parameter_of ps))
+params_are [] q = tt
+params_are (p ∷ ps) q =
+    both_named (parameter_words (map word p.names)) (words_of_parameters (map parameter_of ps)) (typed_are p.names p.of_type (param_row ps) q) (params_are ps (back_at (source.write_param p) (param_row ps) q))
+
+constructor_named : (c : source.Constructor) (rest : List Lexeme) → Are (write_constructor c ++ rest) → IsConstructorNamed (constructor c)
+constructor_named c rest q = record {
+  name = q 0 (lx t.Uident c.name.text) (omega arith);
+  fields = params_are c.fields (front_at (param_row c.fields) rest (tail_at (lx t.Uident c.name.text) (param_row c.fields ++ rest) q));
+}
 
 others_named : (cs : List source.Constructor) → Are (constructor_tail cs) → ConstructorsNamed (map constructor cs)
 others_named [] q = tt

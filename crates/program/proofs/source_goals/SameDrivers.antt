@@ -129,7 +129,7 @@ by_same k kind.Constructor a b e v n = rw e n
 by_same k kind.Projection a b e v n = rw e n
 
 symbol_named : (path : List ℕ) (k : NameKind) (name : List ℕ) (a b : SymbolInfo) → asked_in a ≡ asked_in b → is_symbol_named path k name a ≡ is_symbol_named path k name b
-symbol_named path k name a b e = ap (λ (x : AskedSymbol). is_named_kind k x.kind && same_word x.theory path && same_word x.name name) e
+symbol_named path k name a b e = ap (λ (x : AskedSymbol). is_named_kind k x.kind x.name && same_word x.theory path && same_word x.name name) e
 
 symbol_arity : (a b : SymbolInfo) → asked_in a ≡ asked_in b → by_kind a.kind a ≡ by_kind b.kind b
 symbol_arity a b e = by_same a.kind b.kind a b (ap (λ (x : AskedSymbol). x.kind) e) (ap (λ (x : AskedSymbol). x.vars) e) (ap (λ (x : AskedSymbol). x.count) e)

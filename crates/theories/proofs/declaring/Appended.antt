@@ -1,8 +1,9 @@
 -- The moves of names after others.
-use Rattle.std.proofs.Common.{◌≡◌, ℕ, List, [], ◌∷◌, ◌++◌, Option, Some, None, Result, Ok, Err, OnOk, refl, sym, ap, ◌∙◌, append_assoc, append-nil}
+use Rattle.std.proofs.Common.{◌≡◌, ℕ, List, [], ◌∷◌, ◌++◌, map, Option, Some, None, Result, Ok, Err, OnOk, refl, sym, ap, ◌∙◌, append_assoc, append-nil}
+use Rattle.std.proofs.lemmas.List.{map-append}
 use Rattle.elab_groups.specs.scopes.Names.{ScopeNames}
 use Rattle.elab_groups.specs.scopes.declared.Table.{Table}
-use Rattle.elab_groups.specs.scopes.declared.Table.TheVariants.{Types}
+use Rattle.elab_groups.specs.scopes.declared.Table.TheVariants.{Types, Symbols}
 use Rattle.theory_states.specs.declared.moves.Move.{Move}
 use Rattle.surface.specs.declared.names.At.{At}
 use Rattle.surface.specs.declared.names.Name.{Name}
@@ -22,12 +23,24 @@ moves_made-append names (makes table c ∷ xs) ys =
     ap (λ (ms : List (Move ℕ)). first ++ ms) (moves_made-append names xs ys) ∙ sym (append_assoc first (moves_made names xs) (moves_made names ys))
 moves_made-append names (binds_names cs ∷ xs) ys = moves_made-append names xs ys
 
--- a name, and others after it
-pub name_then : (names : ScopeNames) (table : Table) (c : TokenName) (vs : List TokenName) (xs : List Made) (old one new : List (Move ℕ)) → one ≡ old ++ moves_made names (makes table c ∷ []) → new ≡ one ++ moves_made names xs → new ≡ old ++ moves_made names (makes table c ∷ binds_names vs ∷ xs)
-name_then names table c vs xs old one new p q =
+-- a name of a symbol, and others after it
+pub name_before : (names : ScopeNames) (table : Table) (c : TokenName) (xs : List Made) (old one new : List (Move ℕ)) → one ≡ old ++ moves_made names (makes table c ∷ []) → new ≡ one ++ moves_made names xs → new ≡ old ++ moves_made names (makes table c ∷ xs)
+name_before names table c xs old one new p q =
     let first = brought_as table c.name (thing_named names table c.name) in
     let more = moves_made names xs in
     q ∙ (ap (λ (ms : List (Move ℕ)). ms ++ more) p ∙ (append_assoc old (first ++ []) more ∙ ap (λ (ms : List (Move ℕ)). old ++ (ms ++ more)) (append-nil first)))
+
+pub names_both : (names : ScopeNames) (cs ds : List TokenName) (old one new : List (Move ℕ)) → one ≡ old ++ moves_made names (map (makes Symbols) cs) → new ≡ one ++ moves_made names (map (makes Symbols) ds)
+    → new ≡ old ++ moves_made names (map (makes Symbols) (cs ++ ds))
+names_both names cs ds old one new p q =
+    let xs = map (makes Symbols) cs in
+    let ys = map (makes Symbols) ds in
+    q ∙ (ap (λ (ms : List (Move ℕ)). ms ++ moves_made names ys) p ∙ (append_assoc old (moves_made names xs) (moves_made names ys)
+    ∙ ap (λ (ms : List (Move ℕ)). old ++ ms) (sym (moves_made-append names xs ys) ∙ ap (moves_made names) (sym (map-append (makes Symbols) cs ds)))))
+
+-- a name, and others after it
+pub name_then : (names : ScopeNames) (table : Table) (c : TokenName) (vs : List TokenName) (xs : List Made) (old one new : List (Move ℕ)) → one ≡ old ++ moves_made names (makes table c ∷ []) → new ≡ one ++ moves_made names xs → new ≡ old ++ moves_made names (makes table c ∷ binds_names vs ∷ xs)
+name_then names table c vs xs old one new p q = name_before names table c xs old one new p q
 
 pub name_then_both : (names : ScopeNames) (table : Table) (c : TokenName) (vs : List TokenName) (xs ys : List Made) (old one two new : List (Move ℕ)) → one ≡ old ++ moves_made names (makes table c ∷ []) → two ≡ one ++ moves_made names xs → new ≡ two ++ moves_made names ys
     → new ≡ old ++ moves_made names (makes table c ∷ binds_names vs ∷ (xs ++ ys))

@@ -4,13 +4,15 @@ ghost use Rattle.std.specs.Prelude.{◌≡◌, ◌++◌, ◌∷◌, [], map, opt
 ghost use Rattle.elab_groups.specs.scopes.declared.Referent.TheVariants as stands;
 ghost use Rattle.elab_groups.specs.scopes.declared.Table.TheVariants.{Types, Symbols, Propositions};
 ghost use Rattle.surface.specs.SurfaceDeclarations.{decl_of, declared_name, plain_name, member_of, constructor_of, algebraic_of, clause_of, inductive_of};
-ghost use Rattle.elab_groups.specs.parts.Declarations.{makes, word, symbol, group_member, constructor, algebraic_type, clause, inductive_predicate, made_by_constructors, made_type_names, made_by_members, made_by_clauses, made_by_inductives};
+ghost use Rattle.elab_groups.specs.parts.Declarations.{makes, word, symbol, group_member, constructor, algebraic_type, clause, inductive_predicate, names_of_parameters, made_by_constructors, made_type_names, made_by_members, made_by_clauses, made_by_inductives};
+ghost use Rattle.elab_groups.specs.members.Sources.{parameters_of};
 ghost use Rattle.theories.specs.declaring.Made.{thing_named, brought_as, moves_made, moves_declared};
 
 use elab_groups::parts::{Scope, Table, TypeName, own_name};
 use std::alloc::{AllocError, Global};
 use surface::{
-    AlgTree, ClauseTree, ConTree, DeclNode, DeclTree, IndTree, MemberTree, Name, OpName, Style,
+    AlgTree, ClauseTree, ConTree, DeclNode, DeclTree, IndTree, MemberTree, Name, OpName, ParamTree,
+    Style,
 };
 use tasks::Text;
 use theory_states::Move;
@@ -55,7 +57,7 @@ fn push_name(
     }
 }
 
-// A type or a constructor.
+// A type, a constructor or a field.
 fn push_plain(
     scope: &Scope,
     table: Table,
@@ -97,6 +99,34 @@ fn push_proposition(
     push_name(scope, Table::Propositions, text, moves)
 }
 
+// Fields.
+fn push_names(scope: &Scope, names: &[Name], moves: &mut Vec<Move<usize>>) -> Result<(), AllocError>
+    ensures { OnOk result (moves.new.items ≡ moves.old.items ++ moves_made scope.now
+        (map (makes Symbols) (map word names.now))) }
+{
+    let Some((first, rest)) = names.split_first() else {
+        return Ok(());
+    };
+    push_plain(scope, Table::Symbols, first, moves)?;
+    push_names(scope, rest, moves)
+}
+
+fn push_fields(
+    scope: &Scope,
+    fields: &[ParamTree],
+    moves: &mut Vec<Move<usize>>,
+) -> Result<(), AllocError>
+    ensures { OnOk result (moves.new.items ≡ moves.old.items ++ moves_made scope.now
+        (map (makes Symbols) (names_of_parameters (parameters_of fields.now)))) }
+{
+    let Some((first, rest)) = fields.split_first() else {
+        return Ok(());
+    };
+    push_names(scope, first.names.as_slice(), moves)?;
+    push_fields(scope, rest, moves)
+}
+
+// Constructors, each before its fields.
 fn push_constructors(
     scope: &Scope,
     cons: &[ConTree],
@@ -109,6 +139,7 @@ fn push_constructors(
         return Ok(());
     };
     push_plain(scope, Table::Symbols, &first.name, moves)?;
+    push_fields(scope, first.fields.as_slice(), moves)?;
     push_constructors(scope, rest, moves)
 }
 
