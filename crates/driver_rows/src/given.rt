@@ -7,7 +7,7 @@ use trees::TermId;
 // Theory, name, kind, number of type variables, number of arguments.
 type Entry = (&'static str, &'static str, SymbolKind, usize, usize);
 
-static ENTRIES: [Entry; 14] = [
+static ENTRIES: [Entry; 17] = [
     ("BuiltIn", "int", SymbolKind::Kind, 0, 0),
     ("int.Int", "-_", SymbolKind::Function, 0, 1),
     ("int.Int", "+", SymbolKind::Function, 0, 2),
@@ -20,8 +20,11 @@ static ENTRIES: [Entry; 14] = [
     ("T", "t", SymbolKind::Kind, 1, 0),
     ("T", "f", SymbolKind::Function, 0, 1),
     ("T", "S.f", SymbolKind::Constructor, 0, 10),
-    ("T", "f", SymbolKind::Projection, 0, 1),
+    ("T", "S.C'1", SymbolKind::Projection, 0, 1),
     ("T", "!_", SymbolKind::Function, 0, 0),
+    ("T", "S.g", SymbolKind::Projection, 0, 1),
+    ("T", "h", SymbolKind::Projection, 0, 1),
+    ("T", "C'1", SymbolKind::Projection, 0, 1),
 ];
 
 // Known theories, each with its propositions. The first of a path counts.

@@ -1,8 +1,9 @@
 -- What a driver's name of a symbol stands for (Why3 manual, "Drivers").
-use Rattle.std.specs.Prelude.{ℕ, ◌+◌, Bool, true, false, ◌&&◌, ◌||◌, List, [], ◌∷◌, length, codes, is_some, Option, Some, None, String, Vec, string_bytes, if◌then◌else◌}
+use Rattle.std.specs.Prelude.{ℕ, ◌+◌, Bool, true, false, ◌&&◌, ◌||◌, List, [], ◌∷◌, length, codes, nat_eq, is_some, Option, Some, None, String, Vec, string_bytes, if◌then◌else◌}
 use Rattle.std.specs.declared.alloc.Global.{Global}
 use Rattle.std.specs.List.{list_any}
 use Rattle.word_tables.specs.Words.{is_same_word}
+use Rattle.tokens_why.specs.Bytes.{is_upper}
 use Rattle.drivers.specs.declared.driver_tokens.terminal.NameKind.{NameKind}
 use Rattle.drivers.specs.declared.driver_tokens.terminal.NameKind.TheVariants as n
 use Rattle.tasks.specs.declared.signature.SymbolInfo.{SymbolInfo}
@@ -32,17 +33,30 @@ theory_with_path path (t ∷ ts) = if is_path path t then Some t else theory_wit
 abbrev pub is_known : NamedTheories → List ℕ → Bool
 is_known theories path = is_builtin path || is_some (theory_with_path path theories)
 
--- a constructor is a function here, and a projection is nothing
-abbrev pub is_named_kind : NameKind → SymbolKind → Bool
-is_named_kind n.Type k.Kind = true
-is_named_kind n.Function k.Function = true
-is_named_kind n.Function k.Constructor = true
-is_named_kind n.Predicate k.Predicate = true
-is_named_kind _ _ = false
+-- Whether a projection has the name of its field: `S.a` has, `S.C'1` has not, which begins as its
+-- constructor does.
+abbrev mutual
+  pub is_field_name : List ℕ → Bool
+  is_field_name [] = false
+  is_field_name (b ∷ bs) = if is_upper b then is_field_after_dot bs else true
+
+  -- after the first letter of a scope or of a constructor
+  pub is_field_after_dot : List ℕ → Bool
+  is_field_after_dot [] = false
+  is_field_after_dot (b ∷ bs) = if nat_eq b 46 then is_field_name bs else is_field_after_dot bs
+
+-- a constructor and a named field are functions here
+abbrev pub is_named_kind : NameKind → SymbolKind → List ℕ → Bool
+is_named_kind n.Type k.Kind name = true
+is_named_kind n.Function k.Function name = true
+is_named_kind n.Function k.Constructor name = true
+is_named_kind n.Function k.Projection name = is_field_name name
+is_named_kind n.Predicate k.Predicate name = true
+is_named_kind _ _ name = false
 
 abbrev pub is_symbol_named : List ℕ → NameKind → List ℕ → SymbolInfo → Bool
 is_symbol_named path kind name s =
-    is_named_kind kind s.kind && is_same_word s.theory path && is_same_word s.name name
+    is_named_kind kind s.kind s.name && is_same_word s.theory path && is_same_word s.name name
 
 -- the number of arguments that a template names
 abbrev pub by_kind : SymbolKind → SymbolInfo → ℕ
