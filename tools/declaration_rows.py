@@ -255,7 +255,7 @@ class Writer:
         name = self.name(a[0])
         variables = self.row(a[1], self.name)
         self.put("=")
-        cons = self.row(a[2], lambda k: (self.name(k[0]), self.row(k[1], lambda f: self.form(f, True))), "|")
+        cons = self.row(a[2], lambda k: (self.name(k[0]), self.params(k[1])), "|")
         return name, variables, cons
 
     def inductive(self, d):
@@ -335,10 +335,14 @@ class Theory:
         self.entries.append((theory, name, kind, variables, args, result))
         return len(self.entries) - 1
 
-    def constructor(self, theory, name, variables, own, fields):
+    def constructor(self, theory, name, variables, own, fields, words=()):
+        """The constructor's number; the projection to a field has its word, where it has one."""
         k = self.add(theory, name, "constructor", variables, fields, own)
         for i, f in enumerate(fields):
-            self.add(theory, f"{name}'{i + 1}", "projection", variables, [own], f)
+            word = words[i] if i < len(words) else None
+            n = self.add(theory, word or f"{name}'{i + 1}", "projection", variables, [own], f)
+            if word:
+                self.symbols[word] = n
         return k
 
     def tuple(self, n):
@@ -822,7 +826,7 @@ class Elaborator:
         for name, variables, cons in d[1]:
             self.made([x for x in self.t.types if x not in self.t.built], [name], types)
             self.distinct(variables)
-            self.made(self.t.symbols, [c for c, _ in cons], symbols)
+            self.made(self.t.symbols, [x for c, fields in cons for x in [c, *(y for names, _ in fields for y in names)]], symbols)
         self.raise_first()
         self.tuples_of(d)
         for (_, name), variables, cons in d[1]:
@@ -831,7 +835,7 @@ class Elaborator:
         for _, variables, cons in d[1]:
             self.variables = [x for _, x in variables]
             for _, fields in cons:
-                for f in fields:
+                for _, f in fields:
                     self.check_form(f)
         self.raise_first()
         text = ""
@@ -841,8 +845,9 @@ class Elaborator:
             own = ("a", k, [("v", i) for i in range(len(variables))])
             text += f"@{k}"
             for (_, c), fields in cons:
-                types = [self.meaning(f) for f in fields]
-                n = self.t.constructor("T", c, len(variables), own, types)
+                words = [x for names, _ in fields for _, x in names or [(0, None)]]
+                types = [self.meaning(f) for names, f in fields for _ in names or [0]]
+                n = self.t.constructor("T", c, len(variables), own, types, words)
                 self.t.symbols[c] = n
                 text += f"c{n}" + self.show_types(types) + "".join(f"^{n + 1 + i}" for i in range(len(types)))
         (_, name), variables, _ = d[1][0]
@@ -1076,7 +1081,7 @@ class Generator:
             return ["app", self.r.choice(own), []]
         if t == INT:
             return ["int", self.r.randint(0, 9)]
-        known = [s for s in self.symbols_for(t, ("function", "constructor")) if s[0] not in dict(env)]
+        known = [s for s in self.symbols_for(t, ("function", "constructor", "projection")) if s[0] not in dict(env)]
         flat = [s for s in known if not s[1][4]]
         if flat or known:
             return self.apply(*self.r.choice(flat or known), env, 0)
@@ -1091,7 +1096,7 @@ class Generator:
             return self.smallest(t, env)
         k = self.r.random()
         if k < 0.55:
-            known = [s for s in self.symbols_for(t, ("function", "constructor")) if s[0] not in dict(env)]
+            known = [s for s in self.symbols_for(t, ("function", "constructor", "projection")) if s[0] not in dict(env)]
             if t[0] == "a" and self.t.entries[t[1]][1].startswith("tuple") and self.chance(0.6):
                 return ["tup", [self.term(s, env, depth - 1) for s in t[2]]]
             if known:
@@ -1230,11 +1235,17 @@ class Generator:
             self.t.types[x] = ("entry", 0, len(vs))
         pool = [x for x in "ABCDEFGH" if x not in self.t.symbols]
         r.shuffle(pool)
+        words = [x for x in "cdefghpq" if x not in self.t.symbols]
+        r.shuffle(words)
         made = []
         for x, vs in heads:
             made.append([x, vs, []])
             for _ in range(r.randint(1, 2)):
-                made[-1][2].append([pool.pop(), [self.form(1, vs) for _ in range(r.randint(0, 2))]])
+                fields = []
+                for _ in range(r.randint(0, 2)):
+                    count = 0 if len(words) < 4 or self.chance(0.6) else r.choice([1, 1, 2])
+                    fields.append([[words.pop() for _ in range(count)], self.form(1, vs)])
+                made[-1][2].append([pool.pop(), fields])
         self.t.types = kept
         return ["alg", made]
 
