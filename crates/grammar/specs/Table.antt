@@ -35,12 +35,17 @@ atype_productions = production t.TyVar [] ∷ production t.Lident []
 
 -- After a parenthesis stand names and their type, or types.
 abbrev pub param_productions : List Production
-param_productions = (production t.LParen (s.Pparen ∷ []) ∷ []) ++ with_symbols_after atype_productions []
+param_productions =
+    (production t.LParen (s.Pparen ∷ []) ∷ []) ++ with_symbols_after atype_productions []
 
 abbrev pub fields_productions : List Production
 fields_productions = (production t.Bar (s.Take t.Uident ∷ s.Fields ∷ [])
     ∷ production t.WithWord (s.Take t.Lident ∷ s.Algvars ∷ []) ∷ [])
     ++ with_symbols_after param_productions (s.Fields ∷ [])
+
+-- a field of a record with its type
+abbrev pub record_field_productions : List Production
+record_field_productions = production t.Lident (s.Take t.Colon ∷ s.TypeOf ∷ []) ∷ []
 
 abbrev pub op_productions : List Production
 op_productions =
@@ -123,12 +128,20 @@ productions s.Decls = production t.EndWord []
 productions s.Tvars = production t.TyVar (s.Tvars ∷ []) ∷ production t.Equal (s.Typedef ∷ []) ∷ []
 productions s.Typedef = production t.TyVar [] ∷ production t.Lident (s.Targs ∷ [])
     ∷ production t.LParen (s.Ttuple ∷ []) ∷ production t.Uident (s.Upper ∷ [])
-    ∷ production t.Bar (s.Take t.Uident ∷ s.Fields ∷ []) ∷ []
+    ∷ production t.Bar (s.Take t.Uident ∷ s.Fields ∷ [])
+    ∷ production t.LBrace (s.RecordField ∷ s.RecordRest ∷ []) ∷ []
 productions s.Upper =
     (production t.Dot (s.Qlid ∷ s.Targs ∷ []) ∷ []) ++ with_symbols_after fields_productions []
 productions s.Algvars = production t.TyVar (s.Algvars ∷ []) ∷ production t.Equal (s.Con ∷ []) ∷ []
 productions s.Con =
-    production t.Uident (s.Fields ∷ []) ∷ production t.Bar (s.Take t.Uident ∷ s.Fields ∷ []) ∷ []
+    production t.Uident (s.Fields ∷ []) ∷ production t.Bar (s.Take t.Uident ∷ s.Fields ∷ [])
+    ∷ production t.LBrace (s.RecordField ∷ s.RecordRest ∷ []) ∷ []
+productions s.RecordField = record_field_productions
+productions s.RecordRest =
+    production t.RBrace (s.Algs ∷ []) ∷ production t.Semi (s.RecordNext ∷ []) ∷ []
+productions s.RecordNext = (production t.RBrace (s.Algs ∷ []) ∷ [])
+    ++ with_symbols_after record_field_productions (s.RecordRest ∷ [])
+productions s.Algs = production t.WithWord (s.Take t.Lident ∷ s.Algvars ∷ []) ∷ []
 productions s.Op = op_productions
 productions s.Opname = production t.Equal (s.Opend ∷ []) ∷ production t.Minus (s.Opend ∷ [])
     ∷ production t.Operator1 (s.Opend ∷ []) ∷ production t.Operator2 (s.Opend ∷ [])
@@ -245,6 +258,9 @@ shortest s.Decls = t.EndWord ∷ []
 shortest s.Typedef = t.Lident ∷ []
 shortest s.Algvars = t.Equal ∷ t.Uident ∷ []
 shortest s.Con = t.Uident ∷ []
+shortest s.RecordField = t.Lident ∷ t.Colon ∷ t.Lident ∷ []
+shortest s.RecordRest = t.RBrace ∷ []
+shortest s.RecordNext = t.RBrace ∷ []
 shortest s.Op = t.StarName ∷ []
 shortest s.Opname = t.Minus ∷ t.RParen ∷ []
 shortest s.Opend = t.RParen ∷ []
@@ -304,11 +320,15 @@ abbrev pub leftovers : Symbol → List Symbol
 leftovers (s.Expr m) = s.Args ∷ s.Scoped ∷ s.Tail 0 9 ∷ []
 leftovers (s.Tail m u) = s.Args ∷ s.Scoped ∷ s.Tail 0 9 ∷ []
 leftovers s.File = s.File ∷ []
-leftovers s.Tvars = s.Fields ∷ s.Targs ∷ s.Tvars ∷ s.Upper ∷ []
-leftovers s.Typedef = s.Fields ∷ s.Targs ∷ s.Upper ∷ []
-leftovers s.Upper = s.Fields ∷ s.Targs ∷ s.Upper ∷ []
-leftovers s.Algvars = s.Fields ∷ []
-leftovers s.Con = s.Fields ∷ []
+leftovers s.Tvars = s.Algs ∷ s.Fields ∷ s.Targs ∷ s.Tvars ∷ s.Upper ∷ []
+leftovers s.Typedef = s.Algs ∷ s.Fields ∷ s.Targs ∷ s.Upper ∷ []
+leftovers s.Upper = s.Algs ∷ s.Fields ∷ s.Targs ∷ s.Upper ∷ []
+leftovers s.Algvars = s.Algs ∷ s.Fields ∷ []
+leftovers s.Con = s.Algs ∷ s.Fields ∷ []
+leftovers s.RecordField = s.Targs ∷ []
+leftovers s.RecordRest = s.Algs ∷ s.Fields ∷ []
+leftovers s.RecordNext = s.Algs ∷ s.Fields ∷ s.Targs ∷ []
+leftovers s.Algs = s.Algs ∷ s.Fields ∷ []
 leftovers s.Params = s.Params ∷ []
 leftovers s.Body = s.Args ∷ s.Body ∷ s.Members ∷ s.Scoped ∷ s.Tail 0 9 ∷ []
 leftovers s.Members = s.Args ∷ s.Members ∷ s.Scoped ∷ s.Tail 0 9 ∷ []
@@ -337,7 +357,7 @@ leftovers s.Binder = s.Args ∷ s.Scoped ∷ s.Tail 0 9 ∷ []
 leftovers s.Binders = s.Args ∷ s.Scoped ∷ s.Tail 0 9 ∷ []
 leftovers s.Trigger = s.Args ∷ s.Scoped ∷ s.Tail 0 9 ∷ []
 leftovers s.OpenForm = s.Args ∷ s.Scoped ∷ s.Tail 0 9 ∷ []
-leftovers s.Fields = s.Fields ∷ []
+leftovers s.Fields = s.Algs ∷ s.Fields ∷ []
 leftovers s.Patom = s.Quids ∷ []
 leftovers s.Prim = s.Args ∷ s.Scoped ∷ []
 leftovers s.Scoped = s.Scoped ∷ []

@@ -75,6 +75,7 @@ pub fn may_be_empty(symbol: Symbol) -> bool
             | Symbol::File
             | Symbol::Tvars
             | Symbol::Upper
+            | Symbol::Algs
             | Symbol::Params
             | Symbol::Body
             | Symbol::Members

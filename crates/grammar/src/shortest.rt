@@ -54,6 +54,8 @@ fn shortest_of(rule: Symbol) -> &'static [T]
         Symbol::Binders => &[T::Dot, T::StarName],
         Symbol::Trigger => &[T::RBrack, T::Dot, T::StarName],
         Symbol::OpenForm => &[T::ExistsWord, T::Lident, T::Dot, T::StarName],
+        Symbol::RecordField => &[T::Lident, T::Colon, T::Lident],
+        Symbol::RecordRest | Symbol::RecordNext => &[T::RBrace],
         Symbol::Patom => &[T::Lident],
         Symbol::Prim => &[T::StarName],
         Symbol::Qhead => &[T::StarName],

@@ -39,13 +39,31 @@ const DECLS: [Row; 12] = [
     (T::CloneWord, &[Cloned, Decls]),
 ];
 
-const TYPEDEF: [Row; 5] = [
+const TYPEDEF: [Row; 6] = [
     (T::TyVar, &[]),
     (T::Lident, &[Targs]),
     (T::LParen, &[Ttuple]),
     (T::Uident, &[Upper]),
     (T::Bar, &[Take(T::Uident), Fields]),
+    (T::LBrace, &[RecordField, RecordRest]),
 ];
+
+const CON: [Row; 3] = [
+    (T::Uident, &[Fields]),
+    (T::Bar, &[Take(T::Uident), Fields]),
+    (T::LBrace, &[RecordField, RecordRest]),
+];
+
+const RECORD_FIELD: [Row; 1] = [(T::Lident, &[COLON, TypeOf])];
+
+const RECORD_REST: [Row; 2] = [(T::RBrace, &[Algs]), (T::Semi, &[RecordNext])];
+
+const RECORD_NEXT: [Row; 2] = [
+    (T::RBrace, &[Algs]),
+    (T::Lident, &[COLON, TypeOf, RecordRest]),
+];
+
+const ALGS: [Row; 1] = [(T::WithWord, &[Take(T::Lident), Algvars])];
 
 const UPPER: [Row; 8] = [
     (T::Dot, &[Qlid, Targs]),
@@ -451,7 +469,7 @@ pub fn rows_of(rule: Symbol) -> &'static [Row]
         Typedef => &TYPEDEF,
         Upper => &UPPER,
         Algvars => &[(T::TyVar, &[Algvars]), (T::Equal, &[Con])],
-        Con => &[(T::Uident, &[Fields]), (T::Bar, &[Take(T::Uident), Fields])],
+        Con => &CON,
         Op => &[(T::Lident, &[]), (T::StarName, &[]), (T::LParen, &[Opname])],
         Opname => &OPNAME,
         Opend => &[(T::RParen, &[]), (T::Wild, &[Take(T::RParen)])],
@@ -502,6 +520,10 @@ pub fn rows_of(rule: Symbol) -> &'static [Row]
         Trigger => &TRIGGER,
         OpenForm => &OPEN,
         Fields => &FIELDS,
+        RecordField => &RECORD_FIELD,
+        RecordRest => &RECORD_REST,
+        RecordNext => &RECORD_NEXT,
+        Algs => &ALGS,
         Patom => &PATOM,
         Prim => &PRIM,
         Scoped => &[(T::Dot, &[Qhead])],

@@ -1,11 +1,11 @@
 -- Which declarations, theories and files tokens can stand for, and where their parts stand.
-use Rattle.std.specs.Prelude.{ℕ, ◌+◌, ◌≡◌, List, [], ◌∷◌, Option, Some, None}
+use Rattle.std.specs.Prelude.{ℕ, ◌+◌, ◌≡◌, Bool, false, List, [], ◌∷◌, Option, Some, None}
 use Rattle.surface.specs.Common.{⊤, Name, Link}
 use Rattle.surface.specs.declared.declarations.Link.TheVariants as lk
 use Rattle.surface.specs.Lexeme.{at}
 use Rattle.surface.specs.Forms.{Own, lower, upper, Called, write_called, SyntaxForm, write_form, type_forms, IsForm, IsFormPart, IsHead, past, IsPlaced}
 use Rattle.surface.specs.Trees.{SyntaxTree, name_row, type_part, bar_before, IsOwn, IsLevel, IsTypePart, HasSome, IsPlacedTree, PlacedNames, PlacedPart}
-use Rattle.surface.specs.Declarations.{ParamGroup, Member, Constructor, Algebraic, Clause, Inductive, Element, type_element, symbol_element, prop_element, all_axioms, SyntaxDeclaration, SyntaxDeclarations, type_decl, algebraic_decl, function_decl, predicate_decl, constant_decl, inductive_decl, prop_decl, use_decl, clone_decl, scope_decl, no_decls, more_decls, SyntaxTheory, variable_row, write_param, param_row, definition, write_member, write_constructor, write_algebraic, write_clause, write_inductive, link_words, write_path, renamed, write_element, write_decl, write_theory}
+use Rattle.surface.specs.Declarations.{ParamGroup, Member, Constructor, Algebraic, Clause, Inductive, Element, type_element, symbol_element, prop_element, all_axioms, SyntaxDeclaration, SyntaxDeclarations, type_decl, algebraic_decl, function_decl, predicate_decl, constant_decl, inductive_decl, prop_decl, use_decl, clone_decl, scope_decl, no_decls, more_decls, SyntaxTheory, variable_row, write_param, param_row, definition, write_member, write_constructor, write_field, write_algebraic, write_clause, write_inductive, link_words, write_path, renamed, write_element, write_decl, write_theory}
 
 -- the name of a symbol may be an operator, that of a proposition is of either case
 abbrev pub IsSymbolName : Own → Type 0
@@ -53,9 +53,24 @@ abbrev pub AreConstructors : List Constructor → Type 0
 AreConstructors [] = ⊤
 AreConstructors (c ∷ cs) = AreParams c.fields × AreConstructors cs
 
+-- each field of a record has one name
+abbrev pub IsOneName : List Name → Type 0
+IsOneName (n ∷ []) = ⊤
+IsOneName _ = ⊥
+
+abbrev pub AreFields : List ParamGroup → Type 0
+AreFields [] = ⊤
+AreFields (p ∷ ps) = IsOneName p.names × IsForm type_forms p.of_type × AreFields ps
+
+-- constructors, or the fields of a record
+abbrev pub IsTypeBody : Bool → List Constructor → List ParamGroup → Bool → Type 0
+IsTypeBody bar cs [] semi = HasSome cs × AreConstructors cs × (semi ≡ false)
+IsTypeBody bar cs (p ∷ ps) semi = AreFields (p ∷ ps) × (cs ≡ []) × (bar ≡ false)
+
 abbrev pub AreAlgebraic : List Algebraic → Type 0
 AreAlgebraic [] = ⊤
-AreAlgebraic (a ∷ as_) = HasSome a.constructors × AreConstructors a.constructors × AreAlgebraic as_
+AreAlgebraic (a ∷ as_) =
+    IsTypeBody a.bar a.constructors a.fields a.semi × AreAlgebraic as_
 
 abbrev pub AreClauses : List Clause → Type 0
 AreClauses [] = ⊤
@@ -136,10 +151,18 @@ PlacedConstructors i (c ∷ cs) =
     (c.name.at ≡ i) × PlacedParams (i + 1) c.fields
     × PlacedConstructors (past i (write_constructor c) + 1) cs
 
+abbrev pub PlacedFields : ℕ → List ParamGroup → Type 0
+PlacedFields i [] = ⊤
+PlacedFields i (p ∷ ps) = PlacedNames i p.names × IsPlaced (past i (name_row p.names) + 1) p.of_type
+    × PlacedFields (past i (write_field p) + 1) ps
+
+abbrev pub PlacedTypeBody : ℕ → Bool → List Constructor → List ParamGroup → Type 0
+PlacedTypeBody i bar cs [] = PlacedConstructors (past i (bar_before bar)) cs
+PlacedTypeBody i bar cs (p ∷ ps) = PlacedFields (i + 1) (p ∷ ps)
+
 abbrev pub PlacedAlgebraic : ℕ → Algebraic → Type 0
 PlacedAlgebraic i a = (a.name.at ≡ i) × PlacedNames (i + 1) a.vars
-    × PlacedConstructors (past (past (i + 1) (variable_row a.vars) + 1) (bar_before a.bar))
-    a.constructors
+    × PlacedTypeBody (past (i + 1) (variable_row a.vars) + 1) a.bar a.constructors a.fields
 
 abbrev pub PlacedAlgebraics : ℕ → List Algebraic → Type 0
 PlacedAlgebraics i [] = ⊤

@@ -28,11 +28,14 @@ pub record Constructor : Type 0 where
   pub name : Name
   pub fields : List ParamGroup
 
+-- an algebraic type by its constructors, or a record type by its fields, each with one name
 pub record Algebraic : Type 0 where
   pub name : Name
   pub vars : List Name
   pub bar : Bool
   pub constructors : List Constructor
+  pub fields : List ParamGroup
+  pub semi : Bool
 
 pub record Clause : Type 0 where
   pub name : Called
@@ -118,10 +121,28 @@ abbrev pub constructor_list : List Constructor → List Lexeme
 constructor_list [] = []
 constructor_list (c ∷ cs) = write_constructor c ++ constructor_tail cs
 
+-- the fields of a record, each with its type, and semicolons between
+abbrev pub write_field : ParamGroup → List Lexeme
+write_field p = name_row p.names ++ (mark t.Colon ∷ write_form p.of_type)
+
+abbrev pub field_tail : List ParamGroup → List Lexeme
+field_tail [] = []
+field_tail (p ∷ ps) = mark t.Semi ∷ (write_field p ++ field_tail ps)
+
+abbrev pub semicolon_after : Bool → List Lexeme
+semicolon_after true = mark t.Semi ∷ []
+semicolon_after false = []
+
+abbrev pub write_type_body : Bool → List Constructor → List ParamGroup → Bool → List Lexeme
+write_type_body bar cs [] semi = bar_before bar ++ constructor_list cs
+write_type_body bar cs (p ∷ ps) semi =
+    mark t.LBrace ∷ (write_field p ++ (field_tail ps
+    ++ (semicolon_after semi ++ (mark t.RBrace ∷ []))))
+
 abbrev pub write_algebraic : Algebraic → List Lexeme
 write_algebraic a = lx t.Lident a.name.text
-    ∷ (variable_row a.vars ++ (mark t.Equal
-    ∷ (bar_before a.bar ++ constructor_list a.constructors)))
+    ∷ (variable_row a.vars
+    ++ (mark t.Equal ∷ write_type_body a.bar a.constructors a.fields a.semi))
 
 abbrev pub algebraic_tail : List Algebraic → List Lexeme
 algebraic_tail [] = []

@@ -50,8 +50,14 @@ abbrev pub constructor_of : ConTree → Constructor
 constructor_of c = record { name = c.name; fields = map param_of c.fields }
 
 abbrev pub algebraic_of : AlgTree → Algebraic
-algebraic_of a =
-    record { name = a.name; vars = a.vars; bar = a.bar; constructors = map constructor_of a.cons }
+algebraic_of a = record {
+  name = a.name;
+  vars = a.vars;
+  bar = a.bar;
+  constructors = map constructor_of a.cons;
+  fields = map param_of a.fields;
+  semi = a.semi;
+}
 
 abbrev pub clause_of : ClauseTree → Clause
 clause_of c = record { name = plain_name c.name; prop = tree_of c.prop }

@@ -59,13 +59,17 @@ pub enum DeclNode {
     ScopeDecl(Name, Seq<DeclTree>),
 }
 
-/// An algebraic type; `bar` says that a `|` is before the first constructor.
+/// An algebraic type by its constructors, where `bar` says that a `|` is before the first one; or
+/// a record type by its fields, each with one name, where `semi` says that a `;` is after the last
+/// one. Where there are fields, there are no constructors.
 #[derive(Drop)]
 pub struct AlgTree {
     pub name: Name,
     pub vars: Seq<Name>,
     pub bar: bool,
     pub cons: Seq<ConTree>,
+    pub fields: Seq<ParamTree>,
+    pub semi: bool,
 }
 
 /// A constructor with its fields, which are written as parameters are: each type alone, or with the names of its fields.

@@ -1,5 +1,5 @@
 -- The tokens of types' declarations, members, clauses, links and substitutions are read as them.
-use Rattle.grammar.proofs.reading.Common.{◌≡◌, ℕ, ◌+◌, Bool, true, false, cond, List, [], ◌∷◌, ◌++◌, Option, Some, None, option_map, refl, sym, ap, ◌∙◌, subst, append_assoc, same, is_tail, same_true, no_false, Symbol, Name, Lexeme, Word, at, lx, mark, name, SyntaxForm, SyntaxForms, IsForm, IsHead, IsPlaced, Own, aliased, called, composed, enclosed, form_row, lower, past, scoped, type_variable, type_forms, upper, variable, wild, write_called, write_form, write_own, HasSome, IsLevel, IsPlacedTree, IsTypePart, PlacedNames, PlacedPart, SyntaxTree, bar_before, type_part, write, Algebraic, Clause, Constructor, Inductive, Member, clause_list, clause_tail, constructor_list, constructor_tail, definition, inductive_tail, other_members, param_row, variable_row, write_inductive, write_member, AreClauses, AreConstructors, AreInductive, AreMembers, AreParams, IsDefined, IsOptionalDefinition, IsNewSymbol, IsProp, PlacedClauses, PlacedConstructors, PlacedDefinition, PlacedInductive, PlacedInductives, PlacedMembers, ClausesPart, FieldsPart, TypePart, UpperPart, fields_of, is_algebraic, is_alias, scope_of, with_clause, ReadingRow, Vals, extend, row, then_row, upper_own, rows, blank, by_row, find, values_over, read, with_blank}
+use Rattle.grammar.proofs.reading.Common.{◌≡◌, ℕ, ◌+◌, Bool, true, false, cond, List, [], ◌∷◌, ◌++◌, Option, Some, None, option_map, refl, sym, ap, ◌∙◌, subst, append_assoc, same, is_tail, same_true, no_false, Symbol, Name, Lexeme, Word, at, lx, mark, name, SyntaxForm, SyntaxForms, IsForm, IsHead, IsPlaced, Own, aliased, called, composed, enclosed, form_row, lower, past, scoped, type_variable, type_forms, upper, variable, wild, write_called, write_form, write_own, HasSome, IsLevel, IsPlacedTree, IsTypePart, PlacedNames, PlacedPart, SyntaxTree, bar_before, type_part, write, Algebraic, Clause, Constructor, Inductive, Member, clause_list, clause_tail, constructor_list, constructor_tail, definition, inductive_tail, other_members, param_row, variable_row, write_inductive, write_member, AreClauses, AreConstructors, AreInductive, AreMembers, AreParams, IsDefined, IsOptionalDefinition, IsNewSymbol, IsProp, PlacedClauses, PlacedConstructors, PlacedDefinition, PlacedInductive, PlacedInductives, PlacedMembers, ClausesPart, FieldsPart, TypePart, UpperPart, fields_of, is_algebraic, is_alias, scope_of, with_clause, ReadingRow, Vals, extend, row, then_row, upper_own, rows, blank, by_row, find, values_over, read, with_blank, ParamGroup, IsTypeBody, PlacedTypeBody, write_type_body}
 use Rattle.tokens_why.specs.declared.terminal.Terminal.TheVariants as t
 use Rattle.grammar.specs.declared.symbols.Symbol.TheVariants as s
 use Rattle.grammar.proofs.reading.Reading.{Reads, Stops, find_apart, find_extend, fused, passed, past-append}
@@ -9,7 +9,7 @@ use Rattle.grammar.proofs.reading.Operands.{reads_mark, whole_by}
 use Rattle.grammar.proofs.reading.TreesRead.{reads_expr}
 use Rattle.grammar.proofs.reading.DeclTokens.{function_past, member_past}
 use Rattle.grammar.proofs.reading.Ends.{Ends}
-use Rattle.grammar.proofs.reading.PartsRead.{con_tail, reads_fields, reads_id, reads_op, reads_params}
+use Rattle.grammar.proofs.reading.PartsRead.{con_tail, reads_fields, reads_id, reads_op, reads_params, reads_braced}
 
 -- a whole expression before what is no operator
 pub expr_then : (e : SyntaxTree) (zs : List Lexeme) (i : ℕ) (top : Symbol) (k : List Symbol) (vs : Vals (top ∷ k)) → is_tail top ≡ false → IsLevel e → IsPlacedTree i e → Follow 0 zs → Reads (top ∷ k) zs (past i (write e)) vs → Reads (s.Expr 0 ∷ top ∷ k) (write e ++ zs) i (e, vs)
@@ -54,10 +54,17 @@ typedef_alias (wild a) zs i k vs l p n h = elim l [ ]
 typedef_alias (variable a m) zs i k vs l p n h = elim l [ ]
 typedef_alias (aliased a f m) zs i k vs l p n h = elim l.0 [ ]
 
-pub typedef_con : (bar : Bool) (cs : List Constructor) (as_ : List Algebraic) (zs : List Lexeme) (i : ℕ) (k : List Symbol) (vs : Vals (s.Decls ∷ k)) → HasSome cs → AreConstructors cs → PlacedConstructors (past i (bar_before bar)) cs → Reads (s.Fields ∷ s.Decls ∷ k) zs (past (past i (bar_before bar)) (constructor_list cs)) (record { fields = []; constructors = []; others = as_ }, vs) → Reads (s.Typedef ∷ s.Decls ∷ k) (bar_before bar ++ (constructor_list cs ++ zs)) i (is_algebraic (record { bar = bar; constructors = cs; others = as_ }), vs)
+typedef_con : (bar : Bool) (cs : List Constructor) (as_ : List Algebraic) (zs : List Lexeme) (i : ℕ) (k : List Symbol) (vs : Vals (s.Decls ∷ k)) → HasSome cs → AreConstructors cs → PlacedConstructors (past i (bar_before bar)) cs → Reads (s.Fields ∷ s.Decls ∷ k) zs (past (past i (bar_before bar)) (constructor_list cs)) (record { fields = []; constructors = []; others = as_ }, vs) → Reads (s.Typedef ∷ s.Decls ∷ k) (bar_before bar ++ (constructor_list cs ++ zs)) i (is_algebraic (record { bar = bar; constructors = cs; fields = []; semi = false; others = as_ }), vs)
 typedef_con bar [] as_ zs i k vs e l p h = elim e [ ]
-typedef_con true (c ∷ cs) as_ zs i k vs e l p h = rw (append_assoc (param_row c.fields) (constructor_tail cs) zs, reads_fields c.fields cs as_ (constructor_tail cs ++ zs) (i + 1 + 1) (s.Decls ∷ k) vs l.0 p.1 (con_tail cs as_ zs (past (i + 1 + 1) (param_row c.fields)) (s.Decls ∷ k) vs l.1 p.2 (rw past-append at h))) (ap (λ v. Some (is_algebraic (record { bar = true; constructors = record { name = name v c.name.text; fields = c.fields } ∷ cs; others = as_ }), vs)) (sym p.0))
-typedef_con false (c ∷ cs) as_ zs i k vs e l p h = rw (append_assoc (param_row c.fields) (constructor_tail cs) zs, upper_fields (param_row c.fields ++ (constructor_tail cs ++ zs)) (i + 1) k (record { fields = c.fields; constructors = cs; others = as_ }, vs) (reads_fields c.fields cs as_ (constructor_tail cs ++ zs) (i + 1) (s.Decls ∷ k) vs l.0 p.1 (con_tail cs as_ zs (past (i + 1) (param_row c.fields)) (s.Decls ∷ k) vs l.1 p.2 (rw past-append at h)))) (ap (λ v. Some (is_algebraic (record { bar = false; constructors = record { name = name v c.name.text; fields = c.fields } ∷ cs; others = as_ }), vs)) (sym p.0))
+typedef_con true (c ∷ cs) as_ zs i k vs e l p h = rw (append_assoc (param_row c.fields) (constructor_tail cs) zs, reads_fields c.fields cs as_ (constructor_tail cs ++ zs) (i + 1 + 1) (s.Decls ∷ k) vs l.0 p.1 (con_tail cs as_ zs (past (i + 1 + 1) (param_row c.fields)) (s.Decls ∷ k) vs l.1 p.2 (rw past-append at h))) (ap (λ v. Some (is_algebraic (record { bar = true; constructors = record { name = name v c.name.text; fields = c.fields } ∷ cs; fields = []; semi = false; others = as_ }), vs)) (sym p.0))
+typedef_con false (c ∷ cs) as_ zs i k vs e l p h = rw (append_assoc (param_row c.fields) (constructor_tail cs) zs, upper_fields (param_row c.fields ++ (constructor_tail cs ++ zs)) (i + 1) k (record { fields = c.fields; constructors = cs; others = as_ }, vs) (reads_fields c.fields cs as_ (constructor_tail cs ++ zs) (i + 1) (s.Decls ∷ k) vs l.0 p.1 (con_tail cs as_ zs (past (i + 1) (param_row c.fields)) (s.Decls ∷ k) vs l.1 p.2 (rw past-append at h)))) (ap (λ v. Some (is_algebraic (record { bar = false; constructors = record { name = name v c.name.text; fields = c.fields } ∷ cs; fields = []; semi = false; others = as_ }), vs)) (sym p.0))
+
+pub typedef_body : (bar : Bool) (cs : List Constructor) (fs : List ParamGroup) (semi : Bool) (as_ : List Algebraic) (zs : List Lexeme) (i : ℕ) (k : List Symbol) (vs : Vals (s.Decls ∷ k)) → IsTypeBody bar cs fs semi → PlacedTypeBody i bar cs fs → Reads (s.Fields ∷ s.Decls ∷ k) zs (past i (write_type_body bar cs fs semi)) (record { fields = []; constructors = []; others = as_ }, vs) → Reads (s.Algs ∷ s.Decls ∷ k) zs (past i (write_type_body bar cs fs semi)) (as_, vs) → Reads (s.Typedef ∷ s.Decls ∷ k) (write_type_body bar cs fs semi ++ zs) i (is_algebraic (record { bar = bar; constructors = cs; fields = fs; semi = semi; others = as_ }), vs)
+typedef_body bar cs [] false as_ zs i k vs l p h g = rw (append_assoc (bar_before bar) (constructor_list cs) zs) (typedef_con bar cs as_ zs i k vs l.0 l.1 p (rw past-append at h))
+typedef_body bar cs [] true as_ zs i k vs l p h g = absurd (no_false (sym l.2))
+typedef_body false [] (q ∷ ps) semi as_ zs i k vs l p h g = rw (reads_braced q ps semi as_ zs (i + 1) (s.Decls ∷ k) vs l.0 p g) refl
+typedef_body false (c ∷ cs) (q ∷ ps) semi as_ zs i k vs l p h g = cc
+typedef_body true cs (q ∷ ps) semi as_ zs i k vs l p h g = absurd (no_false (sym l.2))
 
 pub reads_tvars : (ns : List Name) (d : Option TypePart) (zs : List Lexeme) (i : ℕ) (k : List Symbol) (vs : Vals k) → PlacedNames i ns → Reads (s.Tvars ∷ k) zs (past i (variable_row ns)) (record { vars = []; equation = d }, vs) → Reads (s.Tvars ∷ k) (variable_row ns ++ zs) i (record { vars = ns; equation = d }, vs)
 reads_tvars [] d zs i k vs p h = h

@@ -47,5 +47,8 @@ pub path_row : (w : Word) (ws : List Word) → HasSome ws → path_from w ws ≡
 path_row w [] h = elim h [ ]
 path_row w (v ∷ ws) h = refl
 
-pub alg_whole : (a b c d ys : List Lexeme) → ((a ++ (mark t.Equal ∷ (b ++ c))) ++ d) ++ ys ≡ a ++ (mark t.Equal ∷ (b ++ (c ++ (d ++ ys))))
-alg_whole a b c d ys = simp append_assoc
+pub alg_whole : (a b c ys : List Lexeme) → ((a ++ (mark t.Equal ∷ b)) ++ c) ++ ys ≡ a ++ (mark t.Equal ∷ (b ++ (c ++ ys)))
+alg_whole a b c ys = simp append_assoc
+
+pub fields_whole : (a b c ys : List Lexeme) → (a ++ (b ++ (c ++ (mark t.RBrace ∷ [])))) ++ ys ≡ a ++ (b ++ (c ++ (mark t.RBrace ∷ ys)))
+fields_whole a b c ys = simp append_assoc

@@ -1,5 +1,5 @@
 -- The tokens of links, substitutions, declarations and files are read as them.
-use Rattle.grammar.proofs.reading.Common.{◌≡◌, ℕ, ◌+◌, Bool, true, false, List, [], ◌∷◌, ◌++◌, Option, Some, None, refl, sym, ap, ◌∙◌, subst, append_assoc, Terminal, Symbol, Name, Lexeme, Word, at, lx, mark, name, Called, SyntaxForm, IsForm, IsHead, IsPlaced, Own, called, lower, past, scoped, type_forms, write_called, write_form, write_own, HasSome, IsLevel, IsPlacedTree, IsTypePart, PlacedNames, PlacedPart, SyntaxTree, bar_before, write, Link, SyntaxDeclaration, SyntaxDeclarations, Element, Member, SyntaxTheory, algebraic_decl, algebraic_tail, all_axioms, clause_list, clone_decl, constant_decl, constructor_list, definition, element_tail, function_decl, heading, inductive_decl, inductive_tail, link_words, more_decls, no_decls, other_members, param_row, path_from, predicate_decl, prop_decl, prop_element, renamed, scope_decl, substitution, symbol_element, type_decl, type_element, type_equation, use_decl, variable_row, write_decl, write_decls, write_element, write_file, write_inductive, write_path, AreElements, AreLevelDecls, IsElement, IsLevelDecl, IsLevelFile, IsLink, IsNewProp, IsSymbolName, PlacedDecl, PlacedDecls, PlacedElement, PlacedElements, PlacedFile, PlacedInductives, PlacedRenamed, is_algebraic, is_alias, ReadingRow, Vals, axioms_own, cloned, use_part, rows, find, read}
+use Rattle.grammar.proofs.reading.Common.{◌≡◌, ℕ, ◌+◌, Bool, true, false, List, [], ◌∷◌, ◌++◌, Option, Some, None, refl, sym, ap, ◌∙◌, subst, append_assoc, Terminal, Symbol, Name, Lexeme, Word, at, lx, mark, name, Called, SyntaxForm, IsForm, IsHead, IsPlaced, Own, called, lower, past, scoped, type_forms, write_called, write_form, write_own, HasSome, IsLevel, IsPlacedTree, IsTypePart, PlacedNames, PlacedPart, SyntaxTree, bar_before, write, Link, SyntaxDeclaration, SyntaxDeclarations, Element, Member, SyntaxTheory, algebraic_decl, algebraic_tail, all_axioms, clause_list, clone_decl, constant_decl, definition, element_tail, function_decl, heading, inductive_decl, inductive_tail, link_words, more_decls, no_decls, other_members, param_row, path_from, predicate_decl, prop_decl, prop_element, renamed, scope_decl, substitution, symbol_element, type_decl, type_element, type_equation, use_decl, variable_row, write_decl, write_decls, write_element, write_file, write_inductive, write_path, AreElements, AreLevelDecls, IsElement, IsLevelDecl, IsLevelFile, IsLink, IsNewProp, IsSymbolName, PlacedDecl, PlacedDecls, PlacedElement, PlacedElements, PlacedFile, PlacedInductives, PlacedRenamed, is_algebraic, is_alias, ReadingRow, Vals, axioms_own, cloned, use_part, rows, find, read, write_type_body}
 use Rattle.tokens_why.specs.declared.terminal.Terminal.TheVariants as t
 use Rattle.grammar.specs.declared.symbols.Symbol.TheVariants as s
 use Rattle.surface.specs.declared.declarations.PropKind.TheVariants as pk
@@ -11,8 +11,8 @@ use Rattle.grammar.proofs.reading.Operands.{both_right, past_op, reads_mark}
 use Rattle.grammar.proofs.reading.OpenBuilt.{list_past}
 use Rattle.grammar.proofs.reading.DeclTokens.{alg_whole, constant_past, function_past, three_row, clone_row}
 use Rattle.grammar.proofs.reading.Ends.{Ends, next_ends}
-use Rattle.grammar.proofs.reading.PartsRead.{alg_tail, elem_vars, reads_id, reads_op, reads_params, reads_path, reads_qid, reads_qop, reads_renamed}
-use Rattle.grammar.proofs.reading.BodiesRead.{expr_then, ind_follow, ind_tail, ind_tokens_of, reads_body, reads_inductive, reads_tvars, reads_value, typedef_alias, typedef_con}
+use Rattle.grammar.proofs.reading.PartsRead.{others_read, elem_vars, reads_id, reads_op, reads_params, reads_path, reads_qid, reads_qop, reads_renamed}
+use Rattle.grammar.proofs.reading.BodiesRead.{expr_then, ind_follow, ind_tail, ind_tokens_of, reads_body, reads_inductive, reads_tvars, reads_value, typedef_alias, typedef_body}
 
 -- links
 used_named : (l : Link) (w : Word) (ws : List Word) (n : Option Name) (zs : List Lexeme) (i : ℕ) (k : List Symbol) (vs : Vals k) → IsLink l n → PlacedRenamed (past (past i (link_words l)) (path_from w ws)) n → Stops s.Renamed zs → Reads k zs (past (past (past i (link_words l)) (path_from w ws)) (renamed n)) vs → Reads (s.Used ∷ k) (link_words l ++ (path_from w ws ++ (renamed n ++ zs))) i (use_part l (record { at = past i (link_words l); parts = w ∷ ws }) n, vs)
@@ -120,14 +120,13 @@ mutual
   pub reads_decl : (d : SyntaxDeclaration) (ds : SyntaxDeclarations) (zs : List Lexeme) (i : ℕ) (k : List Symbol) (vs : Vals k) → IsLevelDecl d → PlacedDecl i d → Ends zs → Reads (s.Decls ∷ k) zs (past i (write_decl d)) (ds, vs) → Reads (s.Decls ∷ k) (write_decl d ++ zs) i (more_decls d ds, vs)
   reads_decl (type_decl a n ns f) ds zs i k vs l p m h = rw (append_assoc (variable_row ns) (type_equation f) zs, p.0) (decl_equation n ns f zs i k (ds, vs) l p.1 p.2 p.3 m (rw past-append at h))
   reads_decl (algebraic_decl a []) ds zs i k vs l p m h = elim l.0 [ ]
-  reads_decl (algebraic_decl a (b ∷ as_)) ds zs i k vs l p m h = rw (
-    alg_whole (variable_row b.vars) (bar_before b.bar) (constructor_list b.constructors) (algebraic_tail as_) zs,
+  reads_decl (algebraic_decl a (b ∷ as_)) ds zs i k vs l p m h = let r = others_read as_ zs (past (past (i + 1 + 1) (variable_row b.vars) + 1) (write_type_body b.bar b.constructors b.fields b.semi)) (s.Decls ∷ k) (ds, vs) l.1.1 (rw past-append at p.1.1) m.no_fields m.no_algs (rw (past-append, past-append) at h) in rw (
+    alg_whole (variable_row b.vars) (write_type_body b.bar b.constructors b.fields b.semi) (algebraic_tail as_) zs,
     p.0,
-    reads_tvars b.vars (Some (is_algebraic (record { bar = b.bar; constructors = b.constructors; others = as_ }))) (mark t.Equal ∷ (bar_before b.bar ++ (constructor_list b.constructors ++ (algebraic_tail as_ ++ zs)))) (i + 1 + 1) (s.Decls ∷ k) (ds, vs) p.1.0.1
-        (rw (typedef_con b.bar b.constructors as_ (algebraic_tail as_ ++ zs) (past (i + 1 + 1) (variable_row b.vars) + 1) k (ds, vs) l.1.0 l.1.1 p.1.0.2
-        (alg_tail as_ zs (past (past (past (i + 1 + 1) (variable_row b.vars) + 1) (bar_before b.bar)) (constructor_list b.constructors)) (s.Decls ∷ k) (ds, vs) l.1.2 (rw (past-append, past-append) at p.1.1) m.no_fields (rw (past-append, past-append, past-append) at h))) refl),
+    reads_tvars b.vars (Some (is_algebraic (record { bar = b.bar; constructors = b.constructors; fields = b.fields; semi = b.semi; others = as_ }))) (mark t.Equal ∷ (write_type_body b.bar b.constructors b.fields b.semi ++ (algebraic_tail as_ ++ zs))) (i + 1 + 1) (s.Decls ∷ k) (ds, vs) p.1.0.1
+        (rw (typedef_body b.bar b.constructors b.fields b.semi as_ (algebraic_tail as_ ++ zs) (past (i + 1 + 1) (variable_row b.vars) + 1) k (ds, vs) l.1.0 p.1.0.2 r.0 r.1) refl),
   )
-      (ap (λ v. Some (more_decls (algebraic_decl (at i) (record { name = name v b.name.text; vars = b.vars; bar = b.bar; constructors = b.constructors } ∷ as_)) ds, vs)) (sym p.1.0.0))
+      (ap (λ v. Some (more_decls (algebraic_decl (at i) (record { name = name v b.name.text; vars = b.vars; bar = b.bar; constructors = b.constructors; fields = b.fields; semi = b.semi } ∷ as_)) ds, vs)) (sym p.1.0.0))
   reads_decl (function_decl a c ps f e ms) ds zs i k vs l p m h = rw (
     function_tokens (write_called c) (param_row ps) (write_form f) (definition e) (other_members ms) zs,
     p.0,

@@ -1,12 +1,29 @@
 -- What the rules of declarations may be read as, and the tokens of that.
-use Rattle.grammar.proofs.reading.Common.{◌≡◌, ℕ, ◌+◌, Bool, false, List, [], ◌∷◌, ◌++◌, Option, Some, None, ⊤, Name, Lexeme, lx, mark, AreForms, AreParts, Called, SyntaxForm, SyntaxForms, IsForm, IsPlaced, PlacedList, PlacedRow, form_list, form_row, form_tail, past, scoped, type_forms, write_called, write_form, HasSome, IsLevel, IsPlacedTree, IsTypePart, PlacedNames, PlacedPart, SyntaxTree, bar_before, ends_open, name_row, type_part, write, Algebraic, Constructor, Element, Inductive, Member, algebraic_tail, clause_list, clause_tail, constructor_list, constructor_tail, definition, inductive_tail, link_words, other_members, param_row, renamed, substitution, variable_row, write_path, AreAlgebraic, AreClauses, AreConstructors, AreElements, AreInductive, AreMembers, AreParams, IsDefined, IsLink, IsProp, PlacedAlgebraics, PlacedClauses, PlacedConstructors, PlacedDefinition, PlacedElements, PlacedInductives, PlacedMembers, PlacedParams, PlacedRenamed, AlgPart, BodyPart, ClausePart, ClausesPart, ClonedPart, ConPart, FieldsPart, MemberPart, NamePart, ParamPart, TvarsPart, TypePart, UpperPart, UsedPart, VarsPart, fields_of, is_algebraic, is_alias, name_names, name_types, param_names, param_types, scope_of}
+use Rattle.grammar.proofs.reading.Common.{◌≡◌, ℕ, ◌+◌, Bool, true, false, List, [], ◌∷◌, ◌++◌, Option, Some, None, ⊤, Name, Lexeme, lx, mark, AreForms, AreParts, Called, SyntaxForm, SyntaxForms, IsForm, IsPlaced, PlacedList, PlacedRow, form_list, form_row, form_tail, past, scoped, type_forms, write_called, write_form, HasSome, IsLevel, IsPlacedTree, IsTypePart, PlacedNames, PlacedPart, SyntaxTree, bar_before, ends_open, name_row, type_part, write, Algebraic, Constructor, Element, Inductive, Member, algebraic_tail, clause_list, clause_tail, constructor_list, constructor_tail, definition, inductive_tail, link_words, other_members, param_row, renamed, substitution, variable_row, write_path, AreAlgebraic, AreClauses, AreConstructors, AreElements, AreInductive, AreMembers, AreParams, IsDefined, IsLink, IsProp, PlacedAlgebraics, PlacedClauses, PlacedConstructors, PlacedDefinition, PlacedElements, PlacedInductives, PlacedMembers, PlacedParams, PlacedRenamed, AlgPart, BodyPart, ClausePart, ClausesPart, ClonedPart, ConPart, FieldsPart, MemberPart, NamePart, ParamPart, TvarsPart, TypePart, UpperPart, UsedPart, VarsPart, fields_of, is_algebraic, is_alias, name_names, name_types, param_names, param_types, scope_of, IsOneName, AreFields, PlacedFields, ParamGroup, RecordPart, write_field, field_tail, semicolon_after}
 use Rattle.tokens_why.specs.declared.terminal.Terminal.TheVariants as t
 
 abbrev pub write_fields : FieldsPart → List Lexeme
 write_fields p = param_row p.fields ++ (constructor_tail p.constructors ++ algebraic_tail p.others)
 
+abbrev pub write_rest_of : List ParamGroup → Bool → List Algebraic → List Lexeme
+write_rest_of ps semi as_ = field_tail ps ++ (semicolon_after semi ++ (mark t.RBrace ∷ algebraic_tail as_))
+
+abbrev pub write_record_rest : RecordPart → List Lexeme
+write_record_rest r = write_rest_of r.fields r.semi r.others
+
+abbrev pub write_next_of : List ParamGroup → Bool → List Algebraic → List Lexeme
+write_next_of [] semi as_ = mark t.RBrace ∷ algebraic_tail as_
+write_next_of (p ∷ ps) semi as_ = write_field p ++ write_rest_of ps semi as_
+
+abbrev pub write_record_next : RecordPart → List Lexeme
+write_record_next r = write_next_of r.fields r.semi r.others
+
+abbrev pub write_con_of : Bool → List Constructor → List ParamGroup → Bool → List Algebraic → List Lexeme
+write_con_of bar cs [] semi as_ = bar_before bar ++ (constructor_list cs ++ algebraic_tail as_)
+write_con_of bar cs (p ∷ ps) semi as_ = mark t.LBrace ∷ (write_field p ++ write_rest_of ps semi as_)
+
 abbrev pub write_con : ConPart → List Lexeme
-write_con c = bar_before c.bar ++ (constructor_list c.constructors ++ algebraic_tail c.others)
+write_con c = write_con_of c.bar c.constructors c.fields c.semi c.others
 
 abbrev pub write_alg : AlgPart → List Lexeme
 write_alg a = variable_row a.vars ++ (mark t.Equal ∷ write_con a.con)
@@ -78,8 +95,28 @@ IsFields i p = AreParams p.fields × PlacedParams i p.fields × IsFieldsRest (pa
 abbrev pub IsConRest : ℕ → List Constructor → List Algebraic → Type 0
 IsConRest i cs as_ = HasSome cs × AreConstructors cs × PlacedConstructors i cs × AreOthers (past i (constructor_list cs)) as_
 
+abbrev pub IsField : ℕ → ParamGroup → Type 0
+IsField i p = IsOneName p.names × IsForm type_forms p.of_type × PlacedNames i p.names × IsPlaced (past i (name_row p.names) + 1) p.of_type
+
+abbrev pub IsRestOf : ℕ → List ParamGroup → Bool → List Algebraic → Type 0
+IsRestOf i ps semi as_ = AreFields ps × PlacedFields (i + 1) ps × AreOthers (past (past i (field_tail ps)) (semicolon_after semi) + 1) as_
+
+abbrev pub IsRecordRest : ℕ → RecordPart → Type 0
+IsRecordRest i r = IsRestOf i r.fields r.semi r.others
+
+abbrev pub IsNextOf : ℕ → List ParamGroup → Bool → List Algebraic → Type 0
+IsNextOf i [] semi as_ = (semi ≡ true) × AreOthers (i + 1) as_
+IsNextOf i (p ∷ ps) semi as_ = IsField i p × IsRestOf (past i (write_field p)) ps semi as_
+
+abbrev pub IsRecordNext : ℕ → RecordPart → Type 0
+IsRecordNext i r = IsNextOf i r.fields r.semi r.others
+
+abbrev pub IsConOf : ℕ → Bool → List Constructor → List ParamGroup → Bool → List Algebraic → Type 0
+IsConOf i bar cs [] semi as_ = IsConRest (past i (bar_before bar)) cs as_ × (semi ≡ false)
+IsConOf i bar cs (p ∷ ps) semi as_ = (cs ≡ []) × (bar ≡ false) × IsField (i + 1) p × IsRestOf (past (i + 1) (write_field p)) ps semi as_
+
 abbrev pub IsCon : ℕ → ConPart → Type 0
-IsCon i c = IsConRest (past i (bar_before c.bar)) c.constructors c.others
+IsCon i c = IsConOf i c.bar c.constructors c.fields c.semi c.others
 
 abbrev pub IsAlg : ℕ → AlgPart → Type 0
 IsAlg i a = PlacedNames i a.vars × IsCon (past i (variable_row a.vars) + 1) a.con

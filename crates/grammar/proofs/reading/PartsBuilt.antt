@@ -1,9 +1,9 @@
 -- What is read as part of a declaration is right.
-use Rattle.grammar.proofs.reading.Common.{◌≡◌, ℕ, ◌+◌, Bool, true, false, List, [], ◌∷◌, ◌++◌, Option, Some, None, refl, sym, ap, ◌∙◌, subst, append_assoc, Name, Lexeme, Word, lx, mark, name, Called, form_list, form_row, form_tail, more_forms, no_forms, past, scoped, write_called, write_form, IsOwn, OperatorToken, bar_before, type_part, write, algebraic_tail, constructor_list, constructor_tail, other_members, param_row, variable_row, write_algebraic, write_member, write_param, AreAlgebraic, IsSymbolName, IsTypedParam, PlacedAlgebraics, PlacedMembers, PlacedTyped, own_op, AlgPart, FieldsPart, NamePart, ParamPart, UpperPart, name_before, behind_paren, fields_of, name_names, name_types, new_algebraic, new_constructor, new_member, param, param_names, param_types, prop_called, scope_of, upper_type, extend, tmore_rows, pname_args, rows}
+use Rattle.grammar.proofs.reading.Common.{◌≡◌, ℕ, ◌+◌, Bool, true, false, List, [], ◌∷◌, ◌++◌, Option, Some, None, refl, sym, ap, ◌∙◌, subst, append_assoc, Name, Lexeme, Word, lx, mark, name, Called, form_list, form_row, form_tail, more_forms, no_forms, past, scoped, write_called, write_form, IsOwn, OperatorToken, bar_before, type_part, write, algebraic_tail, constructor_list, constructor_tail, other_members, param_row, variable_row, write_algebraic, write_member, write_param, AreAlgebraic, IsSymbolName, IsTypedParam, PlacedAlgebraics, PlacedMembers, PlacedTyped, own_op, AlgPart, FieldsPart, NamePart, ParamPart, UpperPart, name_before, behind_paren, fields_of, name_names, name_types, new_algebraic, new_constructor, new_member, param, param_names, param_types, prop_called, scope_of, upper_type, extend, tmore_rows, pname_args, rows, no_false, Algebraic, Constructor, ParamGroup, IsTypeBody, PlacedTypeBody, next_field, write_field, field_tail, semicolon_after, write_type_body}
 use Rattle.tokens_why.specs.declared.terminal.Terminal.TheVariants as t
 use Rattle.grammar.specs.declared.symbols.Symbol.TheVariants as s
 use Rattle.grammar.proofs.reading.Reading.{past-append}
-use Rattle.grammar.proofs.reading.DeclsRight.{IsAlg, IsConRest, IsFields, IsPname, IsPparen, IsPropAt, IsQids, IsType, IsUpper, write_alg, write_con, write_fields, write_member_part, write_pname, write_pparen, write_qids, write_type, write_upper}
+use Rattle.grammar.proofs.reading.DeclsRight.{IsAlg, IsConRest, IsFields, IsPname, IsPparen, IsPropAt, IsQids, IsType, IsUpper, write_alg, write_con, write_fields, write_member_part, write_pname, write_pparen, write_qids, write_type, write_upper, IsConOf, IsNextOf, IsRestOf, write_con_of, write_next_of, write_record_next, write_record_rest, write_rest_of}
 use Rattle.grammar.proofs.reading.Good.{◌▸◌, AllRows, Good, extend_ok}
 use Rattle.grammar.proofs.reading.FormsBuilt.{atype_ok, tmore_ok, ttuple_ok}
 use Rattle.grammar.proofs.reading.OpenBuilt.{list_past, list_tokens}
@@ -17,14 +17,29 @@ con_levels i n p a h = (tt, (h.0, h.2.0), (a, h.1, h.2.1), rw past-append h.2.2)
 pub con_tokens : (n : Name) (p : FieldsPart) → constructor_list (new_constructor n p ∷ p.constructors) ++ algebraic_tail p.others ≡ lx t.Uident n.text ∷ write_fields p
 con_tokens n p = ap (λ v. lx t.Uident n.text ∷ v) (append_assoc (param_row p.fields) (constructor_tail p.constructors) (algebraic_tail p.others))
 
+-- constructors or the fields of a record, and then other types
+body_levels : (i : ℕ) (bar : Bool) (cs : List Constructor) (fs : List ParamGroup) (semi : Bool) (as_ : List Algebraic) → IsConOf i bar cs fs semi as_ → IsTypeBody bar cs fs semi × PlacedTypeBody i bar cs fs × AreAlgebraic as_ × PlacedAlgebraics (past i (write_type_body bar cs fs semi) + 1) as_
+body_levels i bar cs [] semi as_ h = ((h.0.0, h.0.1, h.1), h.0.2, h.0.3.0, subst (λ j. PlacedAlgebraics (j + 1) as_) (sym (past-append (bar_before bar) (constructor_list cs) i)) h.0.3.1)
+body_levels i bar cs (p ∷ ps) semi as_ h = (
+  ((h.2.0, h.2.1, h.3.0), h.0, h.1),
+  (h.2.2, h.2.3, h.3.1),
+  h.3.2.0,
+  subst (λ j. PlacedAlgebraics (j + 1) as_) (sym (past-append (write_field p) (field_tail ps ++ (semicolon_after semi ++ (mark t.RBrace ∷ []))) (i + 1) ∙ three_row (field_tail ps) (semicolon_after semi) (mark t.RBrace ∷ []) (past (i + 1) (write_field p)))) h.3.2.1,
+)
+
+body_tokens : (bar : Bool) (cs : List Constructor) (fs : List ParamGroup) (semi : Bool) (as_ : List Algebraic) → write_type_body bar cs fs semi ++ algebraic_tail as_ ≡ write_con_of bar cs fs semi as_
+body_tokens bar cs [] semi as_ = append_assoc (bar_before bar) (constructor_list cs) (algebraic_tail as_)
+body_tokens bar cs (p ∷ ps) semi as_ = ap (λ v. mark t.LBrace ∷ v) (grouped (write_field p) (field_tail ps) (semicolon_after semi) (algebraic_tail as_))
+  where
+    grouped : (a b c d : List Lexeme) → (a ++ (b ++ (c ++ (mark t.RBrace ∷ [])))) ++ d ≡ a ++ (b ++ (c ++ (mark t.RBrace ∷ d)))
+    grouped a b c d = simp append_assoc
+
 pub alg_levels : (i : ℕ) (n : Name) (a : AlgPart) → n.at ≡ i → IsAlg (i + 1) a → AreAlgebraic (new_algebraic n a.vars a.con ∷ a.con.others) × PlacedAlgebraics i (new_algebraic n a.vars a.con ∷ a.con.others)
-alg_levels i n a b h = ((h.1.0, h.1.1, h.1.3.0), ((b, h.0, h.1.2), subst (λ j. PlacedAlgebraics (j + 1) a.con.others) (sym (past-append (variable_row a.vars) (mark t.Equal ∷ (bar_before a.con.bar ++ constructor_list a.con.constructors)) (i + 1) ∙ past-append (bar_before a.con.bar) (constructor_list a.con.constructors) (past (i + 1) (variable_row a.vars) + 1))) h.1.3.1))
+alg_levels i n a b h = let l = body_levels (past (i + 1) (variable_row a.vars) + 1) a.con.bar a.con.constructors a.con.fields a.con.semi a.con.others h.1 in
+    ((l.0, l.2), ((b, h.0, l.1), subst (λ j. PlacedAlgebraics (j + 1) a.con.others) (sym (past-append (variable_row a.vars) (mark t.Equal ∷ write_type_body a.con.bar a.con.constructors a.con.fields a.con.semi) (i + 1))) l.3))
 
 pub alg_tokens : (n : Name) (a : AlgPart) → write_algebraic (new_algebraic n a.vars a.con) ++ algebraic_tail a.con.others ≡ lx t.Lident n.text ∷ write_alg a
-alg_tokens n a = ap (λ v. lx t.Lident n.text ∷ v) (grouped (variable_row a.vars) (bar_before a.con.bar) (constructor_list a.con.constructors) (algebraic_tail a.con.others))
-  where
-    grouped : (a b c d : List Lexeme) → (a ++ (mark t.Equal ∷ (b ++ c))) ++ d ≡ a ++ (mark t.Equal ∷ (b ++ (c ++ d)))
-    grouped a b c d = simp append_assoc
+alg_tokens n a = ap (λ v. lx t.Lident n.text ∷ v) (append_assoc (variable_row a.vars) (mark t.Equal ∷ write_type_body a.con.bar a.con.constructors a.con.fields a.con.semi) (algebraic_tail a.con.others) ∙ ap (λ v. variable_row a.vars ++ (mark t.Equal ∷ v)) (body_tokens a.con.bar a.con.constructors a.con.fields a.con.semi a.con.others))
 
 pub tvars_ok : AllRows s.Tvars (rows s.Tvars)
 tvars_ok = (λ k i w xs vs p (ys, n, e, g). (ys, ((refl, n.0), n.1), ap (λ v. lx t.TyVar w ∷ v) e, g))
@@ -34,15 +49,37 @@ tvars_ok = (λ k i w xs vs p (ys, n, e, g). (ys, ((refl, n.0), n.1), ap (λ v. l
 -- a type or a constructor with its fields
 pub upper_is : (i : ℕ) (w : Word) (u : UpperPart) → IsUpper (i + 1) u → IsType i (upper_type i w u) × (write_type (upper_type i w u) ≡ lx t.Uident w ∷ write_upper u)
 upper_is i w (scope_of d ts) h = (((tt, h.0), (refl, refl, h.1)), refl)
-upper_is i w (fields_of p) h = (con_levels i (name i w) p refl h, con_tokens (name i w) p)
+upper_is i w (fields_of p) h = ((con_levels i (name i w) p refl h, refl), con_tokens (name i w) p)
 
 pub typedef_ok : AllRows s.Typedef (rows s.Typedef)
 typedef_ok = (λ k i w xs vs p g. (xs, (tt, refl), refl, g))
     ▸ (λ k i w xs vs p (ys, m, e, g). (ys, ((tt, m.0), (refl, refl, m.1)), ap (λ v. lx t.Lident w ∷ v) e, g))
     ▸ (λ k i w xs vs p (ys, m, e, g). (ys, (m.0, (refl, m.1)), begins t.LParen w xs ((form_list vs.0 ++ (mark t.RParen ∷ [])) ++ ys) p e, g))
     ▸ (λ k i w xs vs p (ys, m, e, g). (let r = upper_is i w vs.0 m in (ys, r.0, ap (λ v. lx t.Uident w ∷ v) e ∙ ap (λ v. v ++ ys) (sym r.1), subst (λ v. Good false k (past i v) ys vs.1) (sym r.1) g)))
-    ▸ (λ k i w xs vs p (ys, m, e, (zs, n, d, g)). (zs, con_levels (i + 1) vs.0 vs.1.0 m.0 n, begins t.Bar w xs ((constructor_list (new_constructor vs.0 vs.1.0 ∷ vs.1.0.constructors) ++ algebraic_tail vs.1.0.others) ++ zs) p (e ∙ ap (λ v. lx t.Uident vs.0.text ∷ v) d ∙ ap (λ v. v ++ zs) (sym (con_tokens vs.0 vs.1.0))), subst (λ v. Good false k (past (i + 1) v) zs vs.1.1) (sym (con_tokens vs.0 vs.1.0)) g))
+    ▸ (λ k i w xs vs p (ys, m, e, (zs, n, d, g)). (zs, (con_levels (i + 1) vs.0 vs.1.0 m.0 n, refl), begins t.Bar w xs ((constructor_list (new_constructor vs.0 vs.1.0 ∷ vs.1.0.constructors) ++ algebraic_tail vs.1.0.others) ++ zs) p (e ∙ ap (λ v. lx t.Uident vs.0.text ∷ v) d ∙ ap (λ v. v ++ zs) (sym (con_tokens vs.0 vs.1.0))), subst (λ v. Good false k (past (i + 1) v) zs vs.1.1) (sym (con_tokens vs.0 vs.1.0)) g))
+    ▸ (λ k i w xs vs p (ys, m, e, (zs, n, d, g)). (zs, (refl, refl, m, n), begins t.LBrace w xs ((write_field vs.0 ++ write_record_rest vs.1.0) ++ zs) p (two_tokens (write_field vs.0) (write_record_rest vs.1.0) xs ys zs e d), subst (λ j. Good false k j zs vs.1.1) (sym (past-append (write_field vs.0) (write_record_rest vs.1.0) (i + 1))) g))
     ▸ tt
+
+-- fields of a record
+pub record_field_ok : AllRows s.RecordField (rows s.RecordField)
+record_field_ok = (λ k i w xs vs p (ys, m, e, (zs, n, d, g)). (zs, (tt, n.0, (refl, tt), n.1), ap (λ v. lx t.Lident w ∷ v) (marked_tokens t.Colon vs.0.text xs ys (write_form vs.1.0 ++ zs) e m.1 d), g), tt)
+
+next_is : (i : ℕ) (ps : List ParamGroup) (semi : Bool) (as_ : List Algebraic) → IsNextOf (i + 1) ps semi as_ → IsRestOf i ps semi as_ × (write_rest_of ps semi as_ ≡ mark t.Semi ∷ write_next_of ps semi as_)
+next_is i [] true as_ h = ((tt, tt, h.1), refl)
+next_is i [] false as_ h = absurd (no_false h.0)
+next_is i (p ∷ ps) semi as_ h = (((h.0.0, h.0.1, h.1.0), (h.0.2, h.0.3, h.1.1), rw past-append h.1.2), ap (λ v. mark t.Semi ∷ v) (append_assoc (write_field p) (field_tail ps) (semicolon_after semi ++ (mark t.RBrace ∷ algebraic_tail as_))))
+
+pub record_rest_ok : AllRows s.RecordRest (rows s.RecordRest)
+record_rest_ok = (λ k i w xs vs p (ys, n, e, g). (ys, (tt, tt, n), begins t.RBrace w xs (algebraic_tail vs.0 ++ ys) p e, g))
+    ▸ (λ k i w xs vs p (ys, m, e, g). (let r = next_is i vs.0.fields vs.0.semi vs.0.others m in (ys, r.0, begins t.Semi w xs (write_record_next vs.0 ++ ys) p e ∙ ap (λ v. v ++ ys) (sym r.1), subst (λ v. Good false k (past i v) ys vs.1) (sym r.1) g)))
+    ▸ tt
+
+pub record_next_ok : AllRows s.RecordNext (rows s.RecordNext)
+record_next_ok = (λ k i w xs vs p (ys, n, e, g). (ys, (refl, n), begins t.RBrace w xs (algebraic_tail vs.0 ++ ys) p e, g))
+    ▸ extend_ok s.RecordNext s.RecordField (s.RecordRest ∷ []) (λ v vs. next_field v vs.0) (rows s.RecordField) (λ k i xs v vs (ys, m, e, (zs, n, d, g)). (zs, (m, n), two_tokens (write_field v) (write_record_rest vs.0) xs ys zs e d, subst (λ j. Good false k j zs vs.1) (sym (past-append (write_field v) (write_record_rest vs.0) i)) g)) record_field_ok
+
+pub algs_ok : AllRows s.Algs (rows s.Algs)
+algs_ok = (λ k i w xs vs p (ys, m, e, (zs, n, d, g)). (zs, alg_levels (i + 1) vs.0 vs.1.0 m.0 n, begins t.WithWord w xs ((write_algebraic (new_algebraic vs.0 vs.1.0.vars vs.1.0.con) ++ algebraic_tail vs.1.0.con.others) ++ zs) p (e ∙ ap (λ v. lx t.Lident vs.0.text ∷ v) d ∙ ap (λ v. v ++ zs) (sym (alg_tokens vs.0 vs.1.0))), subst (λ v. Good false k (past (i + 1) v) zs vs.1.1) (sym (alg_tokens vs.0 vs.1.0)) g), tt)
 
 -- a parameter, or fields of one type
 pub param_is : (i : ℕ) (q : ParamPart) → IsPparen (i + 1) q → IsTypedParam (param i q).names (param i q).of_type × PlacedTyped i (param i q).names (param i q).of_type × (write_param (param i q) ≡ mark t.LParen ∷ write_pparen q)
@@ -70,8 +107,9 @@ algvars_ok = (λ k i w xs vs p (ys, n, e, g). (ys, ((refl, n.0), n.1), ap (λ v.
     ▸ tt
 
 pub con_ok : AllRows s.Con (rows s.Con)
-con_ok = (λ k i w xs vs p (ys, n, e, g). (ys, con_levels i (name i w) vs.0 refl n, ap (λ v. lx t.Uident w ∷ v) e ∙ ap (λ v. v ++ ys) (sym (con_tokens (name i w) vs.0)), subst (λ v. Good false k (past i v) ys vs.1) (sym (con_tokens (name i w) vs.0)) g))
-    ▸ (λ k i w xs vs p (ys, m, e, (zs, n, d, g)). (zs, con_levels (i + 1) vs.0 vs.1.0 m.0 n, begins t.Bar w xs ((constructor_list (new_constructor vs.0 vs.1.0 ∷ vs.1.0.constructors) ++ algebraic_tail vs.1.0.others) ++ zs) p (e ∙ ap (λ v. lx t.Uident vs.0.text ∷ v) d ∙ ap (λ v. v ++ zs) (sym (con_tokens vs.0 vs.1.0))), subst (λ v. Good false k (past (i + 1) v) zs vs.1.1) (sym (con_tokens vs.0 vs.1.0)) g))
+con_ok = (λ k i w xs vs p (ys, n, e, g). (ys, (con_levels i (name i w) vs.0 refl n, refl), ap (λ v. lx t.Uident w ∷ v) e ∙ ap (λ v. v ++ ys) (sym (con_tokens (name i w) vs.0)), subst (λ v. Good false k (past i v) ys vs.1) (sym (con_tokens (name i w) vs.0)) g))
+    ▸ (λ k i w xs vs p (ys, m, e, (zs, n, d, g)). (zs, (con_levels (i + 1) vs.0 vs.1.0 m.0 n, refl), begins t.Bar w xs ((constructor_list (new_constructor vs.0 vs.1.0 ∷ vs.1.0.constructors) ++ algebraic_tail vs.1.0.others) ++ zs) p (e ∙ ap (λ v. lx t.Uident vs.0.text ∷ v) d ∙ ap (λ v. v ++ zs) (sym (con_tokens vs.0 vs.1.0))), subst (λ v. Good false k (past (i + 1) v) zs vs.1.1) (sym (con_tokens vs.0 vs.1.0)) g))
+    ▸ (λ k i w xs vs p (ys, m, e, (zs, n, d, g)). (zs, (refl, refl, m, n), begins t.LBrace w xs ((write_field vs.0 ++ write_record_rest vs.1.0) ++ zs) p (two_tokens (write_field vs.0) (write_record_rest vs.1.0) xs ys zs e d), subst (λ j. Good false k j zs vs.1.1) (sym (past-append (write_field vs.0) (write_record_rest vs.1.0) (i + 1))) g))
     ▸ tt
 
 -- names

@@ -1,5 +1,5 @@
 -- The tokens of names, parameters, constructors and links are read as them.
-use Rattle.grammar.proofs.reading.Common.{◌≡◌, ℕ, ◌+◌, Bool, true, false, cond, List, [], ◌∷◌, ◌++◌, Option, Some, None, option_map, refl, sym, ap, subst, append_assoc, append-nil, same, same_true, Terminal, Symbol, Name, Lexeme, Word, at, lx, mark, name, Called, SyntaxForm, SyntaxForms, IsForm, IsHead, IsPlaced, Own, aliased, called, composed, enclosed, form_list, infix_op, lower, more_forms, no_forms, past, prefix_op, scoped, star, type_variable, type_forms, upper, variable, wild, write_called, write_form, write_own, HasSome, PlacedNames, bar_before, name_row, Algebraic, Constructor, ParamGroup, algebraic_tail, constructor_list, constructor_tail, param_row, path_from, renamed, typed_names, variable_row, write_param, AreAlgebraic, AreConstructors, AreParams, IsNewProp, IsNewSymbol, IsProp, IsSymbolName, IsTypedParam, PlacedAlgebraics, PlacedConstructors, PlacedParams, PlacedRenamed, PlacedTyped, ConPart, NamePart, behind_paren, lone, name_names, name_types, param_types, ReadingRow, Vals, row, opname_row, fields_own, pparen_own, qop_own, rows, find, read, with_blank}
+use Rattle.grammar.proofs.reading.Common.{◌≡◌, ℕ, ◌+◌, Bool, true, false, cond, List, [], ◌∷◌, ◌++◌, Option, Some, None, option_map, refl, sym, ap, subst, append_assoc, append-nil, same, same_true, Terminal, Symbol, Name, Lexeme, Word, at, lx, mark, name, Called, SyntaxForm, SyntaxForms, IsForm, IsHead, IsPlaced, Own, aliased, called, composed, enclosed, form_list, infix_op, lower, more_forms, no_forms, past, prefix_op, scoped, star, type_variable, type_forms, upper, variable, wild, write_called, write_form, write_own, HasSome, PlacedNames, bar_before, name_row, Algebraic, Constructor, ParamGroup, algebraic_tail, constructor_list, constructor_tail, param_row, path_from, renamed, typed_names, variable_row, write_param, AreAlgebraic, AreConstructors, AreParams, IsNewProp, IsNewSymbol, IsProp, IsSymbolName, IsTypedParam, PlacedAlgebraics, PlacedConstructors, PlacedParams, PlacedRenamed, PlacedTyped, ConPart, NamePart, behind_paren, lone, name_names, name_types, param_types, ReadingRow, Vals, row, opname_row, fields_own, pparen_own, qop_own, rows, find, read, with_blank, no_false, IsOneName, AreFields, IsTypeBody, PlacedFields, PlacedTypeBody, record_field, next_field, record_next_own, write_field, field_tail, semicolon_after, write_type_body, ◌∙◌}
 use Rattle.tokens_why.specs.declared.terminal.Terminal.TheVariants as t
 use Rattle.grammar.specs.declared.symbols.Symbol.TheVariants as s
 use Rattle.grammar.proofs.reading.Reading.{Extends, Reads, Stops, extended, extended_at, passed, past-append, unmapped}
@@ -7,7 +7,7 @@ use Rattle.grammar.proofs.reading.FormsRead.{reads_qlid, reads_tuple, reads_type
 use Rattle.grammar.proofs.reading.Operators.{reads_by}
 use Rattle.grammar.proofs.reading.TermRowsRead.{opname_found}
 use Rattle.grammar.proofs.reading.Operands.{both_right, past_op, reads_mark}
-use Rattle.grammar.proofs.reading.DeclTokens.{alg_whole}
+use Rattle.grammar.proofs.reading.DeclTokens.{alg_whole, fields_whole, three_row}
 
 -- names
 pub op_named : (qs : List Word) (o : Own) (zs : List Lexeme) (i : ℕ) (k : List Symbol) (vs : Vals k) → qs ≡ [] → IsSymbolName o → Reads k zs (past i (scoped qs ++ write_own o)) vs → Reads (s.Op ∷ k) ((scoped qs ++ write_own o) ++ zs) i (called i qs o, vs)
@@ -137,25 +137,75 @@ pub con_tail : (cs : List Constructor) (as_ : List Algebraic) (zs : List Lexeme)
 con_tail [] as_ zs i k vs l p h = h
 con_tail (c ∷ cs) as_ zs i k vs l p h = rw (append_assoc (param_row c.fields) (constructor_tail cs) zs, reads_fields c.fields cs as_ (constructor_tail cs ++ zs) (i + 1 + 1) k vs l.0 p.1 (con_tail cs as_ zs (past (i + 1 + 1) (param_row c.fields)) k vs l.1 p.2 (rw past-append at h))) (ap (λ v. Some (record { fields = []; constructors = record { name = name v c.name.text; fields = c.fields } ∷ cs; others = as_ }, vs)) (sym p.0))
 
+-- fields of a record
+reads_field : (ns : List Name) (f : SyntaxForm) (zs : List Lexeme) (i : ℕ) (k : List Symbol) (vs : Vals k) → IsOneName ns → IsForm type_forms f → PlacedNames i ns → IsPlaced (past i (name_row ns) + 1) f → Stops s.Targs zs → Reads k zs (past (past i (name_row ns) + 1) (write_form f)) vs → Reads (s.RecordField ∷ k) (name_row ns ++ (mark t.Colon ∷ (write_form f ++ zs))) i (record { names = ns; of_type = f }, vs)
+reads_field [] f zs i k vs o l p q n h = elim o [ ]
+reads_field (x ∷ []) f zs i k vs o l p q n h = rw (reads_mark t.Colon (write_form f ++ zs) (i + 1) (s.TypeOf ∷ k) (f, vs) (reads_type f zs (i + 1 + 1) k vs l q n h)) (ap (λ v. Some (record_field (name v x.text) f, vs)) (sym p.0))
+reads_field (x ∷ y ∷ ns) f zs i k vs o l p q n h = elim o [ ]
+
+field_then : (p : ParamGroup) (zs : List Lexeme) (i : ℕ) (k : List Symbol) (vs : Vals k) → IsOneName p.names → IsForm type_forms p.of_type → PlacedNames i p.names → IsPlaced (past i (name_row p.names) + 1) p.of_type → Stops s.Targs zs → Reads k zs (past i (write_field p)) vs → Reads (s.RecordField ∷ k) (write_field p ++ zs) i (p, vs)
+field_then p zs i k vs o l m q n h = rw (both_right (name_row p.names) (mark t.Colon) (write_form p.of_type) zs) (reads_field p.names p.of_type zs i k vs o l m q n (rw past_op at h))
+
+rest_stop : (ps : List ParamGroup) (semi : Bool) (zs : List Lexeme) → Stops s.Targs (field_tail ps ++ (semicolon_after semi ++ (mark t.RBrace ∷ zs)))
+rest_stop [] true zs = refl
+rest_stop [] false zs = refl
+rest_stop (p ∷ ps) semi zs = refl
+
+next_apart : (x : Terminal) (r : ReadingRow s.RecordField) → find (rows s.RecordField) x ≡ Some r → find record_next_own x ≡ None
+next_apart t.RBrace r h = cc
+next_apart _ r h = refl
+
+next_extend : Extends s.RecordNext s.RecordField (s.RecordRest ∷ []) (λ v vs. next_field v vs.0) record_next_own
+next_extend = record { is = refl; due = refl; apart = next_apart }
+
+reads_rest : (ps : List ParamGroup) (semi : Bool) (as_ : List Algebraic) (zs : List Lexeme) (i : ℕ) (k : List Symbol) (vs : Vals k) → AreFields ps → PlacedFields (i + 1) ps → Reads (s.Algs ∷ k) zs (past (past i (field_tail ps)) (semicolon_after semi) + 1) (as_, vs) → Reads (s.RecordRest ∷ k) (field_tail ps ++ (semicolon_after semi ++ (mark t.RBrace ∷ zs))) i (record { fields = ps; semi = semi; others = as_ }, vs)
+reads_rest [] true as_ zs i k vs l p h = rw h refl
+reads_rest [] false as_ zs i k vs l p h = rw h refl
+reads_rest (q ∷ ps) semi as_ zs i k vs l p h = rw (
+  append_assoc (write_field q) (field_tail ps) (semicolon_after semi ++ (mark t.RBrace ∷ zs)),
+  extended s.RecordNext s.RecordField (s.RecordRest ∷ []) (λ v vs. next_field v vs.0) record_next_own next_extend (write_field q ++ (field_tail ps ++ (semicolon_after semi ++ (mark t.RBrace ∷ zs)))) (i + 1) k q (record { fields = ps; semi = semi; others = as_ }, vs)
+      (field_then q (field_tail ps ++ (semicolon_after semi ++ (mark t.RBrace ∷ zs))) (i + 1) (s.RecordRest ∷ k) (record { fields = ps; semi = semi; others = as_ }, vs) l.0 l.1 p.0 p.1 (rest_stop ps semi zs)
+      (reads_rest ps semi as_ zs (past (i + 1) (write_field q)) k vs l.2 p.2 (rw past-append at h))),
+) refl
+
+-- after a record's brace
+pub reads_braced : (q : ParamGroup) (ps : List ParamGroup) (semi : Bool) (as_ : List Algebraic) (zs : List Lexeme) (i : ℕ) (k : List Symbol) (vs : Vals k) → AreFields (q ∷ ps) → PlacedFields i (q ∷ ps) → Reads (s.Algs ∷ k) zs (past i (write_field q ++ (field_tail ps ++ (semicolon_after semi ++ (mark t.RBrace ∷ []))))) (as_, vs) → Reads (s.RecordField ∷ s.RecordRest ∷ k) ((write_field q ++ (field_tail ps ++ (semicolon_after semi ++ (mark t.RBrace ∷ [])))) ++ zs) i (q, (record { fields = ps; semi = semi; others = as_ }, vs))
+reads_braced q ps semi as_ zs i k vs l p h = rw (fields_whole (write_field q) (field_tail ps) (semicolon_after semi) zs) (field_then q (field_tail ps ++ (semicolon_after semi ++ (mark t.RBrace ∷ zs))) i (s.RecordRest ∷ k) (record { fields = ps; semi = semi; others = as_ }, vs) l.0 l.1 p.0 p.1 (rest_stop ps semi zs)
+    (reads_rest ps semi as_ zs (past i (write_field q)) k vs l.2 p.2 (subst (λ j. Reads (s.Algs ∷ k) zs j (as_, vs)) (past-append (write_field q) (field_tail ps ++ (semicolon_after semi ++ (mark t.RBrace ∷ []))) i ∙ three_row (field_tail ps) (semicolon_after semi) (mark t.RBrace ∷ []) (past i (write_field q))) h)))
+
 -- after an algebraic type's equality sign
-pub reads_con : (bar : Bool) (cs : List Constructor) (as_ : List Algebraic) (zs : List Lexeme) (i : ℕ) (k : List Symbol) (vs : Vals k) → HasSome cs → AreConstructors cs → PlacedConstructors (past i (bar_before bar)) cs → Reads (s.Fields ∷ k) zs (past (past i (bar_before bar)) (constructor_list cs)) (record { fields = []; constructors = []; others = as_ }, vs) → Reads (s.Con ∷ k) (bar_before bar ++ (constructor_list cs ++ zs)) i (record { bar = bar; constructors = cs; others = as_ }, vs)
+reads_con : (bar : Bool) (cs : List Constructor) (as_ : List Algebraic) (zs : List Lexeme) (i : ℕ) (k : List Symbol) (vs : Vals k) → HasSome cs → AreConstructors cs → PlacedConstructors (past i (bar_before bar)) cs → Reads (s.Fields ∷ k) zs (past (past i (bar_before bar)) (constructor_list cs)) (record { fields = []; constructors = []; others = as_ }, vs) → Reads (s.Con ∷ k) (bar_before bar ++ (constructor_list cs ++ zs)) i (record { bar = bar; constructors = cs; fields = []; semi = false; others = as_ }, vs)
 reads_con bar [] as_ zs i k vs s l p h = elim s [ ]
-reads_con true (c ∷ cs) as_ zs i k vs e l p h = rw (append_assoc (param_row c.fields) (constructor_tail cs) zs, reads_fields c.fields cs as_ (constructor_tail cs ++ zs) (i + 1 + 1) k vs l.0 p.1 (con_tail cs as_ zs (past (i + 1 + 1) (param_row c.fields)) k vs l.1 p.2 (rw past-append at h))) (ap (λ v. Some (record { bar = true; constructors = record { name = name v c.name.text; fields = c.fields } ∷ cs; others = as_ }, vs)) (sym p.0))
-reads_con false (c ∷ cs) as_ zs i k vs e l p h = rw (append_assoc (param_row c.fields) (constructor_tail cs) zs, reads_fields c.fields cs as_ (constructor_tail cs ++ zs) (i + 1) k vs l.0 p.1 (con_tail cs as_ zs (past (i + 1) (param_row c.fields)) k vs l.1 p.2 (rw past-append at h))) (ap (λ v. Some (record { bar = false; constructors = record { name = name v c.name.text; fields = c.fields } ∷ cs; others = as_ }, vs)) (sym p.0))
+reads_con true (c ∷ cs) as_ zs i k vs e l p h = rw (append_assoc (param_row c.fields) (constructor_tail cs) zs, reads_fields c.fields cs as_ (constructor_tail cs ++ zs) (i + 1 + 1) k vs l.0 p.1 (con_tail cs as_ zs (past (i + 1 + 1) (param_row c.fields)) k vs l.1 p.2 (rw past-append at h))) (ap (λ v. Some (record { bar = true; constructors = record { name = name v c.name.text; fields = c.fields } ∷ cs; fields = []; semi = false; others = as_ }, vs)) (sym p.0))
+reads_con false (c ∷ cs) as_ zs i k vs e l p h = rw (append_assoc (param_row c.fields) (constructor_tail cs) zs, reads_fields c.fields cs as_ (constructor_tail cs ++ zs) (i + 1) k vs l.0 p.1 (con_tail cs as_ zs (past (i + 1) (param_row c.fields)) k vs l.1 p.2 (rw past-append at h))) (ap (λ v. Some (record { bar = false; constructors = record { name = name v c.name.text; fields = c.fields } ∷ cs; fields = []; semi = false; others = as_ }, vs)) (sym p.0))
+
+pub reads_body : (bar : Bool) (cs : List Constructor) (fs : List ParamGroup) (semi : Bool) (as_ : List Algebraic) (zs : List Lexeme) (i : ℕ) (k : List Symbol) (vs : Vals k) → IsTypeBody bar cs fs semi → PlacedTypeBody i bar cs fs → Reads (s.Fields ∷ k) zs (past i (write_type_body bar cs fs semi)) (record { fields = []; constructors = []; others = as_ }, vs) → Reads (s.Algs ∷ k) zs (past i (write_type_body bar cs fs semi)) (as_, vs) → Reads (s.Con ∷ k) (write_type_body bar cs fs semi ++ zs) i (record { bar = bar; constructors = cs; fields = fs; semi = semi; others = as_ }, vs)
+reads_body bar cs [] false as_ zs i k vs l p h g = rw (append_assoc (bar_before bar) (constructor_list cs) zs) (reads_con bar cs as_ zs i k vs l.0 l.1 p (rw past-append at h))
+reads_body bar cs [] true as_ zs i k vs l p h g = absurd (no_false (sym l.2))
+reads_body false [] (q ∷ ps) semi as_ zs i k vs l p h g = rw (reads_braced q ps semi as_ zs (i + 1) k vs l.0 p g) refl
+reads_body false (c ∷ cs) (q ∷ ps) semi as_ zs i k vs l p h g = cc
+reads_body true cs (q ∷ ps) semi as_ zs i k vs l p h g = absurd (no_false (sym l.2))
 
 pub reads_algvars : (ns : List Name) (c : ConPart) (zs : List Lexeme) (i : ℕ) (k : List Symbol) (vs : Vals k) → PlacedNames i ns → Reads (s.Con ∷ k) zs (past i (variable_row ns) + 1) (c, vs) → Reads (s.Algvars ∷ k) (variable_row ns ++ (mark t.Equal ∷ zs)) i (record { vars = ns; con = c }, vs)
 reads_algvars [] c zs i k vs p h = rw h refl
 reads_algvars (n ∷ ns) c zs i k vs p h = rw (reads_algvars ns c zs (i + 1) k vs p.1 h) (ap (λ v. Some (record { vars = name v n.text ∷ ns; con = c }, vs)) (sym p.0))
 
-pub alg_tail : (as_ : List Algebraic) (zs : List Lexeme) (i : ℕ) (k : List Symbol) (vs : Vals k) → AreAlgebraic as_ → PlacedAlgebraics (i + 1) as_ → Stops s.Fields zs → Reads k zs (past i (algebraic_tail as_)) vs → Reads (s.Fields ∷ k) (algebraic_tail as_ ++ zs) i (record { fields = []; constructors = []; others = as_ }, vs)
-alg_tail [] zs i k vs l p n h = passed s.Fields (record { fields = []; constructors = []; others = [] }) k zs i vs refl refl n h
-alg_tail (a ∷ as_) zs i k vs l p n h = rw (
-  alg_whole (variable_row a.vars) (bar_before a.bar) (constructor_list a.constructors) (algebraic_tail as_) zs,
-  reads_algvars a.vars (record { bar = a.bar; constructors = a.constructors; others = as_ }) (bar_before a.bar ++ (constructor_list a.constructors ++ (algebraic_tail as_ ++ zs))) (i + 1 + 1) k vs p.0.1
-      (reads_con a.bar a.constructors as_ (algebraic_tail as_ ++ zs) (past (i + 1 + 1) (variable_row a.vars) + 1) k vs l.0 l.1 p.0.2
-      (alg_tail as_ zs (past (past (past (i + 1 + 1) (variable_row a.vars) + 1) (bar_before a.bar)) (constructor_list a.constructors)) k vs l.2 (rw (past-append, past-append) at p.1) n (rw (past-append, past-append, past-append) at h))),
-)
-    (ap (λ v. Some (record { fields = []; constructors = []; others = record { name = name v a.name.text; vars = a.vars; bar = a.bar; constructors = a.constructors } ∷ as_ }, vs)) (sym p.0.0))
+abbrev renamed_first : Algebraic → List Algebraic → ℕ → List Algebraic
+renamed_first a as_ i = record { name = name i a.name.text; vars = a.vars; bar = a.bar; constructors = a.constructors; fields = a.fields; semi = a.semi } ∷ as_
+
+-- one type after `with` and its name, where what comes after it is read both ways
+pub alg_vars : (a : Algebraic) (as_ : List Algebraic) (zs : List Lexeme) (i : ℕ) (k : List Symbol) (vs : Vals k) → IsTypeBody a.bar a.constructors a.fields a.semi → PlacedNames i a.vars → PlacedTypeBody (past i (variable_row a.vars) + 1) a.bar a.constructors a.fields → Reads (s.Fields ∷ k) zs (past (past i (variable_row a.vars) + 1) (write_type_body a.bar a.constructors a.fields a.semi)) (record { fields = []; constructors = []; others = as_ }, vs) × Reads (s.Algs ∷ k) zs (past (past i (variable_row a.vars) + 1) (write_type_body a.bar a.constructors a.fields a.semi)) (as_, vs) → Reads (s.Algvars ∷ k) (variable_row a.vars ++ (mark t.Equal ∷ (write_type_body a.bar a.constructors a.fields a.semi ++ zs))) i (record { vars = a.vars; con = record { bar = a.bar; constructors = a.constructors; fields = a.fields; semi = a.semi; others = as_ } }, vs)
+alg_vars a as_ zs i k vs l p q r = reads_algvars a.vars (record { bar = a.bar; constructors = a.constructors; fields = a.fields; semi = a.semi; others = as_ }) (write_type_body a.bar a.constructors a.fields a.semi ++ zs) i k vs p
+    (reads_body a.bar a.constructors a.fields a.semi as_ zs (past i (variable_row a.vars) + 1) k vs l q r.0 r.1)
+
+-- other types after one by its constructors, and after a record
+pub others_read : (as_ : List Algebraic) (zs : List Lexeme) (i : ℕ) (k : List Symbol) (vs : Vals k) → AreAlgebraic as_ → PlacedAlgebraics (i + 1) as_ → Stops s.Fields zs → Stops s.Algs zs → Reads k zs (past i (algebraic_tail as_)) vs → Reads (s.Fields ∷ k) (algebraic_tail as_ ++ zs) i (record { fields = []; constructors = []; others = as_ }, vs) × Reads (s.Algs ∷ k) (algebraic_tail as_ ++ zs) i (as_, vs)
+others_read [] zs i k vs l p n m h = (passed s.Fields (record { fields = []; constructors = []; others = [] }) k zs i vs refl refl n h, passed s.Algs [] k zs i vs refl refl m h)
+others_read (a ∷ as_) zs i k vs l p n m h = let r = others_read as_ zs (past (past (i + 1 + 1) (variable_row a.vars) + 1) (write_type_body a.bar a.constructors a.fields a.semi)) k vs l.1 (rw past-append at p.1) n m (rw (past-append, past-append) at h) in
+    let b = alg_vars a as_ (algebraic_tail as_ ++ zs) (i + 1 + 1) k vs l.0 p.0.1 p.0.2 r in (
+      rw (alg_whole (variable_row a.vars) (write_type_body a.bar a.constructors a.fields a.semi) (algebraic_tail as_) zs, b) (ap (λ v. Some (record { fields = []; constructors = []; others = renamed_first a as_ v }, vs)) (sym p.0.0)),
+      rw (alg_whole (variable_row a.vars) (write_type_body a.bar a.constructors a.fields a.semi) (algebraic_tail as_) zs, b) (ap (λ v. Some (renamed_first a as_ v, vs)) (sym p.0.0)),
+    )
 
 -- paths and new names
 pub reads_path : (w : Word) (ws : List Word) (zs : List Lexeme) (i : ℕ) (k : List Symbol) (vs : Vals k) → Reads k zs (past i (path_from w ws)) vs → Reads (s.Path ∷ k) (path_from w ws ++ zs) i (record { at = i; parts = w ∷ ws }, vs)

@@ -1,5 +1,5 @@
 -- Each right file can be placed: one with the same tokens has its places.
-use Rattle.grammar.proofs.reading.Common.{◌≡◌, ℕ, ◌+◌, List, [], ◌∷◌, ◌++◌, Option, Some, None, refl, ap, Name, Link, Word, at, lx, mark, name, SyntaxForm, past, type_forms, write_called, write_form, HasSome, PlacedNames, IsTypePart, PlacedPart, SyntaxTree, bar_before, name_row, type_part, write, Algebraic, Clause, Constructor, SyntaxDeclaration, SyntaxDeclarations, Element, Inductive, Member, ParamGroup, SyntaxTheory, algebraic_decl, algebraic_list, algebraic_tail, all_axioms, clause_list, clause_tail, clone_decl, constant_decl, constructor_list, constructor_tail, definition, element_tail, function_decl, heading, inductive_decl, inductive_list, inductive_tail, link_words, more_decls, no_decls, other_members, param_row, predicate_decl, prop_decl, prop_element, prop_word, renamed, scope_decl, substitution, symbol_element, typed_names, type_decl, type_element, type_equation, use_decl, variable_row, write_algebraic, write_clause, write_constructor, write_decl, write_decls, write_element, write_file, write_inductive, write_member, write_param, write_path, write_theory, AreAlgebraic, AreClauses, AreConstructors, AreElements, AreInductive, AreLevelDecls, AreMembers, AreParams, IsDefined, IsOptionalDefinition, IsElement, IsLevelDecl, IsLevelFile, IsLink, IsMember, IsTypedParam, PlacedAlgebraics, PlacedClauses, PlacedConstructors, PlacedDecl, PlacedDecls, PlacedDefinition, PlacedElement, PlacedElements, PlacedFile, PlacedInductives, PlacedMember, PlacedMembers, PlacedParams, PlacedRenamed, PlacedTyped}
+use Rattle.grammar.proofs.reading.Common.{◌≡◌, ℕ, ◌+◌, List, [], ◌∷◌, ◌++◌, Option, Some, None, refl, ap, Name, Link, Word, at, lx, mark, name, SyntaxForm, past, type_forms, write_called, write_form, HasSome, PlacedNames, IsTypePart, PlacedPart, SyntaxTree, bar_before, name_row, type_part, write, Algebraic, Clause, Constructor, SyntaxDeclaration, SyntaxDeclarations, Element, Inductive, Member, ParamGroup, SyntaxTheory, algebraic_decl, algebraic_list, algebraic_tail, all_axioms, clause_list, clause_tail, clone_decl, constant_decl, constructor_list, constructor_tail, definition, element_tail, function_decl, heading, inductive_decl, inductive_list, inductive_tail, link_words, more_decls, no_decls, other_members, param_row, predicate_decl, prop_decl, prop_element, prop_word, renamed, scope_decl, substitution, symbol_element, typed_names, type_decl, type_element, type_equation, use_decl, variable_row, write_algebraic, write_clause, write_constructor, write_decl, write_decls, write_element, write_file, write_inductive, write_member, write_param, write_path, write_theory, AreAlgebraic, AreClauses, AreConstructors, AreElements, AreInductive, AreLevelDecls, AreMembers, AreParams, IsDefined, IsOptionalDefinition, IsElement, IsLevelDecl, IsLevelFile, IsLink, IsMember, IsTypedParam, PlacedAlgebraics, PlacedClauses, PlacedConstructors, PlacedDecl, PlacedDecls, PlacedDefinition, PlacedElement, PlacedElements, PlacedFile, PlacedInductives, PlacedMember, PlacedMembers, PlacedParams, PlacedRenamed, PlacedTyped, Bool, IsForm, IsPlaced, IsOneName, AreFields, IsTypeBody, PlacedFields, PlacedTypeBody, write_field, field_tail, write_type_body}
 use Rattle.tokens_why.specs.declared.terminal.Terminal.TheVariants as t
 use Rattle.surface.specs.declared.names.Path.{Path}
 use Rattle.surface.specs.declared.declarations.Link.TheVariants as lk
@@ -85,14 +85,47 @@ constructors_at i (c ∷ cs) h = let u = params_at (i + 1) c.fields h.0 in
     let r = constructors_at (past i (write_constructor (constructor (name i c.name.text) u.value)) + 1) cs h.1 in
     record { value = constructor (name i c.name.text) u.value ∷ r.value; right = (u.right, r.right); placed = (refl, u.placed, r.placed); tokens = join e r.tail; tail = behind (mark t.Bar) (join e r.tail); some = λ p. tt }
 
+-- a field of a record
+pub record FieldAt (i : ℕ) (p : ParamGroup) : Type 0 where
+  pub value : ParamGroup
+  pub one : IsOneName value.names
+  pub right : IsForm type_forms value.of_type
+  pub placed : PlacedNames i value.names × IsPlaced (past i (name_row value.names) + 1) value.of_type
+  pub tokens : write_field value ≡ write_field p
+
+field_at : (i : ℕ) (ns : List Name) (f : SyntaxForm) → IsOneName ns → IsForm type_forms f → FieldAt i (param ns f)
+field_at i [] f o h = absurd o
+field_at i (n ∷ []) f o h = let u = form_at type_forms (i + 1 + 1) f h in
+    record { value = param (name i n.text ∷ []) u.form; one = tt; right = u.right; placed = ((refl, tt), u.placed); tokens = behind (lx t.Lident n.text) (behind (mark t.Colon) u.tokens) }
+field_at i (n ∷ m ∷ ns) f o h = absurd o
+
+fields_at : (i : ℕ) (ps : List ParamGroup) → AreFields ps → Put AreFields (PlacedFields (i + 1)) field_tail ps
+fields_at i [] h = record { value = []; right = tt; placed = tt; tokens = refl }
+fields_at i (p ∷ ps) h = let u = field_at (i + 1) p.names p.of_type h.0 h.1 in let r = fields_at (past (i + 1) (write_field u.value)) ps h.2 in
+    record { value = u.value ∷ r.value; right = (u.one, u.right, r.right); placed = (u.placed.0, u.placed.1, r.placed); tokens = behind (mark t.Semi) (join u.tokens r.tokens) }
+
+-- constructors, or the fields of a record
+pub record BodyAt (i : ℕ) (bar : Bool) (cs : List Constructor) (fs : List ParamGroup) (semi : Bool) : Type 0 where
+  pub constructors : List Constructor
+  pub fields : List ParamGroup
+  pub right : IsTypeBody bar constructors fields semi
+  pub placed : PlacedTypeBody i bar constructors fields
+  pub tokens : write_type_body bar constructors fields semi ≡ write_type_body bar cs fs semi
+
+body_at : (i : ℕ) (bar : Bool) (cs : List Constructor) (fs : List ParamGroup) (semi : Bool) → IsTypeBody bar cs fs semi → BodyAt i bar cs fs semi
+body_at i bar cs [] semi h = let v = constructors_at (past i (bar_before bar)) cs h.1 in
+    record { constructors = v.value; fields = []; right = (v.some h.0, v.right, h.2); placed = v.placed; tokens = ap (λ q. bar_before bar ++ q) v.tokens }
+body_at i bar cs (p ∷ ps) semi h = let u = field_at (i + 1) p.names p.of_type h.0.0 h.0.1 in let r = fields_at (past (i + 1) (write_field u.value)) ps h.0.2 in
+    record { constructors = []; fields = u.value ∷ r.value; right = ((u.one, u.right, r.right), refl, h.2); placed = (u.placed.0, u.placed.1, r.placed); tokens = behind (mark t.LBrace) (join u.tokens (join r.tokens refl)) }
+
 algebraics_at : (i : ℕ) (ts : List Algebraic) → AreAlgebraic ts → PutList AreAlgebraic (PlacedAlgebraics i) HasSome algebraic_list algebraic_tail ts
 algebraics_at i [] h = record { value = []; right = tt; placed = tt; tokens = refl; tail = refl; some = λ p. p }
 algebraics_at i (a ∷ ts) h = let u = variables_at (i + 1) a.vars in
-    let v = constructors_at (past (past (i + 1) (variable_row u.value) + 1) (bar_before a.bar)) a.constructors h.1 in
-    let b : Algebraic = record { name = name i a.name.text; vars = u.value; bar = a.bar; constructors = v.value } in
-    let e : write_algebraic b ≡ write_algebraic a = behind (lx t.Lident a.name.text) (join u.tokens (behind (mark t.Equal) (ap (λ q. bar_before a.bar ++ q) v.tokens))) in
-    let r = algebraics_at (past i (write_algebraic b) + 1) ts h.2 in
-    record { value = b ∷ r.value; right = (v.some h.0, v.right, r.right); placed = ((refl, u.placed, v.placed), r.placed); tokens = join e r.tail; tail = behind (mark t.WithWord) (join e r.tail); some = λ p. tt }
+    let v = body_at (past (i + 1) (variable_row u.value) + 1) a.bar a.constructors a.fields a.semi h.0 in
+    let b : Algebraic = record { name = name i a.name.text; vars = u.value; bar = a.bar; constructors = v.constructors; fields = v.fields; semi = a.semi } in
+    let e : write_algebraic b ≡ write_algebraic a = behind (lx t.Lident a.name.text) (join u.tokens (behind (mark t.Equal) v.tokens)) in
+    let r = algebraics_at (past i (write_algebraic b) + 1) ts h.1 in
+    record { value = b ∷ r.value; right = (v.right, r.right); placed = ((refl, u.placed, v.placed), r.placed); tokens = join e r.tail; tail = behind (mark t.WithWord) (join e r.tail); some = λ p. tt }
 
 clauses_at : (i : ℕ) (cs : List Clause) → AreClauses cs → PutList AreClauses (PlacedClauses i) HasSome clause_list clause_tail cs
 clauses_at i [] h = record { value = []; right = tt; placed = tt; tokens = refl; tail = refl; some = λ p. p }

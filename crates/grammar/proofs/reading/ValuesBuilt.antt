@@ -5,7 +5,7 @@ use Rattle.grammar.proofs.reading.Good.{AllProper, AllRows, Good, Is, Piece, Pro
 use Rattle.grammar.proofs.reading.FormsBuilt.{as_ok, atype_ok, pat_ok, patom_ok, patoms_ok, pmore_ok, ptuple_ok, qlid_ok, quids_ok, targs_ok, tmore_ok, ttuple_ok, type_ok}
 use Rattle.grammar.proofs.reading.OpenBuilt.{arm_ok, binder_ok, binders_ok, branch_ok, branches_ok, letpats_ok, open_ok, opens_form, scrutinees_ok, terms_ok}
 use Rattle.grammar.proofs.reading.TermsBuilt.{aminus_ok, aparen_ok, args_ok, atom_ok, expr_ok, hminus_ok, hparen_ok, more_ok, opend_ok, opname_ok, prim_ok, qhead_ok, rest_ok, scoped_ok, tail_ok}
-use Rattle.grammar.proofs.reading.PartsBuilt.{algvars_ok, axioms_ok, body_ok, con_ok, fields_ok, id_ok, member_ok, members_ok, op_ok, param_ok, params_ok, pname_ok, pparen_ok, qid_ok, qids_ok, qop_ok, tvars_ok, typedef_ok, upper_ok, value_ok}
+use Rattle.grammar.proofs.reading.PartsBuilt.{algvars_ok, axioms_ok, body_ok, con_ok, fields_ok, id_ok, member_ok, members_ok, op_ok, param_ok, params_ok, pname_ok, pparen_ok, qid_ok, qids_ok, qop_ok, tvars_ok, typedef_ok, upper_ok, value_ok, algs_ok, record_field_ok, record_next_ok, record_rest_ok}
 use Rattle.grammar.proofs.reading.DeclsBuilt.{clause_ok, clauses_ok, cloned_ok, decls_ok, elem_ok, elems_ok, elvars_ok, file_ok, path_ok, renamed_ok, subst_ok, used_ok}
 use Rattle.grammar.proofs.reading.Reading.{unmapped}
 
@@ -57,6 +57,10 @@ all_ok s.Upper = upper_ok
 all_ok s.Fields = fields_ok
 all_ok s.Algvars = algvars_ok
 all_ok s.Con = con_ok
+all_ok s.RecordField = record_field_ok
+all_ok s.RecordRest = record_rest_ok
+all_ok s.RecordNext = record_next_ok
+all_ok s.Algs = algs_ok
 all_ok s.Op = op_ok
 all_ok s.Ident = id_ok
 all_ok s.Param = param_ok
@@ -98,6 +102,7 @@ blank_ok s.File v i h = let e : [] ≡ v = cc in subst (BlankOk s.File i) e ((tt
 blank_ok s.Tvars v i h = let e : record { vars = []; equation = None } ≡ v = cc in subst (BlankOk s.Tvars i) e ((tt, tt), refl, refl)
 blank_ok s.Upper v i h = let e : fields_of (record { fields = []; constructors = []; others = [] }) ≡ v = cc in subst (BlankOk s.Upper i) e ((tt, tt, (tt, tt, (tt, tt))), refl, refl)
 blank_ok s.Fields v i h = let e : record { fields = []; constructors = []; others = [] } ≡ v = cc in subst (BlankOk s.Fields i) e ((tt, tt, (tt, tt, (tt, tt))), refl, refl)
+blank_ok s.Algs v i h = let e : [] ≡ v = cc in subst (BlankOk s.Algs i) e ((tt, tt), refl, refl)
 blank_ok s.Params v i h = let e : [] ≡ v = cc in subst (BlankOk s.Params i) e ((tt, tt), refl, refl)
 blank_ok s.Body v i h = let e : record { definition = None; members = [] } ≡ v = cc in subst (BlankOk s.Body i) e ((tt, tt, tt), refl, refl)
 blank_ok s.Members v i h = let e : [] ≡ v = cc in subst (BlankOk s.Members i) e ((tt, tt), refl, refl)

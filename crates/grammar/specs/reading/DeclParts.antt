@@ -10,10 +10,18 @@ pub record FieldsPart : Type 0 where
   pub constructors : List Constructor
   pub others : List Algebraic
 
--- after an algebraic type's equality sign
+-- after an algebraic type's equality sign: constructors, or the fields of a record
 pub record ConPart : Type 0 where
   pub bar : Bool
   pub constructors : List Constructor
+  pub fields : List ParamGroup
+  pub semi : Bool
+  pub others : List Algebraic
+
+-- after a field of a record: other fields, whether a semicolon is after the last one, other types
+pub record RecordPart : Type 0 where
+  pub fields : List ParamGroup
+  pub semi : Bool
   pub others : List Algebraic
 
 -- after an algebraic type's name
@@ -84,11 +92,38 @@ abbrev pub new_constructor : Name → FieldsPart → Constructor
 new_constructor n p = record { name = n; fields = p.fields }
 
 abbrev pub with_constructor : Bool → Name → FieldsPart → ConPart
-with_constructor b n p =
-    record { bar = b; constructors = new_constructor n p ∷ p.constructors; others = p.others }
+with_constructor b n p = record {
+  bar = b;
+  constructors = new_constructor n p ∷ p.constructors;
+  fields = [];
+  semi = false;
+  others = p.others;
+}
+
+abbrev pub record_field : Name → SyntaxForm → ParamGroup
+record_field n f = record { names = n ∷ []; of_type = f }
+
+abbrev pub next_field : ParamGroup → RecordPart → RecordPart
+next_field p r = record { fields = p ∷ r.fields; semi = r.semi; others = r.others }
+
+abbrev pub with_fields : ParamGroup → RecordPart → ConPart
+with_fields p r = record {
+  bar = false;
+  constructors = [];
+  fields = p ∷ r.fields;
+  semi = r.semi;
+  others = r.others;
+}
 
 abbrev pub new_algebraic : Name → List Name → ConPart → Algebraic
-new_algebraic n vs c = record { name = n; vars = vs; bar = c.bar; constructors = c.constructors }
+new_algebraic n vs c = record {
+  name = n;
+  vars = vs;
+  bar = c.bar;
+  constructors = c.constructors;
+  fields = c.fields;
+  semi = c.semi;
+}
 
 abbrev pub upper_type : ℕ → Word → UpperPart → TypePart
 upper_type i w (scope_of d ts) =

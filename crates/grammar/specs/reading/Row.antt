@@ -1,10 +1,10 @@
 -- What each symbol is read as, and the rows that read it.
 use Rattle.std.specs.Prelude.{◌++◌}
-use Rattle.grammar.specs.reading.Common.{Bool, Option, refl, sym, ◌∙◌, append_assoc, Terminal, Symbol, Name, Word, Called, SyntaxForm, SyntaxForms, Branches, SyntaxTree, SyntaxTrees, Path, SyntaxDeclarations, Element, Member, ParamGroup, SyntaxTheory}
+use Rattle.grammar.specs.reading.Common.{Algebraic, Bool, Option, refl, sym, ◌∙◌, append_assoc, Terminal, Symbol, Name, Word, Called, SyntaxForm, SyntaxForms, Branches, SyntaxTree, SyntaxTrees, Path, SyntaxDeclarations, Element, Member, ParamGroup, SyntaxTheory}
 use Rattle.std.proofs.Common.{◌≡◌, ℕ, List, [], ◌∷◌}
 use Rattle.grammar.specs.declared.symbols.Symbol.TheVariants as s
 use Rattle.grammar.specs.reading.Parts.{ArmPart, BinderPart, BoundPart, BranchPart, CasesPart, Chain, Closing, Dotted, LetPart, Minus, OperatorName, Paren, Scoped, TermsPart}
-use Rattle.grammar.specs.reading.DeclParts.{AlgPart, BodyPart, ClausePart, ClausesPart, ClonedPart, ConPart, FieldsPart, MemberPart, NamePart, ParamPart, TvarsPart, TypePart, UpperPart, UsedPart, VarsPart}
+use Rattle.grammar.specs.reading.DeclParts.{AlgPart, BodyPart, ClausePart, ClausesPart, ClonedPart, ConPart, FieldsPart, MemberPart, NamePart, ParamPart, TvarsPart, TypePart, UpperPart, UsedPart, VarsPart, RecordPart}
 
 -- what a symbol is read as
 abbrev pub Val : Symbol → Type 0
@@ -54,6 +54,10 @@ Val s.Upper = UpperPart
 Val s.Fields = FieldsPart
 Val s.Algvars = AlgPart
 Val s.Con = ConPart
+Val s.RecordField = ParamGroup
+Val s.RecordRest = RecordPart
+Val s.RecordNext = RecordPart
+Val s.Algs = List Algebraic
 Val s.Op = Called
 Val s.Ident = Called
 Val s.Param = ParamGroup

@@ -7,7 +7,7 @@ use Rattle.grammar.specs.reading.Parts.{attach, behind_minus, binder_with, branc
 use Rattle.grammar.specs.reading.Row.{ReadingRow, Val, extend, row}
 use Rattle.surface.specs.declared.declarations.PropKind.{PropKind}
 use Rattle.surface.specs.declared.declarations.SymbolWord.{SymbolWord}
-use Rattle.grammar.specs.reading.DeclParts.{ClonedPart, UsedPart, name_before, behind_paren, fields_of, is_algebraic, is_alias, name_names, name_types, new_algebraic, new_constructor, new_inductive, new_member, param, path_on, prop_called, scope_called, scope_of, typed_as, upper_type, with_clause, with_constructor, param_types}
+use Rattle.grammar.specs.reading.DeclParts.{ClonedPart, UsedPart, name_before, behind_paren, fields_of, is_algebraic, is_alias, name_names, name_types, new_algebraic, new_constructor, new_inductive, new_member, param, path_on, prop_called, scope_called, scope_of, typed_as, upper_type, with_clause, with_constructor, param_types, record_field, next_field, with_fields}
 use Rattle.tokens_why.specs.declared.terminal.Terminal.TheVariants as t
 use Rattle.grammar.specs.declared.symbols.Symbol.TheVariants as s
 use Rattle.surface.specs.declared.declarations.PropKind.TheVariants as pk
@@ -224,6 +224,14 @@ fields_rows = fields_own ++ extend s.Fields s.Param (s.Fields ∷ [])
           vs.0.others;
     }) param_rows
 
+abbrev pub record_field_rows : List (ReadingRow s.RecordField)
+record_field_rows = row s.RecordField t.Lident (s.Take t.Colon ∷ s.TypeOf ∷ [])
+    (λ i w vs. record_field (name i w) vs.1.0) ∷ []
+
+abbrev pub record_next_own : List (ReadingRow s.RecordNext)
+record_next_own = row s.RecordNext t.RBrace (s.Algs ∷ [])
+    (λ i w vs. record { fields = []; semi = true; others = vs.0 }) ∷ []
+
 abbrev pub upper_own : List (ReadingRow s.Upper)
 upper_own = row s.Upper t.Dot (s.Qlid ∷ s.Targs ∷ []) (λ i w vs. scope_of vs.0 vs.1.0) ∷ []
 
@@ -396,7 +404,9 @@ rows s.Typedef = row s.Typedef t.TyVar [] (λ i w vs. is_alias (type_variable (a
     ∷ row s.Typedef t.LParen (s.Ttuple ∷ []) (λ i w vs. is_alias (enclosed (at i) vs.0))
     ∷ row s.Typedef t.Uident (s.Upper ∷ []) (λ i w vs. upper_type i w vs.0)
     ∷ row s.Typedef t.Bar (s.Take t.Uident ∷ s.Fields ∷ [])
-    (λ i w vs. is_algebraic (with_constructor true vs.0 vs.1.0)) ∷ []
+    (λ i w vs. is_algebraic (with_constructor true vs.0 vs.1.0))
+    ∷ row s.Typedef t.LBrace (s.RecordField ∷ s.RecordRest ∷ [])
+    (λ i w vs. is_algebraic (with_fields vs.0 vs.1.0)) ∷ []
 rows s.Upper = upper_own ++ extend s.Upper s.Fields [] (λ v vs. fields_of v) fields_rows
 rows s.Fields = fields_rows
 rows s.Algvars = row s.Algvars t.TyVar (s.Algvars ∷ [])
@@ -404,7 +414,17 @@ rows s.Algvars = row s.Algvars t.TyVar (s.Algvars ∷ [])
     ∷ row s.Algvars t.Equal (s.Con ∷ []) (λ i w vs. record { vars = []; con = vs.0 }) ∷ []
 rows s.Con = row s.Con t.Uident (s.Fields ∷ []) (λ i w vs. with_constructor false (name i w) vs.0)
     ∷ row s.Con t.Bar (s.Take t.Uident ∷ s.Fields ∷ [])
-    (λ i w vs. with_constructor true vs.0 vs.1.0) ∷ []
+    (λ i w vs. with_constructor true vs.0 vs.1.0)
+    ∷ row s.Con t.LBrace (s.RecordField ∷ s.RecordRest ∷ [])
+    (λ i w vs. with_fields vs.0 vs.1.0) ∷ []
+rows s.RecordField = record_field_rows
+rows s.RecordRest = row s.RecordRest t.RBrace (s.Algs ∷ [])
+    (λ i w vs. record { fields = []; semi = false; others = vs.0 })
+    ∷ row s.RecordRest t.Semi (s.RecordNext ∷ []) (λ i w vs. vs.0) ∷ []
+rows s.RecordNext = record_next_own ++ extend s.RecordNext s.RecordField (s.RecordRest ∷ [])
+    (λ v vs. next_field v vs.0) record_field_rows
+rows s.Algs = row s.Algs t.WithWord (s.Take t.Lident ∷ s.Algvars ∷ [])
+    (λ i w vs. new_algebraic vs.0 vs.1.0.vars vs.1.0.con ∷ vs.1.0.con.others) ∷ []
 rows s.Op = op_rows
 rows s.Ident = row s.Ident t.Lident [] (λ i w vs. called i [] (lower w))
     ∷ row s.Ident t.Uident [] (λ i w vs. called i [] (upper w)) ∷ []

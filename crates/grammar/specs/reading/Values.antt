@@ -23,6 +23,7 @@ blank s.File = Some []
 blank s.Tvars = Some (record { vars = []; equation = None })
 blank s.Upper = Some (fields_of (record { fields = []; constructors = []; others = [] }))
 blank s.Fields = Some (record { fields = []; constructors = []; others = [] })
+blank s.Algs = Some []
 blank s.Params = Some []
 blank s.Body = Some (record { definition = None; members = [] })
 blank s.Members = Some []

@@ -6,7 +6,7 @@ use Rattle.tokens_why.specs.declared.terminal.Terminal.TheVariants as t
 use Rattle.grammar.specs.declared.recognise.depth.Nesting.{Nesting}
 
 -- Each word with which a declaration begins lets the innermost bracket count from 0, but for those
--- that open one.
+-- that open one, and so do the tokens between alternatives and between fields.
 abbrev pub nesting : Terminal → Nesting
 nesting t.LParen = Opens
 nesting t.LBrack = Opens
@@ -48,6 +48,7 @@ nesting t.GoalWord = Restarts
 nesting t.UseWord = Restarts
 nesting t.CloneWord = Restarts
 nesting t.WithWord = Restarts
+nesting t.Semi = Restarts
 nesting t.Bar = Restarts
 nesting _ = Keeps
 

@@ -71,6 +71,7 @@ fn nests(terminal: Terminal) -> Nesting
         | Terminal::UseWord
         | Terminal::CloneWord
         | Terminal::WithWord
+        | Terminal::Semi
         | Terminal::Bar => Nesting::Restarts,
         _ => Nesting::Keeps,
     }

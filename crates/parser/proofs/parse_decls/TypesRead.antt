@@ -1,11 +1,11 @@
 -- What follows where type variables, constructors and algebraic types are read.
-use Rattle.parser.proofs.parse_decls.Common.{◌≡◌, ℕ, ◌+◌, ◌<◌, ◌≤◌, ◌⊎◌, inl, inr, Bool, true, false, not, ◌&&◌, ◌||◌, nat_le, List, [], ◌∷◌, ◌++◌, length, Option, Some, None, option_map, refl, sym, ap, ◌∙◌, subst, arith, append_assoc, append-nil, get_or_past, Terminal, Symbol, same, Name, Lexeme, at, name, called, composed, lower, ParamGroup, Algebraic, Constructor, algebraic_decl, more_decls, type_decl, AlgPart, FieldsPart, TvarsPart, VarsPart, fields_of, is_algebraic, is_alias, new_algebraic, scope_of, typed_as, upper_type, with_constructor, fields_own, fields_rows, upper_own, rows, ReadingRow, Val, Vals, extend, row, then_row, blank, find, read, below_or, from_cons, from_end, Begun, CanRead, CanRun, begins_atype, nowhere, lexemes_from, terminal_at, token_at, again, expand, extended, follow, many, missed, only, pass, stands_by, start, take, unexpand, IsDecl, IsReadAlgebraic, IsCon, IsConstructor, IsConstructors, IsReadNames, AreTypeVariablesAt, alg_part, begins_constructor, con_part, constructor_at, fields_part}
+use Rattle.parser.proofs.parse_decls.Common.{◌≡◌, ℕ, ◌+◌, ◌<◌, ◌≤◌, ◌⊎◌, inl, inr, Bool, true, false, not, ◌&&◌, ◌||◌, nat_le, List, [], ◌∷◌, ◌++◌, length, Option, Some, None, option_map, refl, sym, ap, ◌∙◌, subst, arith, append_assoc, append-nil, get_or_past, Terminal, Symbol, same, Name, Lexeme, at, name, called, composed, lower, ParamGroup, Algebraic, Constructor, algebraic_decl, more_decls, type_decl, AlgPart, FieldsPart, TvarsPart, VarsPart, fields_of, is_algebraic, is_alias, new_algebraic, scope_of, typed_as, upper_type, with_constructor, fields_own, fields_rows, upper_own, rows, ReadingRow, Val, Vals, extend, row, then_row, blank, find, read, below_or, from_cons, from_end, Begun, CanRead, CanRun, begins_atype, nowhere, lexemes_from, terminal_at, token_at, again, expand, extended, follow, many, missed, only, pass, stands_by, start, take, unexpand, IsDecl, IsReadAlgebraic, IsCon, IsConstructor, IsConstructors, IsReadNames, AreTypeVariablesAt, alg_part, begins_constructor, con_part, constructor_at, fields_part, IsRead, next, IsReadBody, IsRecord, begins_algebraic, goes_on_with_field, record_part, record_field, next_field, record_next_own, with_fields, extended_due}
 use Rattle.tokens_why.specs.declared.terminal.Terminal.TheVariants as t
 use Rattle.grammar.specs.declared.symbols.Symbol.TheVariants as s
 use Rattle.grammar.specs.Machine.{is_seal}
 use Rattle.grammar.proofs.reading.Reading.{Stops, find_apart, find_extend, passed}
 use Rattle.grammar.proofs.reading.Common.{no_false}
-use Rattle.parser.proofs.parse_terms.Steps.{all_apart, none_of, none_where}
+use Rattle.parser.proofs.parse_terms.Steps.{all_apart, none_by, none_of, none_where}
 
 le_self : (n : ℕ) → nat_le n n ≡ true
 le_self n = search (arith)
@@ -96,8 +96,8 @@ module _ {xs : List Lexeme} {n : ℕ} {from : List Symbol → List Symbol} {i : 
   abbrev NoFields : Type 0
   NoFields = Begun xs 0 from i (λ k. s.Fields ∷ K k) (λ k us. act k (fields_part [] us.0.constructors us.0.others, us.1)) j
 
-  abbrev NoConstructors : Type 0
-  NoConstructors = Begun xs 0 from i (λ k. s.Fields ∷ K k) (λ k us. act k (fields_part us.0.fields [] us.0.others, us.1)) j
+  abbrev OnlyOthers : Type 0
+  OnlyOthers = Begun xs 0 from i (λ k. s.Algs ∷ K k) (λ k us. act k (fields_part [] [] us.0, us.1)) j
 
   behind_all : (by : (k : List Symbol) → Vals (s.Fields ∷ K k) → Vals (from k)) → ((k : List Symbol) (us : Vals (K k)) → act k (fields_part [] [] [], us) ≡ by k (fields_part [] [] [], us)) → same t.Bar (terminal_at xs j) ≡ false → same t.WithWord (terminal_at xs j) ≡ false → Begun xs 0 from i (λ k. s.Fields ∷ K k) by j
   behind_all by f b w = let e = fields_none (terminal_at xs j) o b w in let p = pass g refl refl e in
@@ -114,15 +114,14 @@ module _ {xs : List Lexeme} {n : ℕ} {from : List Symbol → List Symbol} {i : 
       by_bar true h = let l = g.ahead in let p = expand g t.Bar h refl refl in unexpand s.Fields K (λ k us. act k (fields_part [] us.0.constructors us.0.others, us.1)) j t.Bar h refl refl (omega arith) p
       by_bar false h = by_with (same t.WithWord (terminal_at xs j)) h refl
 
-  pub no_constructors : same t.Bar (terminal_at xs j) ≡ false → NoConstructors
-  no_constructors h = by_with (same t.WithWord (terminal_at xs j)) refl
+  -- and where no bar is either, only other types come
+  pub only_others : same t.Bar (terminal_at xs j) ≡ false → OnlyOthers
+  only_others h = by_with (same t.WithWord (terminal_at xs j)) refl
     where
-      by_with : (b : Bool) → same t.WithWord (terminal_at xs j) ≡ b → NoConstructors
-      by_with true w = let l = g.ahead in let p = expand g t.WithWord w refl refl in unexpand s.Fields K (λ k us. act k (fields_part us.0.fields [] us.0.others, us.1)) j t.WithWord w refl refl (omega arith) p
-      by_with false w = behind_all (λ k us. act k (fields_part us.0.fields [] us.0.others, us.1)) (λ k us. refl) h w
-
-  pub no_others : same t.Bar (terminal_at xs j) ≡ false → same t.WithWord (terminal_at xs j) ≡ false → Begun xs n from i K (λ k us. act k (fields_part [] [] [], us)) j
-  no_others h w = pass g refl refl (fields_none (terminal_at xs j) o h w)
+      by_with : (b : Bool) → same t.WithWord (terminal_at xs j) ≡ b → OnlyOthers
+      by_with true w = let l = g.ahead in let p = expand g t.WithWord w refl refl in unexpand s.Algs K (λ k us. act k (fields_part [] [] us.0, us.1)) j t.WithWord w refl refl (omega arith) p
+      by_with false w = let p = pass g refl refl (fields_none (terminal_at xs j) o h w) in
+          unpass s.Algs [] K (λ k us. act k (fields_part [] [] us.0, us.1)) refl refl (none_of s.Algs (t.WithWord ∷ []) (terminal_at xs j) refl (w, tt)) (again p 0 (zero_le n) (λ k us. refl))
 
 module _ (xs : List Lexeme) (i : ℕ) (fs : List ParamGroup) (j : ℕ) (g : Fields xs i fs j) where
   pub field_item : begins_atype (terminal_at xs j) ≡ true → Begun xs 0 (λ k. s.Fields ∷ k) i (λ k. s.Param ∷ s.Fields ∷ k) (λ k us. (many field_on fs (field_on us.0 us.1.0), us.1.1)) j
@@ -169,29 +168,96 @@ module _ (xs : List Lexeme) (i : ℕ) (cs : List Constructor) (j : ℕ) (g : Con
     fields = g.fields;
     others = g.others;
     spelled = g.spelled;
-    ends = g.ends;
-    last = e;
-    is = again (no_constructors g.is g.ends e) 0 refl (λ k us. ap (λ v. (fields_part g.fields v us.0.others, us.1)) (append-nil g.others));
+    is = again (only_others g.is g.ends e) 0 refl (λ k us. ap (λ v. (fields_part g.fields v us.0, us.1)) (append-nil g.others));
   }
 
--- constructors after an equality sign
+-- a field of a record
+module _ {xs : List Lexeme} {i : ℕ} (c : CanRead xs s.RecordField i) where
+  pub field_name : same t.Lident (terminal_at xs i) ≡ true
+  field_name = only (start c) t.Lident [] refl refl tt
+
+  pub field_type : Begun xs 1 (λ k. s.RecordField ∷ k) i (λ k. s.TypeOf ∷ k) (λ k us. (record_field (name i (token_at xs i).text) us.0, us.1)) (i + 1 + 1)
+  field_type = let p = expand (start c) t.Lident field_name refl refl in again (take p) 1 refl (λ k us. refl)
+
+-- fields of a record with semicolons between them
+pub record RecordFields (xs : List Lexeme) (i : ℕ) (ps : List ParamGroup) (j : ℕ) : Type 0 where
+  pub first : ParamGroup
+  pub others : List ParamGroup
+  pub spelled : first ∷ others ≡ ps
+  pub is : Begun xs 1 (λ k. s.RecordField ∷ s.RecordRest ∷ k) i (λ k. s.RecordRest ∷ k) (λ k us. (first, (record_part (others ++ us.0.fields) us.0.semi us.0.others, us.1))) j
+
+pub record_start : {xs : List Lexeme} {i : ℕ} → CanRun xs (λ k. s.RecordField ∷ s.RecordRest ∷ k) i → (p : ParamGroup) (j : ℕ) → IsRead xs s.RecordField i p j → RecordFields xs i (p ∷ []) j
+record_start c p j r = record { first = p; others = []; spelled = refl; is = again (next (start c) r) 1 refl (λ k us. refl) }
+
+module _ (xs : List Lexeme) (i : ℕ) (ps : List ParamGroup) (j : ℕ) (g : RecordFields xs i ps j) where
+  semi_read : same t.Semi (terminal_at xs j) ≡ true → Begun xs 1 (λ k. s.RecordField ∷ s.RecordRest ∷ k) i (λ k. s.RecordNext ∷ k) (λ k us. (g.first, (record_part (g.others ++ us.0.fields) us.0.semi us.0.others, us.1))) (j + 1)
+  semi_read e = expand g.is t.Semi e refl refl
+
+  split_test : (b d : Bool) → (b && not d) ≡ true → (b ≡ true) × (d ≡ false)
+  split_test true false h = (refl, refl)
+  split_test true true h = cc
+  split_test false d h = cc
+
+  pub record_item : goes_on_with_field (terminal_at xs j) (terminal_at xs (j + 1)) ≡ true → Begun xs 1 (λ k. s.RecordField ∷ s.RecordRest ∷ k) i (λ k. s.RecordField ∷ s.RecordRest ∷ k) (λ k us. (g.first, (record_part (g.others ++ (us.0 ∷ us.1.0.fields)) us.1.0.semi us.1.0.others, us.1.1))) (j + 1)
+  record_item h = let q = split_test (same t.Semi (terminal_at xs j)) (same t.RBrace (terminal_at xs (j + 1))) h in
+      extended_due (semi_read q.0) s.RecordField (s.RecordRest ∷ []) (λ v vs. next_field v vs.0) record_next_own refl refl (none_by record_next_own (t.RBrace ∷ []) (terminal_at xs (j + 1)) refl (q.1, tt))
+
+  pub record_more : goes_on_with_field (terminal_at xs j) (terminal_at xs (j + 1)) ≡ true → (p : ParamGroup) (m : ℕ) → IsRead xs s.RecordField (j + 1) p m → RecordFields xs i (ps ++ p ∷ []) m
+  record_more h p m r = record {
+    first = g.first;
+    others = g.others ++ p ∷ [];
+    spelled = ap (λ vs. vs ++ p ∷ []) g.spelled;
+    is = again (next (record_item h) r) 1 refl (λ k us. ap (λ v. (g.first, (record_part v us.0.semi us.0.others, us.1))) (sym (append_assoc g.others (p ∷ []) us.0.fields)));
+  }
+
+  pub record_done : same t.Semi (terminal_at xs j) ≡ false → IsRecord xs i ps false (j + 1)
+  record_done e = record {
+    first = g.first;
+    others = g.others;
+    spelled = g.spelled;
+    is = again (expand g.is t.RBrace (only g.is t.RBrace (t.Semi ∷ []) refl refl (e, tt)) refl refl) 1 refl (λ k us. ap (λ v. (g.first, (record_part v false us.0, us.1))) (append-nil g.others));
+  }
+
+  pub brace_after : same t.Semi (terminal_at xs j) ≡ true → goes_on_with_field (terminal_at xs j) (terminal_at xs (j + 1)) ≡ false → same t.RBrace (terminal_at xs (j + 1)) ≡ true
+  brace_after e h = by_test (same t.RBrace (terminal_at xs (j + 1))) (subst (λ b. (b && not (same t.RBrace (terminal_at xs (j + 1)))) ≡ false) e h)
+    where
+      by_test : (b : Bool) → (true && not b) ≡ false → b ≡ true
+      by_test true h = refl
+      by_test false h = cc
+
+  pub record_done_semi : same t.Semi (terminal_at xs j) ≡ true → goes_on_with_field (terminal_at xs j) (terminal_at xs (j + 1)) ≡ false → IsRecord xs i ps true (j + 1 + 1)
+  record_done_semi e h = record {
+    first = g.first;
+    others = g.others;
+    spelled = g.spelled;
+    is = again (expand (semi_read e) t.RBrace (brace_after e h) refl refl) 1 refl (λ k us. ap (λ v. (g.first, (record_part v true us.0, us.1))) (append-nil g.others));
+  }
+
+-- constructors or a record after an equality sign
 module _ {xs : List Lexeme} {i : ℕ} (c : CanRead xs s.Con i) where
   module _ (e : same t.Bar (terminal_at xs i) ≡ true) where
     pub barred : Begun xs 1 (λ k. s.Con ∷ k) i (λ k. s.Take t.Uident ∷ s.Fields ∷ k) (λ k us. (with_constructor true us.0 us.1.0, us.1.1)) (i + 1)
     barred = let p = expand (start c) t.Bar e refl refl in again p 1 refl (λ k us. refl)
 
-    pub barred_read : (cs : List Constructor) (j : ℕ) → IsConstructors xs (i + 1) cs j → IsCon xs i true cs j
-    barred_read cs j r = record { ends = r.ends; last = r.last; is = again (follow {K = λ k. k} r.is (take barred)) 1 refl (λ k us. ap (λ v. (con_part true v us.0.others, us.1)) r.spelled) }
+    pub barred_read : (cs : List Constructor) (j : ℕ) → IsConstructors xs (i + 1) cs j → IsCon xs i true cs [] false j
+    barred_read cs j r = again (follow {K = λ k. k} r.is (take barred)) 1 refl (λ k us. ap (λ v. (con_part true v [] false us.0, us.1)) r.spelled)
 
-  module _ (e : same t.Bar (terminal_at xs i) ≡ false) where
+  module _ (n : same t.LBrace (terminal_at xs i) ≡ false) (e : same t.Bar (terminal_at xs i) ≡ false) where
     pub unbarred_name : same t.Uident (terminal_at xs i) ≡ true
-    unbarred_name = only (start c) t.Uident (t.Bar ∷ []) refl refl (e, tt)
+    unbarred_name = only (start c) t.Uident (t.Bar ∷ t.LBrace ∷ []) refl refl (e, (n, tt))
 
     pub unbarred : Begun xs 1 (λ k. s.Con ∷ k) i (λ k. s.Fields ∷ k) (λ k us. (with_constructor false (name i (token_at xs i).text) us.0, us.1)) (i + 1)
     unbarred = let p = expand (start c) t.Uident unbarred_name refl refl in again p 1 refl (λ k us. refl)
 
-    pub unbarred_read : (cs : List Constructor) (j : ℕ) → IsConstructors xs i cs j → IsCon xs i false cs j
-    unbarred_read cs j r = record { ends = r.ends; last = r.last; is = again (follow {K = λ k. k} r.is unbarred) 1 refl (λ k us. ap (λ v. (con_part false v us.0.others, us.1)) r.spelled) }
+    pub unbarred_read : (cs : List Constructor) (j : ℕ) → IsConstructors xs i cs j → IsCon xs i false cs [] false j
+    unbarred_read cs j r = again (follow {K = λ k. k} r.is unbarred) 1 refl (λ k us. ap (λ v. (con_part false v [] false us.0, us.1)) r.spelled)
+
+  module _ (e : same t.LBrace (terminal_at xs i) ≡ true) where
+    pub braced : Begun xs 1 (λ k. s.Con ∷ k) i (λ k. s.RecordField ∷ s.RecordRest ∷ k) (λ k us. (with_fields us.0 us.1.0, us.1.1)) (i + 1)
+    braced = let p = expand (start c) t.LBrace e refl refl in again p 1 refl (λ k us. refl)
+
+    pub braced_read : (ps : List ParamGroup) (semi : Bool) (j : ℕ) → IsRecord xs (i + 1) ps semi j → IsCon xs i false [] ps semi j
+    braced_read ps semi j r = again (follow {K = λ k. k} r.is braced) 1 refl (λ k us. ap (λ v. (con_part false [] v semi us.0, us.1)) r.spelled)
 
 -- an algebraic type
 module _ {xs : List Lexeme} {i : ℕ} (c : CanRun xs (λ k. s.Take t.Lident ∷ s.Algvars ∷ k) i) where
@@ -206,8 +272,8 @@ module _ {xs : List Lexeme} {i : ℕ} (c : CanRun xs (λ k. s.Take t.Lident ∷ 
     algebraic_equal = let p = expand algebraic_vars t.Equal algebraic_sign refl refl in
         again p 1 refl (λ k us. ap (λ v. (name i (token_at xs i).text, (v, us.1))) (algvars_many ns (alg_part [] us.0) ∙ ap (λ v. alg_part v us.0) (append-nil ns)))
 
-    pub algebraic_done : (n : Name) (b : Bool) (cs : List Constructor) (m : ℕ) → n ≡ name i (token_at xs i).text → IsCon xs (j + 1) b cs m → IsReadAlgebraic xs i (record { name = n; vars = ns; bar = b; constructors = cs }) m
-    algebraic_done n b cs m e r = record { ends = r.ends; last = r.last; is = again (follow {K = λ k. k} r.is algebraic_equal) 1 refl (λ k us. ap (λ v. (v, (alg_part ns (con_part b cs us.0.others), us.1))) (sym e)) }
+    pub algebraic_done : (n : Name) (a : Algebraic) (m : ℕ) → n ≡ name i (token_at xs i).text → IsReadBody xs (j + 1) n ns a m → IsReadAlgebraic xs i a m
+    algebraic_done n a m e r = again (follow {K = λ k. k} r.is algebraic_equal) 1 refl (λ k us. ap (λ v. (v, (alg_part ns (con_part a.bar a.constructors a.fields a.semi us.0), us.1))) (sym (r.name ∙ e)) ∙ ap (λ v. (a.name, (alg_part v (con_part a.bar a.constructors a.fields a.semi us.0), us.1))) (sym r.vars))
 
 -- after an equality sign
 found_within : (xs : List Lexeme) (j : ℕ) (r : ReadingRow s.Fields) → find (rows s.Fields) (terminal_at xs j) ≡ Some r → j < length xs
@@ -237,9 +303,9 @@ module _ {xs : List Lexeme} {n : ℕ} {from : List Symbol → List Symbol} {i : 
       by_found (Some r) f = extended (upper_found e) s.Fields [] (λ v vs. fields_of v) upper_own refl (found_within xs (j + 1) r f) (missed (row s.Upper t.Dot (s.Qlid ∷ s.Targs ∷ []) (λ i w vs. scope_of vs.0 vs.1.0)) [] (terminal_at xs (j + 1)) d refl) (upper_some (terminal_at xs (j + 1)) r d f)
       by_found None f = unpass s.Fields (fields_part [] [] []) K (λ k us. act k (upper_type j (token_at xs j).text (fields_of us.0), us.1)) refl refl f (pass (upper_found e) refl refl (upper_none (terminal_at xs (j + 1)) d f))
 
-  -- constructors
-  pub typedef_con : begins_constructor (terminal_at xs j) (terminal_at xs (j + 1)) ≡ true → Begun xs 0 from i (λ k. s.Con ∷ K k) (λ k us. act k (is_algebraic us.0, us.1)) j
-  typedef_con e = by_bar (same t.Bar (terminal_at xs j)) refl
+  -- constructors or a record
+  by_constructor : begins_constructor (terminal_at xs j) (terminal_at xs (j + 1)) ≡ true → Begun xs 0 from i (λ k. s.Con ∷ K k) (λ k us. act k (is_algebraic us.0, us.1)) j
+  by_constructor e = by_bar (same t.Bar (terminal_at xs j)) refl
     where
       by_dot : (b d : Bool) → same t.Bar (terminal_at xs j) ≡ false → same t.Uident (terminal_at xs j) ≡ b → same t.Dot (terminal_at xs (j + 1)) ≡ d → (b && not d) ≡ true → Begun xs 0 from i (λ k. s.Con ∷ K k) (λ k us. act k (is_algebraic us.0, us.1)) j
       by_dot true false h u d q = unexpand s.Con K (λ k us. act k (is_algebraic us.0, us.1)) j t.Uident u refl refl ahead_of (fields_found u d)
@@ -253,12 +319,19 @@ module _ {xs : List Lexeme} {n : ℕ} {from : List Symbol → List Symbol} {i : 
       by_bar true h = let p = expand g t.Bar h refl refl in unexpand s.Con K (λ k us. act k (is_algebraic us.0, us.1)) j t.Bar h refl refl ahead_of p
       by_bar false h = by_dot (same t.Uident (terminal_at xs j)) (same t.Dot (terminal_at xs (j + 1))) h refl refl (rest_of h)
 
+  pub typedef_con : begins_algebraic (terminal_at xs j) (terminal_at xs (j + 1)) ≡ true → Begun xs 0 from i (λ k. s.Con ∷ K k) (λ k us. act k (is_algebraic us.0, us.1)) j
+  typedef_con e = by_brace (same t.LBrace (terminal_at xs j)) refl
+    where
+      by_brace : (b : Bool) → same t.LBrace (terminal_at xs j) ≡ b → Begun xs 0 from i (λ k. s.Con ∷ K k) (λ k us. act k (is_algebraic us.0, us.1)) j
+      by_brace true h = let p = expand g t.LBrace h refl refl in unexpand s.Con K (λ k us. act k (is_algebraic us.0, us.1)) j t.LBrace h refl refl ahead_of p
+      by_brace false h = by_constructor (subst (λ b. (b || begins_constructor (terminal_at xs j) (terminal_at xs (j + 1))) ≡ true) h e)
+
   abbrev Alias : Type 0
   Alias = Begun xs 0 from i (λ k. s.TypeOf ∷ K k) (λ k us. act k (is_alias us.0, us.1)) j
 
   -- a type
-  pub typedef_alias : begins_constructor (terminal_at xs j) (terminal_at xs (j + 1)) ≡ false → Begun xs 0 from i (λ k. s.TypeOf ∷ K k) (λ k us. act k (is_alias us.0, us.1)) j
-  typedef_alias e = by_bar (same t.Bar (terminal_at xs j)) refl
+  by_alias : same t.LBrace (terminal_at xs j) ≡ false → begins_constructor (terminal_at xs j) (terminal_at xs (j + 1)) ≡ false → Alias
+  by_alias z e = by_bar (same t.Bar (terminal_at xs j)) refl
     where
       by_upper : (b d : Bool) → same t.Uident (terminal_at xs j) ≡ b → same t.Dot (terminal_at xs (j + 1)) ≡ d → (b && not d) ≡ false → same t.Bar (terminal_at xs j) ≡ false → same t.TyVar (terminal_at xs j) ≡ false → same t.LParen (terminal_at xs j) ≡ false → Alias
       by_upper true true u d q h v l = let p = expand (upper_found u) t.Dot d refl refl in
@@ -268,7 +341,7 @@ module _ {xs : List Lexeme} {n : ℕ} {from : List Symbol → List Symbol} {i : 
           behind_of : i ≤ j → i ≤ j + 1
           behind_of a = omega arith
       by_upper true false u d q h v l = cc
-      by_upper false d u f q h v l = let w = only g t.Lident (t.Bar ∷ t.TyVar ∷ t.LParen ∷ t.Uident ∷ []) refl refl (h, (v, (l, (u, tt)))) in let p = expand g t.Lident w refl refl in unexpand s.TypeOf K (λ k us. act k (is_alias us.0, us.1)) j t.Lident w refl refl ahead_of p
+      by_upper false d u f q h v l = let w = only g t.Lident (t.LBrace ∷ t.Bar ∷ t.TyVar ∷ t.LParen ∷ t.Uident ∷ []) refl refl (z, (h, (v, (l, (u, tt))))) in let p = expand g t.Lident w refl refl in unexpand s.TypeOf K (λ k us. act k (is_alias us.0, us.1)) j t.Lident w refl refl ahead_of p
 
       by_paren : (b : Bool) → same t.LParen (terminal_at xs j) ≡ b → same t.Bar (terminal_at xs j) ≡ false → same t.TyVar (terminal_at xs j) ≡ false → Alias
       by_paren true l h v = let p = expand g t.LParen l refl refl in unexpand s.TypeOf K (λ k us. act k (is_alias us.0, us.1)) j t.LParen l refl refl ahead_of p
@@ -281,6 +354,13 @@ module _ {xs : List Lexeme} {n : ℕ} {from : List Symbol → List Symbol} {i : 
       by_bar : (b : Bool) → same t.Bar (terminal_at xs j) ≡ b → Alias
       by_bar true h = let f : true ≡ false = sym (ap (λ b. b || (same t.Uident (terminal_at xs j) && not (same t.Dot (terminal_at xs (j + 1))))) h) ∙ e in cc
       by_bar false h = by_variable (same t.TyVar (terminal_at xs j)) refl h
+
+  pub typedef_alias : begins_algebraic (terminal_at xs j) (terminal_at xs (j + 1)) ≡ false → Alias
+  typedef_alias e = by_brace (same t.LBrace (terminal_at xs j)) refl
+    where
+      by_brace : (b : Bool) → same t.LBrace (terminal_at xs j) ≡ b → Alias
+      by_brace true h = let f : true ≡ false = sym (ap (λ b. b || begins_constructor (terminal_at xs j) (terminal_at xs (j + 1))) h) ∙ e in cc
+      by_brace false h = by_alias h (subst (λ b. (b || begins_constructor (terminal_at xs j) (terminal_at xs (j + 1))) ≡ false) h e)
 
 -- a declaration of a type
 abbrev pub Typed : List Lexeme → ℕ → List Name → ℕ → Type 0
@@ -301,27 +381,28 @@ module _ (xs : List Lexeme) (i : ℕ) (n : Name) (ns : List Name) (j : ℕ) (g :
     equation : Begun xs 1 (λ k. s.Decls ∷ k) i (λ k. s.Typedef ∷ s.Decls ∷ k) (λ k us. (more_decls (typed_as (at i) n ns (Some us.0)) us.1.0, us.1.1)) (j + 1)
     equation = again (expand g t.Equal e refl refl) 1 refl (λ k us. ap (λ u. (more_decls (typed_as (at i) (name (i + 1) (token_at xs (i + 1)).text) u (Some us.0)) us.1.0, us.1.1)) (append-nil ns) ∙ ap (λ u. (more_decls (typed_as (at i) u ns (Some us.0)) us.1.0, us.1.1)) (sym named))
 
-    pub alias_start : begins_constructor (terminal_at xs (j + 1)) (terminal_at xs (j + 1 + 1)) ≡ false → Begun xs 0 (λ k. s.Decls ∷ k) i (λ k. s.TypeOf ∷ s.Decls ∷ k) (λ k us. (more_decls (type_decl (at i) n ns (Some us.0)) us.1.0, us.1.1)) (j + 1)
+    pub alias_start : begins_algebraic (terminal_at xs (j + 1)) (terminal_at xs (j + 1 + 1)) ≡ false → Begun xs 0 (λ k. s.Decls ∷ k) i (λ k. s.TypeOf ∷ s.Decls ∷ k) (λ k us. (more_decls (type_decl (at i) n ns (Some us.0)) us.1.0, us.1.1)) (j + 1)
     alias_start b = typedef_alias equation b
 
-    pub con_start : begins_constructor (terminal_at xs (j + 1)) (terminal_at xs (j + 1 + 1)) ≡ true → Begun xs 0 (λ k. s.Decls ∷ k) i (λ k. s.Con ∷ s.Decls ∷ k) (λ k us. (more_decls (algebraic_decl (at i) (new_algebraic n ns us.0 ∷ us.0.others)) us.1.0, us.1.1)) (j + 1)
+    pub con_start : begins_algebraic (terminal_at xs (j + 1)) (terminal_at xs (j + 1 + 1)) ≡ true → Begun xs 0 (λ k. s.Decls ∷ k) i (λ k. s.Con ∷ s.Decls ∷ k) (λ k us. (more_decls (algebraic_decl (at i) (new_algebraic n ns us.0 ∷ us.0.others)) us.1.0, us.1.1)) (j + 1)
     con_start b = typedef_con equation b
 
 -- algebraic types with `with` between them
-pub record Algebraics (xs : List Lexeme) (i : ℕ) (as_ : List Algebraic) (j : ℕ) : Type 0 where
-  pub ends : begins_atype (terminal_at xs j) ≡ false
-  pub last : same t.Bar (terminal_at xs j) ≡ false
-  pub is : Begun xs 1 (λ k. s.Decls ∷ k) i (λ k. s.Fields ∷ s.Decls ∷ k) (λ k us. (more_decls (algebraic_decl (at i) (as_ ++ us.0.others)) us.1.0, us.1.1)) j
+abbrev pub Algebraics : List Lexeme → ℕ → List Algebraic → ℕ → Type 0
+Algebraics xs i as_ j = Begun xs 1 (λ k. s.Decls ∷ k) i (λ k. s.Algs ∷ s.Decls ∷ k) (λ k us. (more_decls (algebraic_decl (at i) (as_ ++ us.0)) us.1.0, us.1.1)) j
 
-pub algebraics_start : (xs : List Lexeme) (i : ℕ) (n : Name) (ns : List Name) (j : ℕ) → Typed xs i ns j → n ≡ name (i + 1) (token_at xs (i + 1)).text → same t.Equal (terminal_at xs j) ≡ true → begins_constructor (terminal_at xs (j + 1)) (terminal_at xs (j + 1 + 1)) ≡ true → (b : Bool) (cs : List Constructor) (m : ℕ) → IsCon xs (j + 1) b cs m → Algebraics xs i (record { name = n; vars = ns; bar = b; constructors = cs } ∷ []) m
-algebraics_start xs i n ns j g named e o b cs m r = record { ends = r.ends; last = r.last; is = again (follow {K = λ k. s.Decls ∷ k} r.is (con_start xs i n ns j g named e o)) 1 refl (λ k us. refl) }
+pub algebraics_start : (xs : List Lexeme) (i : ℕ) (n : Name) (ns : List Name) (j : ℕ) → Typed xs i ns j → n ≡ name (i + 1) (token_at xs (i + 1)).text → same t.Equal (terminal_at xs j) ≡ true → begins_algebraic (terminal_at xs (j + 1)) (terminal_at xs (j + 1 + 1)) ≡ true → (a : Algebraic) (m : ℕ) → IsReadBody xs (j + 1) n ns a m → Algebraics xs i (a ∷ []) m
+algebraics_start xs i n ns j g named e o a m r = again (follow {K = λ k. s.Decls ∷ k} r.is (con_start xs i n ns j g named e o)) 1 refl (λ k us. ap (λ v. (more_decls (algebraic_decl (at i) (so v ns ∷ us.0)) us.1.0, us.1.1)) (sym r.name) ∙ ap (λ v. (more_decls (algebraic_decl (at i) (so a.name v ∷ us.0)) us.1.0, us.1.1)) (sym r.vars))
+  where
+    so : Name → List Name → Algebraic
+    so v vs = record { name = v; vars = vs; bar = a.bar; constructors = a.constructors; fields = a.fields; semi = a.semi }
 
 module _ (xs : List Lexeme) (i : ℕ) (as_ : List Algebraic) (j : ℕ) (g : Algebraics xs i as_ j) where
   pub with_read : same t.WithWord (terminal_at xs j) ≡ true → Begun xs 1 (λ k. s.Decls ∷ k) i (λ k. s.Take t.Lident ∷ s.Algvars ∷ s.Decls ∷ k) (λ k us. (more_decls (algebraic_decl (at i) (as_ ++ (new_algebraic us.0 us.1.0.vars us.1.0.con ∷ us.1.0.con.others))) us.1.1.0, us.1.1.1)) (j + 1)
-  with_read e = expand g.is t.WithWord e refl refl
+  with_read e = expand g t.WithWord e refl refl
 
   pub algebraics_more : (a : Algebraic) (m : ℕ) → same t.WithWord (terminal_at xs j) ≡ true → IsReadAlgebraic xs (j + 1) a m → Algebraics xs i (as_ ++ a ∷ []) m
-  algebraics_more a m e r = record { ends = r.ends; last = r.last; is = again (follow {K = λ k. s.Decls ∷ k} r.is (with_read e)) 1 refl (λ k us. ap (λ v. (more_decls (algebraic_decl (at i) v) us.1.0, us.1.1)) (sym (append_assoc as_ (a ∷ []) us.0.others))) }
+  algebraics_more a m e r = again (follow {K = λ k. s.Decls ∷ k} r (with_read e)) 1 refl (λ k us. ap (λ v. (more_decls (algebraic_decl (at i) v) us.1.0, us.1.1)) (sym (append_assoc as_ (a ∷ []) us.0)))
 
   pub algebraics_done : same t.WithWord (terminal_at xs j) ≡ false → IsDecl xs i (algebraic_decl (at i) as_) j
-  algebraics_done w = again (no_others g.is g.ends g.last w) 1 refl (λ k us. ap (λ v. (more_decls (algebraic_decl (at i) v) us.0, us.1)) (append-nil as_))
+  algebraics_done w = again (pass g refl refl (none_of s.Algs (t.WithWord ∷ []) (terminal_at xs j) refl (w, tt))) 1 refl (λ k us. ap (λ v. (more_decls (algebraic_decl (at i) v) us.0, us.1)) (append-nil as_))

@@ -3,7 +3,7 @@ pub use Rattle.std.specs.Prelude.{true, false, IfErr, Bool, IfOk}
 pub use Rattle.tokens_why.specs.Alphabet.{same}
 pub use Rattle.parser.specs.parse_terms.Reading.{CanRead, Begun, IsRead, begins_atype, CanRun, token_at, from, terminal_at}
 pub use Rattle.parser.specs.parse_terms.Sources.{lexemes}
-pub use Rattle.grammar.specs.reading.DeclParts.{ClausePart, ConPart, FieldsPart, BodyPart, ClausesPart, param_names, AlgPart}
+pub use Rattle.grammar.specs.reading.DeclParts.{ClausePart, ConPart, FieldsPart, BodyPart, ClausesPart, param_names, AlgPart, RecordPart}
 pub use Rattle.grammar.specs.reading.Values.{read}
 pub use Rattle.surface.specs.Declarations.{Inductive, Member, Constructor, more_decls, SyntaxTheory, SyntaxDeclaration, Algebraic, prop_word, Clause, ParamGroup}
 pub use Rattle.surface.specs.Forms.{SyntaxForms, SyntaxForm}

@@ -1,6 +1,6 @@
--- What is read as type variables, constructors and algebraic types.
+-- What is read as type variables, constructors, records and algebraic types.
 use Rattle.std.specs.Prelude.{ℕ, ◌+◌, ◌≡◌, Bool, false, true, not, ◌&&◌, ◌||◌, List, [], ◌∷◌}
-use Rattle.parser.specs.parse_decls.Common.{Terminal, same, Name, Lexeme, name, ParamGroup, Algebraic, Constructor, AlgPart, ConPart, FieldsPart, Begun, begins_atype, terminal_at, token_at}
+use Rattle.parser.specs.parse_decls.Common.{Terminal, same, Name, Lexeme, name, ParamGroup, Algebraic, Constructor, AlgPart, ConPart, FieldsPart, RecordPart, Begun, begins_atype, terminal_at, token_at}
 use Rattle.tokens_why.specs.declared.terminal.Terminal.TheVariants as t
 use Rattle.grammar.specs.declared.symbols.Symbol.TheVariants as s
 
@@ -20,11 +20,23 @@ pub record IsReadNames (xs : List Lexeme) (i : ℕ) (ns : List Name) (j : ℕ) :
 abbrev pub begins_constructor : Terminal → Terminal → Bool
 begins_constructor x y = same t.Bar x || (same t.Uident x && not (same t.Dot y))
 
+-- the same, or the fields of a record
+abbrev pub begins_algebraic : Terminal → Terminal → Bool
+begins_algebraic x y = same t.LBrace x || begins_constructor x y
+
+-- a semicolon is before another field, and not after the last one
+abbrev pub goes_on_with_field : Terminal → Terminal → Bool
+goes_on_with_field x y = same t.Semi x && not (same t.RBrace y)
+
 abbrev pub fields_part : List ParamGroup → List Constructor → List Algebraic → FieldsPart
 fields_part fs cs as_ = record { fields = fs; constructors = cs; others = as_ }
 
-abbrev pub con_part : Bool → List Constructor → List Algebraic → ConPart
-con_part b cs as_ = record { bar = b; constructors = cs; others = as_ }
+abbrev pub con_part : Bool → List Constructor → List ParamGroup → Bool → List Algebraic → ConPart
+con_part b cs ps semi as_ =
+    record { bar = b; constructors = cs; fields = ps; semi = semi; others = as_ }
+
+abbrev pub record_part : List ParamGroup → Bool → List Algebraic → RecordPart
+record_part ps semi as_ = record { fields = ps; semi = semi; others = as_ }
 
 abbrev pub alg_part : List Name → ConPart → AlgPart
 alg_part vs c = record { vars = vs; con = c }
@@ -40,27 +52,42 @@ pub record IsConstructor (xs : List Lexeme) (i : ℕ) (c : Constructor) (j : ℕ
   pub is : Begun xs 0 (λ k. s.Fields ∷ k) (i + 1) (λ k. s.Fields ∷ k)
       (λ k us. (fields_part fields us.0.constructors us.0.others, us.1)) j
 
--- What is read after the name of the first of constructors has these, and then no more.
+-- What is read after the name of the first of constructors has these, and then other types.
 pub record IsConstructors (xs : List Lexeme) (i : ℕ) (cs : List Constructor) (j : ℕ) : Type 0 where
   pub fields : List ParamGroup
   pub others : List Constructor
   pub spelled : constructor_at xs i fields ∷ others ≡ cs
-  pub ends : begins_atype (terminal_at xs j) ≡ false
-  pub last : same t.Bar (terminal_at xs j) ≡ false
-  pub is : Begun xs 0 (λ k. s.Fields ∷ k) (i + 1) (λ k. s.Fields ∷ k)
-      (λ k us. (fields_part fields others us.0.others, us.1)) j
+  pub is : Begun xs 0 (λ k. s.Fields ∷ k) (i + 1) (λ k. s.Algs ∷ k)
+      (λ k us. (fields_part fields others us.0, us.1)) j
 
--- What is read after an equality sign has these constructors, a bar before them or not.
-pub record IsCon (xs : List Lexeme) (i : ℕ) (b : Bool) (cs : List Constructor)
+-- What is read after the brace of a record has these fields, a semicolon after them or not, and
+-- then other types.
+pub record IsRecord (xs : List Lexeme) (i : ℕ) (ps : List ParamGroup) (semi : Bool)
     (j : ℕ) : Type 0 where
-  pub ends : begins_atype (terminal_at xs j) ≡ false
-  pub last : same t.Bar (terminal_at xs j) ≡ false
-  pub is : Begun xs 1 (λ k. s.Con ∷ k) i (λ k. s.Fields ∷ k)
-      (λ k us. (con_part b cs us.0.others, us.1)) j
+  pub first : ParamGroup
+  pub others : List ParamGroup
+  pub spelled : first ∷ others ≡ ps
+  pub is : Begun xs 1 (λ k. s.RecordField ∷ s.RecordRest ∷ k) i (λ k. s.Algs ∷ k)
+      (λ k us. (first, (record_part others semi us.0, us.1))) j
+
+-- What is read after an equality sign is these constructors, a bar before them or not, or these
+-- fields of a record, a semicolon after them or not, and then other types.
+abbrev pub IsCon : List Lexeme → ℕ → Bool → List Constructor → List ParamGroup → Bool → ℕ → Type 0
+IsCon xs i b cs ps semi j = Begun xs 1 (λ k. s.Con ∷ k) i (λ k. s.Algs ∷ k)
+    (λ k us. (con_part b cs ps semi us.0, us.1)) j
+
+-- What is read after an equality sign makes of a name and variables this algebraic type.
+pub record IsReadBody (xs : List Lexeme) (i : ℕ) (n : Name) (vs : List Name) (a : Algebraic)
+    (j : ℕ) : Type 0 where
+  pub name : a.name ≡ n
+  pub vars : a.vars ≡ vs
+  pub is : IsCon xs i a.bar a.constructors a.fields a.semi j
 
 -- What is read as a type's name and the rest of it is this algebraic type.
-pub record IsReadAlgebraic (xs : List Lexeme) (i : ℕ) (a : Algebraic) (j : ℕ) : Type 0 where
-  pub ends : begins_atype (terminal_at xs j) ≡ false
-  pub last : same t.Bar (terminal_at xs j) ≡ false
-  pub is : Begun xs 1 (λ k. s.Take t.Lident ∷ s.Algvars ∷ k) i (λ k. s.Fields ∷ k)
-      (λ k us. (a.name, (alg_part a.vars (con_part a.bar a.constructors us.0.others), us.1))) j
+abbrev pub IsReadAlgebraic : List Lexeme → ℕ → Algebraic → ℕ → Type 0
+IsReadAlgebraic xs i a j =
+    Begun xs 1 (λ k. s.Take t.Lident ∷ s.Algvars ∷ k) i (λ k. s.Algs ∷ k)
+    (λ k us. (
+      a.name,
+      (alg_part a.vars (con_part a.bar a.constructors a.fields a.semi us.0), us.1),
+    )) j

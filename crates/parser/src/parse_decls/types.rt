@@ -1,10 +1,10 @@
 // Declarations of types, where they are known to be there: each call reads one, and says where it ends.
-ghost use Rattle.std.specs.Prelude.{true, ◌≡◌, ◌+◌, ◌∷◌, IfOk, map};
-ghost use Rattle.parser.specs.parse_decls.Common.{same, algebraic_of, constructor_of, decl_of, CanRead, CanRun, terminal_at, lexemes};
+ghost use Rattle.std.specs.Prelude.{false, true, ◌≡◌, ◌+◌, ◌∷◌, [], IfOk, map};
+ghost use Rattle.parser.specs.parse_decls.Common.{same, algebraic_of, constructor_of, decl_of, param_of, CanRead, CanRun, IsRead, terminal_at, lexemes};
 ghost use Rattle.grammar.specs.declared.symbols.Symbol.TheVariants as rule;
 ghost use Rattle.tokens_why.specs.declared.terminal.Terminal.TheVariants as t;
 ghost use Rattle.parser.specs.parse_decls.Bodies.{IsDecl};
-ghost use Rattle.parser.specs.parse_decls.Types.{IsReadAlgebraic, IsCon, IsConstructor, IsConstructors, IsReadNames, begins_constructor};
+ghost use Rattle.parser.specs.parse_decls.Types.{IsReadBody, IsReadAlgebraic, IsCon, IsConstructor, IsConstructors, IsReadNames, IsRecord, begins_algebraic, goes_on_with_field};
 
 use crate::parse_decls::parameters::param;
 use crate::parse_terms::{Source, at_type, is_at, name_at, place, type_tree};
@@ -27,12 +27,13 @@ pub fn variables(alloc: Global, source: Source, i: usize) -> Result<(Seq<Name>, 
     Ok((Seq::from_vec(names), j))
 }
 
-/// Whether constructors begin, and no type.
-fn at_constructor(source: Source, i: usize) -> bool
-    ensures { result ≡ begins_constructor (terminal_at (lexemes source.entry) i)
+/// Whether constructors or the fields of a record begin, and no type.
+fn at_algebraic(source: Source, i: usize) -> bool
+    ensures { result ≡ begins_algebraic (terminal_at (lexemes source.entry) i)
         (terminal_at (lexemes source.entry) (i + 1)) }
 {
-    is_at(source, i, Terminal::Bar)
+    is_at(source, i, Terminal::LBrace)
+        || is_at(source, i, Terminal::Bar)
         || (is_at(source, i, Terminal::Uident) && !is_at(source, i + 1, Terminal::Dot))
 }
 
@@ -83,9 +84,10 @@ fn alternatives(
     source: Source,
     i: usize,
 ) -> Result<(bool, Seq<ConTree>, usize), AllocError>
-    requires { CanRead (lexemes source) rule.Con i }
+    requires can { CanRead (lexemes source) rule.Con i }
+    requires none { same t.LBrace (terminal_at (lexemes source) i) ≡ false }
     ensures { IfOk result
-        (λ r. IsCon (lexemes source.entry) i r.0 (map constructor_of r.1) r.2) }
+        (λ r. IsCon (lexemes source.entry) i r.0 (map constructor_of r.1) [] false r.2) }
 {
     let is_barred = is_at(source, i, Terminal::Bar);
     if is_barred {
@@ -96,6 +98,94 @@ fn alternatives(
     Ok((false, cons, end))
 }
 
+/// A field of a record with its type.
+fn record_field(alloc: Global, source: Source, i: usize) -> Result<(ParamTree, usize), AllocError>
+    requires { CanRead (lexemes source) rule.RecordField i }
+    ensures { IfOk result
+        (λ r. IsRead (lexemes source.entry) rule.RecordField i (param_of r.0) r.1) }
+{
+    let name = name_at(alloc, source, i)?;
+    let (ty, end) = type_tree(alloc, source, i + 1 + 1)?;
+    let mut names: Vec<Name> = Vec::new(alloc);
+    names.push(name)?;
+    let field = ParamTree {
+        names: Seq::from_vec(names),
+        ty,
+    };
+    Ok((field, end))
+}
+
+/// Whether a semicolon and then another field of a record stand from a token on.
+fn at_next_field(source: Source, i: usize) -> bool
+    ensures { result ≡ goes_on_with_field (terminal_at (lexemes source.entry) i)
+        (terminal_at (lexemes source.entry) (i + 1)) }
+{
+    is_at(source, i, Terminal::Semi) && !is_at(source, i + 1, Terminal::RBrace)
+}
+
+/// The fields of a record after its brace, whether a semicolon is after them, and the token after
+/// the other brace.
+fn record_fields(
+    alloc: Global,
+    source: Source,
+    i: usize,
+) -> Result<(Seq<ParamTree>, bool, usize), AllocError>
+    requires { CanRun (lexemes source) (λ k. rule.RecordField ∷ rule.RecordRest ∷ k) i }
+    ensures { IfOk result (λ r. IsRecord (lexemes source.entry) i (map param_of r.0) r.1 r.2) }
+{
+    let mut parts: Vec<ParamTree> = Vec::new(alloc);
+    let (first, mut j) = record_field(alloc, source, i)?;
+    parts.push(first)?;
+    'more: while at_next_field(source, j) {
+        let (next, end) = record_field(alloc, source, j + 1)?;
+        parts.push(next)?;
+        j = end;
+    }
+    let semi = is_at(source, j, Terminal::Semi);
+    let fields = Seq::from_vec(parts);
+    if semi {
+        return Ok((fields, true, j + 1 + 1));
+    }
+    Ok((fields, false, j + 1))
+}
+
+/// An algebraic type of which the name and the variables were read, after its equality sign.
+fn algebraic(
+    alloc: Global,
+    source: Source,
+    i: usize,
+    name: Name,
+    vars: Seq<Name>,
+) -> Result<(AlgTree, usize), AllocError>
+    requires { CanRead (lexemes source) rule.Con i }
+    ensures { IfOk result
+        (λ r. IsReadBody (lexemes source.entry) i name vars (algebraic_of r.0) r.1) }
+{
+    let is_record = is_at(source, i, Terminal::LBrace);
+    if is_record {
+        let (fields, semi, close) = record_fields(alloc, source, i + 1)?;
+        let record = AlgTree {
+            name,
+            vars,
+            bar: false,
+            cons: Seq::new(alloc),
+            fields,
+            semi,
+        };
+        return Ok((record, close));
+    }
+    let (bar, cons, end) = alternatives(alloc, source, i)?;
+    let tree = AlgTree {
+        name,
+        vars,
+        bar,
+        cons,
+        fields: Seq::new(alloc),
+        semi: false,
+    };
+    Ok((tree, end))
+}
+
 /// An algebraic type from its name on.
 fn algebraic_type(alloc: Global, source: Source, i: usize) -> Result<(AlgTree, usize), AllocError>
     requires { CanRun (lexemes source) (λ k. rule.Take t.Lident ∷ rule.Algvars ∷ k) i }
@@ -103,13 +193,7 @@ fn algebraic_type(alloc: Global, source: Source, i: usize) -> Result<(AlgTree, u
 {
     let name = name_at(alloc, source, i)?;
     let (vars, j) = variables(alloc, source, i + 1)?;
-    let (bar, cons, end) = alternatives(alloc, source, j + 1)?;
-    let tree = AlgTree {
-        name,
-        vars,
-        bar,
-        cons,
-    };
+    let (tree, end) = algebraic(alloc, source, j + 1, name, vars)?;
     Ok((tree, end))
 }
 
@@ -130,16 +214,10 @@ pub fn type_declaration(
     let is_defined = is_at(source, j, Terminal::Equal);
     if is_defined {
         let behind = j + 1;
-        let is_algebraic = at_constructor(source, behind);
+        let is_algebraic = at_algebraic(source, behind);
         if is_algebraic {
-            let (bar, cons, after) = alternatives(alloc, source, behind)?;
+            let (first, after) = algebraic(alloc, source, behind, name, vars)?;
             let mut types: Vec<AlgTree> = Vec::new(alloc);
-            let first = AlgTree {
-                name,
-                vars,
-                bar,
-                cons,
-            };
             types.push(first)?;
             let mut n = after;
             'others: while is_at(source, n, Terminal::WithWord) {

@@ -2,7 +2,7 @@
 ghost use Rattle.std.specs.Prelude.{◌≡◌, ◌++◌, map, option_map, IfOk};
 ghost use Rattle.surface.specs.Lexeme.{terminals, at, kinds};
 ghost use Rattle.surface.specs.Forms.{write_called};
-ghost use Rattle.surface.specs.Declarations.{variable_row, write_param, param_row, definition, write_member, other_members, write_constructor, constructor_list, write_algebraic, algebraic_list, write_clause, clause_list, write_inductive, inductive_list, prop_word, link_words, write_path, renamed, symbol_word, write_element, substitution, type_equation, write_decl, write_decls, heading, write_theory, write_file, type_decl, function_decl, predicate_decl, constant_decl, prop_decl, use_decl, clone_decl};
+ghost use Rattle.surface.specs.Declarations.{variable_row, write_param, param_row, definition, write_member, other_members, write_constructor, constructor_list, write_field, write_type_body, write_algebraic, algebraic_list, write_clause, clause_list, write_inductive, inductive_list, prop_word, link_words, write_path, renamed, symbol_word, write_element, substitution, type_equation, write_decl, write_decls, heading, write_theory, write_file, type_decl, function_decl, predicate_decl, constant_decl, prop_decl, use_decl, clone_decl};
 ghost use Rattle.surface.specs.Surface.{form_of, tree_of};
 ghost use Rattle.surface.specs.unparse.Putting.{Puts};
 ghost use Rattle.surface.specs.SurfaceDeclarations.{declared_name, plain_name, param_of, member_of, constructor_of, algebraic_of, clause_of, inductive_of, element_of, decls, decl_of, theory_of, file_of};
@@ -133,6 +133,37 @@ fn push_constructors(of: &[ConTree], out: &mut Written)
     }
 }
 
+fn push_field(field: &ParamTree, out: &mut Written)
+    ensures { Puts out.old out.new (terminals
+        (write_field (param_of field.now))) }
+{
+    push_names(field.names.as_slice(), out);
+    out.push(Terminal::Colon);
+    push_type(&field.ty, out)
+}
+
+fn push_type_body(algebraic: &AlgTree, out: &mut Written)
+    ensures { Puts out.old out.new (terminals
+        (write_type_body algebraic.now.bar (map constructor_of algebraic.now.cons)
+        (map param_of algebraic.now.fields) algebraic.now.semi)) }
+{
+    if let [first, rest @ ..] = algebraic.fields.as_slice() {
+        out.push(Terminal::LBrace);
+        push_field(first, out);
+        for field in rest {
+            out.push(Terminal::Semi);
+            push_field(field, out);
+        }
+        if algebraic.semi {
+            out.push(Terminal::Semi);
+        }
+        push_terminal(Terminal::RBrace, out)
+    } else {
+        push_bar(algebraic.bar, out);
+        push_constructors(algebraic.cons.as_slice(), out)
+    }
+}
+
 fn push_algebraic(algebraic: &AlgTree, out: &mut Written)
     ensures { Puts out.old out.new (terminals
         (write_algebraic (algebraic_of algebraic.now))) }
@@ -140,8 +171,7 @@ fn push_algebraic(algebraic: &AlgTree, out: &mut Written)
     out.push(Terminal::Lident);
     push_variables(algebraic.vars.as_slice(), out);
     out.push(Terminal::Equal);
-    push_bar(algebraic.bar, out);
-    push_constructors(algebraic.cons.as_slice(), out)
+    push_type_body(algebraic, out)
 }
 
 fn push_algebraics(of: &[AlgTree], out: &mut Written)

@@ -1,4 +1,4 @@
-use Rattle.parser.proofs.parse_decls.Cited.{rules, map, [], refl, constructor_of, lexemes, only, start, next_within, stands, can_next, inside, named_there, algebraic_done, algebraic_equal, algebraic_sign, upto}
+use Rattle.parser.proofs.parse_decls.Cited.{rules, [], refl, algebraic_of, lexemes, only, start, next_within, stands, can_next, inside, named_there, algebraic_done, algebraic_equal, algebraic_sign, upto}
 use Rattle.tokens_why.specs.declared.terminal.Terminal.TheVariants as t
 use Rattle.parser.proofs.parse_decls.types.algebraic_type.Goals as goal
 
@@ -8,12 +8,12 @@ name_at-requires c = inside c.args.source c.args.i (next_within (start c.require
 pub overflow_add-j : goal.overflow_add-j
 overflow_add-j c = let h = inside c.args.source c.in_ok-vars.j (stands (lexemes c.args.source) c.in_ok-vars.j t.Equal (algebraic_sign c.requires c.in_ok-vars.vars c.in_ok-vars.j c.in_ok-vars.ensures) refl) in search rules
 
-pub alternatives-requires : goal.alternatives-requires
-alternatives-requires c = can_next (algebraic_equal c.requires c.in_ok-vars.vars c.in_ok-vars.j c.in_ok-vars.ensures)
+pub algebraic-requires : goal.algebraic-requires
+algebraic-requires c = can_next (algebraic_equal c.requires c.in_ok-vars.vars c.in_ok-vars.j c.in_ok-vars.ensures)
 
 pub returns : goal.returns
-returns c = algebraic_done c.requires c.in_ok-vars.vars c.in_ok-vars.j c.in_ok-vars.ensures c.in_ok-name.name c.in_ok-bar.bar (map constructor_of c.in_ok-bar.cons) c.in_ok-bar.end
-    (named_there (lexemes c.args.source) c.args.i c.in_ok-name.name c.in_ok-name.ensures.place c.in_ok-name.ensures.text (only (start c.requires) t.Lident [] refl refl tt)) c.in_ok-bar.ensures
+returns c = algebraic_done c.requires c.in_ok-vars.vars c.in_ok-vars.j c.in_ok-vars.ensures c.in_ok-name.name (algebraic_of c.in_ok-tree.tree) c.in_ok-tree.end
+    (named_there (lexemes c.args.source) c.args.i c.in_ok-name.name c.in_ok-name.ensures.place c.in_ok-name.ensures.text (only (start c.requires) t.Lident [] refl refl tt)) c.in_ok-tree.ensures
 
 -- the numbers of tokens, which are at most that of all tokens
 

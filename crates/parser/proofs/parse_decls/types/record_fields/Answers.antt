@@ -1,0 +1,33 @@
+use Rattle.parser.proofs.parse_decls.Cited.{◌+◌, [], ◌∷◌, ◌++◌, true, false, map, sym, ap, ◌∙◌, subst, map-append, can_next, start, stands, refl, param_of, lexemes, IsRecord, RecordFields, brace_after, record_done, record_done_semi, record_item, record_more, record_start, inside, rules, arith, ◌≤◌, upto}
+use Rattle.tokens_why.specs.declared.terminal.Terminal.TheVariants as t
+use Rattle.parser.proofs.parse_decls.types.record_fields.Goals as goal
+
+pub record_field-requires : goal.record_field-requires
+record_field-requires c = can_next (start c.requires)
+
+pub more-init : goal.more-init
+more-init c = subst (λ ts. RecordFields (lexemes c.args.source) c.args.i (map param_of ts) c.in_ok-first.j) (sym (c.in_ok-push.ensures.items ∙ ap (λ v. v ++ c.in_ok-first.first ∷ []) c.new-parts.ensures.items))
+    (record_start c.requires (param_of c.in_ok-first.first) c.in_ok-first.j c.in_ok-first.ensures)
+
+pub record_field-requires-in-more : goal.record_field-requires-in-more
+record_field-requires-in-more c = can_next (record_item (lexemes c.args.source) c.args.i (map param_of c.more.parts.items) c.more.j c.more.invariant (sym c.at_next_field.ensures ∙ c.more-test.true))
+
+pub more-preserved : goal.more-preserved
+more-preserved c = subst (λ ts. RecordFields (lexemes c.args.source) c.args.i ts c.in_ok-next.end) (sym (ap (map param_of) c.in_ok-push-2.ensures.items ∙ map-append param_of c.more.parts.items (c.in_ok-next.next ∷ [])))
+    (record_more (lexemes c.args.source) c.args.i (map param_of c.more.parts.items) c.more.j c.more.invariant (sym c.at_next_field.ensures ∙ c.more-test.true) (param_of c.in_ok-next.next) c.in_ok-next.end c.in_ok-next.ensures)
+
+pub returns-then-semi : goal.returns-then-semi
+returns-then-semi c = subst (λ ts. IsRecord (lexemes c.args.source) c.args.i (map param_of ts) true (c.more.j + 1 + 1)) (sym c.from_vec-fields.ensures)
+    (record_done_semi (lexemes c.args.source) c.args.i (map param_of c.more.parts.items) c.more.j c.more.invariant (sym c.is_at-semi.ensures ∙ c.if-semi.true) (sym c.at_next_field.ensures ∙ c.more-test.false))
+
+pub returns : goal.returns
+returns c = subst (λ ts. IsRecord (lexemes c.args.source) c.args.i (map param_of ts) false (c.more.j + 1)) (sym c.from_vec-fields.ensures)
+    (record_done (lexemes c.args.source) c.args.i (map param_of c.more.parts.items) c.more.j c.more.invariant (sym c.is_at-semi.ensures ∙ c.if-semi.false))
+
+-- the numbers of tokens, which are at most that of all tokens
+
+pub overflow_add-j : goal.overflow_add-j
+overflow_add-j c = let h = upto c.args.source c.more.j c.more.invariant.is.within in search rules
+
+pub more-smaller : goal.more-smaller
+more-smaller c = let a : c.more.j + 1 + 1 ≤ c.in_ok-next.end = c.in_ok-next.ensures.ahead in let w = upto c.args.source c.in_ok-next.end c.in_ok-next.ensures.within in omega (arith, a, w)
