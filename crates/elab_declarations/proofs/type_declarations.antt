@@ -3,4 +3,5 @@ pub mod Declared
 pub mod Sorted
 pub mod Typed
 pub mod Placed
+pub mod Records
 pub mod Made

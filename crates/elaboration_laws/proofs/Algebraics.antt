@@ -103,19 +103,19 @@ module _ (theory within : Word) (named : is_empty theory ≡ false) where
 
     -- the first constructor's entries, and those of the others
     first_entries : (vars n : ℕ) (t : Tree) (w : Where) (k : ConstructorOf) (ks : List ConstructorOf) → EntriesAt base all n (constructors_entries theory within vars t (k ∷ ks) (constructor_trees w n (k ∷ ks)))
-        → EntriesAt base all n (named_entries theory within k.called.name vars t (words_of_parameters k.fields) (parameter_types w k.fields)) × EntriesAt base all (n + (count_fields k.fields + 1)) (constructors_entries theory within vars t ks (constructor_trees w (n + (count_fields k.fields + 1)) ks))
+        → EntriesAt base all n (named_entries theory within k.own vars t (words_of_parameters k.fields) (parameter_types w k.fields)) × EntriesAt base all (n + (count_fields k.fields + 1)) (constructors_entries theory within vars t ks (constructor_trees w (n + (count_fields k.fields + 1)) ks))
     first_entries vars n t w k ks h =
         let fs = parameter_types w k.fields in
         let ws = words_of_parameters k.fields in
-        let one = named_entries theory within k.called.name vars t ws fs in
-        let p : length (field_entries theory within k.called.name vars t 1 ws fs) ≡ length fs = count_entries theory within k.called.name vars t 1 ws fs in
+        let one = named_entries theory within k.own vars t ws fs in
+        let p : length (field_entries theory within k.own vars t 1 ws fs) ≡ length fs = count_entries theory within k.own vars t 1 ws fs in
         entries_split base all one (constructors_entries theory within vars t ks (constructor_trees w (n + (count_fields k.fields + 1)) ks)) n (n + (count_fields k.fields + 1)) (omega (arith, p, types_count w k.fields)) h
 
     constructors_valid : (type vars : ℕ) (w : Where) (ks : List ConstructorOf) (n : ℕ) → EntriesAt base all n (constructors_entries theory within vars (own_type type vars) ks (constructor_trees w n ks)) → All (IsConstructorOf v type vars) (constructor_trees w n ks)
     constructors_valid type vars w [] n h = All-nil (IsConstructorOf v type vars)
     constructors_valid type vars w (k ∷ ks) n h =
         let e = first_entries vars n (own_type type vars) w k ks h in
-        All-cons (IsConstructorOf v type vars) _ (constructor_trees w (n + (count_fields k.fields + 1)) ks) (constructor_valid k.called.name type vars n (words_of_parameters k.fields) (parameter_types w k.fields) e.0) (constructors_valid type vars w ks (n + (count_fields k.fields + 1)) e.1)
+        All-cons (IsConstructorOf v type vars) _ (constructor_trees w (n + (count_fields k.fields + 1)) ks) (constructor_valid k.own type vars n (words_of_parameters k.fields) (parameter_types w k.fields) e.0) (constructors_valid type vars w ks (n + (count_fields k.fields + 1)) e.1)
 
     -- the first type's entries, and those of the others
     group_split : (w : Where) (a : AlgebraicType) (ts : List AlgebraicType) (i n : ℕ) → EntriesAt base all n (group_entries theory within (a ∷ ts) (algebraic_trees w i n (a ∷ ts)))
@@ -162,8 +162,8 @@ module _ (theory within : Word) (named : is_empty theory ≡ false) where
     constructors_own vars t (k ∷ ks) [] = All-nil IsOwnSymbol
     constructors_own vars t (k ∷ ks) (c ∷ cs) =
         let ws = words_of_parameters k.fields in
-        All-append IsOwnSymbol (named_entries theory within k.called.name vars t ws c.fields) (constructors_entries theory within vars t ks cs)
-        (All-cons IsOwnSymbol _ (field_entries theory within k.called.name vars t 1 ws c.fields) (record { nameable = rw named refl; kind = λ q. cc }) (fields_own k.called.name vars t 1 ws c.fields))
+        All-append IsOwnSymbol (named_entries theory within k.own vars t ws c.fields) (constructors_entries theory within vars t ks cs)
+        (All-cons IsOwnSymbol _ (field_entries theory within k.own vars t 1 ws c.fields) (record { nameable = rw named refl; kind = λ q. cc }) (fields_own k.own vars t 1 ws c.fields))
         (constructors_own vars t ks cs)
 
     numbered_scoped : (xs : List NumberedName) (names : NamesTree) → AreNumbered (IsSymbolNumber v) xs → AreTypedScopes v names → AreTypedScopes v (with_numbered xs names)
@@ -214,7 +214,7 @@ module _ (theory within : Word) (named : is_empty theory ≡ false) where
     cons_typed vars t [] cs h k = All-nil (IsTypedEntry v)
     cons_typed vars t (x ∷ ks) [] h k = All-nil (IsTypedEntry v)
     cons_typed vars t (x ∷ ks) (c ∷ cs) h k =
-        All-append (IsTypedEntry v) (named_entries theory within x.called.name vars t (words_of_parameters x.fields) c.fields) (constructors_entries theory within vars t ks cs) (named_typed v theory within x.called.name vars t (words_of_parameters x.fields) c.fields h k.0) (cons_typed vars t ks cs h k.1)
+        All-append (IsTypedEntry v) (named_entries theory within x.own vars t (words_of_parameters x.fields) c.fields) (constructors_entries theory within vars t ks cs) (named_typed v theory within x.own vars t (words_of_parameters x.fields) c.fields h k.0) (cons_typed vars t ks cs h k.1)
 
     pub group_typed : (ts : List AlgebraicType) (ys : List AlgebraicTree) → GroupIn ts ys → All (IsTypedEntry v) (group_entries theory within ts ys)
     group_typed [] ys h = All-nil (IsTypedEntry v)

@@ -1,20 +1,20 @@
 -- The first fault of the names that a declaration of a source makes is the failing check at the least token.
 use Rattle.std.proofs.Common.{◌≡◌, ℕ, ◌+◌, ◌≤◌, Bool, ◌||◌, List, [], ◌∷◌, ◌++◌, map, Option, Some, None, IfSome, refl, sym, ap, subst, ◌∙◌, arith, append_assoc}
 use Rattle.std.specs.Option.{is_some}
-use Rattle.std.proofs.lemmas.List.{map-append}
+use Rattle.std.proofs.lemmas.List.{append-nil, map-append}
 use Rattle.elab_groups.specs.tokens_why.declared.terminal.Terminal.TheVariants as t
 use Rattle.elab_groups.specs.surface.declared.names.Name.{Name}
 use Rattle.elab_groups.specs.surface.Lexeme.{Word, mark}
 use Rattle.elab_groups.specs.surface.Forms.{SyntaxForm, past, write_called, write_form}
 use Rattle.elab_groups.specs.surface.Trees.{write, name_row, type_part, bar_before}
-use Rattle.elab_groups.specs.surface.Declarations.{ParamGroup, Member, Constructor, Algebraic, Clause, Inductive, SyntaxDeclaration, type_decl, algebraic_decl, function_decl, predicate_decl, constant_decl, inductive_decl, prop_decl, use_decl, clone_decl, scope_decl, variable_row, typed_names, write_param, param_row, definition, write_member, other_members, write_constructor, write_algebraic, write_clause, write_inductive, constructor_list, constructor_tail, clause_list, clause_tail}
-use Rattle.elab_groups.specs.surface.DeclarationRules.{PlacedTyped, PlacedParams, PlacedMembers, PlacedConstructors, PlacedAlgebraics, PlacedClauses, PlacedInductives, PlacedDecl}
+use Rattle.elab_groups.specs.surface.Declarations.{ParamGroup, Member, Constructor, Algebraic, Clause, Inductive, SyntaxDeclaration, type_decl, algebraic_decl, function_decl, predicate_decl, constant_decl, inductive_decl, prop_decl, use_decl, clone_decl, scope_decl, variable_row, typed_names, write_param, param_row, definition, write_member, other_members, write_constructor, write_field, field_tail, semicolon_after, write_type_body, write_algebraic, write_clause, write_inductive, constructor_list, constructor_tail, clause_list, clause_tail}
+use Rattle.elab_groups.specs.surface.DeclarationRules.{PlacedTyped, PlacedParams, PlacedMembers, PlacedConstructors, PlacedFields, PlacedTypeBody, PlacedAlgebraics, PlacedClauses, PlacedInductives, PlacedDecl}
 use Rattle.elab_groups.specs.surface.Trees.{PlacedNames}
 use Rattle.elab_groups.specs.scopes.declared.Table.{Table}
 use Rattle.elab_groups.specs.scopes.declared.Table.TheVariants.{Types, Symbols, Propositions}
 use Rattle.elab_groups.specs.name_resolution.declared.NamingFault.TheVariants.{Duplicate}
 use Rattle.elab_groups.specs.name_resolution.Where.{place_of}
-use Rattle.elab_groups.specs.parts.Declarations.{TokenName, Declaration, parameter_of, group_member, constructor, algebraic_type, clause, inductive_predicate, declaration, symbol, word, Made, makes, binds_names, names_of_parameters, constructor_names, made_by_constructors, made_type_names, made_by_members, made_by_clauses, made_by_inductives, made_names, list_fault, made_before, made_fault}
+use Rattle.elab_groups.specs.parts.Declarations.{TokenName, Declaration, parameter_of, group_member, constructor, type_constructors, algebraic_type, clause, inductive_predicate, declaration, symbol, word, Made, makes, binds_names, names_of_parameters, constructor_names, made_by_constructors, made_type_names, made_by_members, made_by_clauses, made_by_inductives, made_names, list_fault, made_before, made_fault}
 use Rattle.elaboration_laws.specs.Checked.{IsLeastFailing}
 use Rattle.elaboration_laws.specs.UsedNames.{ListFails, MadeFails}
 use Rattle.elaboration_laws.proofs.Least.{past_both, past_up, past_more, Ranged, none_at, both_at, if_at}
@@ -152,6 +152,41 @@ constructors_within (c ∷ cs) i p =
     within_up i (past k (constructor_tail cs)) (past i (write_constructor c ++ constructor_tail cs)) (tokens_of (constructor_names (map constructor (c ∷ cs)))) (omega (arith, e))
     (constructor_within c ds i i (past k (constructor_tail cs)) (omega arith) p.0 p.1 (constructors_tail cs k p.2))
 
+-- fields of a record, by the names after the first of them
+first_field : (q : ParamGroup) (ps : List ParamGroup) (i hi : ℕ) → PlacedNames i q.names → Within (past i (write_field q)) hi (tokens_of (names_of_parameters (map parameter_of ps))) → Within i hi (tokens_of (names_of_parameters (map parameter_of (q ∷ ps))))
+first_field q ps i hi p h =
+    let ns = tokens_of (map word q.names) in
+    let e : past i (name_row q.names) ≤ past i (write_field q) = past_more i (name_row q.names) _ in
+    subst (Within i hi) (sym (map-append (λ (c : TokenName). c.at) (map word q.names) (names_of_parameters (map parameter_of ps))))
+    (within_both i (past i (write_field q)) hi ns (tokens_of (names_of_parameters (map parameter_of ps))) (within_up i (past i (name_row q.names)) (past i (write_field q)) ns e (names_within q.names i p)) h)
+
+fields_tail : (ps : List ParamGroup) (j : ℕ) → PlacedFields (j + 1) ps → Within j (past j (field_tail ps)) (tokens_of (names_of_parameters (map parameter_of ps)))
+fields_tail [] j p = omega arith
+fields_tail (q ∷ ps) j p =
+    let k = past (j + 1) (write_field q) in
+    let e = past_both (j + 1) (write_field q) (field_tail ps) in
+    let z = past (j + 1) (write_field q ++ field_tail ps) in
+    within_more j (j + 1) z (tokens_of (names_of_parameters (map parameter_of (q ∷ ps)))) (omega arith)
+    (first_field q ps (j + 1) z p.0 (within_up k (past k (field_tail ps)) z (tokens_of (names_of_parameters (map parameter_of ps))) (omega (arith, e)) (fields_tail ps k p.2)))
+
+-- constructors, or the fields of a record
+body_within : (bar : Bool) (cs : List Constructor) (fs : List ParamGroup) (semi : Bool) (x : Word) (i : ℕ) → PlacedTypeBody i bar cs fs → Within i (past i (write_type_body bar cs fs semi)) (tokens_of (constructor_names (type_constructors x cs fs)))
+body_within bar cs [] semi x i p =
+    let k = past i (bar_before bar) in
+    let m = past_up i (bar_before bar) in
+    let q = past_both i (bar_before bar) (constructor_list cs) in
+    let ns = tokens_of (constructor_names (map constructor cs)) in
+    within_more i k (past i (bar_before bar ++ constructor_list cs)) ns (omega (arith, m)) (within_up k (past k (constructor_list cs)) (past i (bar_before bar ++ constructor_list cs)) ns (omega (arith, q)) (constructors_within cs k p))
+body_within bar cs (f ∷ ps) semi x i p =
+    let last = semicolon_after semi ++ (mark t.RBrace ∷ []) in
+    let k = past (i + 1) (write_field f) in
+    let z = past (i + 1) (write_field f ++ (field_tail ps ++ last)) in
+    let e = past_both (i + 1) (write_field f) (field_tail ps ++ last) in
+    let n = past_more k (field_tail ps) last in
+    let ns = names_of_parameters (map parameter_of (f ∷ ps)) in
+    subst (λ (cs : List TokenName). Within i z (tokens_of cs)) (sym (append-nil ns))
+    (within_more i (i + 1) z (tokens_of ns) (omega arith) (first_field f ps (i + 1) z p.0 (within_up k (past k (field_tail ps)) z (tokens_of (names_of_parameters (map parameter_of ps))) (omega (arith, e, n)) (fields_tail ps k p.2))))
+
 clauses_tail : (cs : List Clause) (j : ℕ) → PlacedClauses (j + 1) cs → Within j (past j (clause_tail cs)) (made_tokens (made_by_clauses (map clause cs)))
 clauses_tail [] j p = omega arith
 clauses_tail (c ∷ cs) j p =
@@ -178,19 +213,18 @@ types_within : (as' : List Algebraic) (i : ℕ) → PlacedAlgebraics i as' → (
 types_within [] i p = (i, omega arith)
 types_within (a ∷ as') i p =
     let j = past (i + 1) (variable_row a.vars) in
-    let k = past (j + 1) (bar_before a.bar) in
-    let z = past k (constructor_list a.constructors) in
-    let m = past_up (j + 1) (bar_before a.bar) in
-    let e : past i (write_algebraic a) ≡ past (past (i + 1) (variable_row a.vars) + 1) (bar_before a.bar ++ constructor_list a.constructors) = past_both (i + 1) (variable_row a.vars) _ in
-    let q = past_both (j + 1) (bar_before a.bar) (constructor_list a.constructors) in
+    let k = j + 1 in
+    let z = past k (write_type_body a.bar a.constructors a.fields a.semi) in
+    let e : past i (write_algebraic a) ≡ past (past (i + 1) (variable_row a.vars) + 1) (write_type_body a.bar a.constructors a.fields a.semi) = past_both (i + 1) (variable_row a.vars) _ in
     let rest = types_within as' (past i (write_algebraic a) + 1) p.1 in
     let vs = tokens_of (map word a.vars) in
-    let names = constructor_names (map constructor a.constructors) in
+    let made = (algebraic_type a).constructors in
+    let names = constructor_names made in
     let cs = tokens_of names in
     let ts = made_tokens (made_type_names (map algebraic_type as')) in
-    let both : Within k rest.0 (cs ++ ts) = within_both k z rest.0 cs ts (constructors_within a.constructors k p.0.2) (within_more z (past i (write_algebraic a) + 1) rest.0 ts (omega (arith, e, q)) rest.1) in
-    let whole = within_both a.name.at j rest.0 vs (cs ++ ts) (within_more a.name.at (i + 1) j vs (omega (arith, p.0.0)) (variables_within a.vars (i + 1) p.0.1)) (within_more j k rest.0 (cs ++ ts) (omega (arith, m)) both) in
-    (rest.0, (omega (arith, p.0.0), subst (λ (is : List ℕ). Within a.name.at rest.0 (vs ++ is)) (sym (made_both (made_by_constructors (map constructor a.constructors)) (made_type_names (map algebraic_type as')) ∙ ap (λ (is : List ℕ). is ++ ts) (symbols_tokens names))) whole))
+    let both : Within k rest.0 (cs ++ ts) = within_both k z rest.0 cs ts (body_within a.bar a.constructors a.fields a.semi a.name.text k p.0.2) (within_more z (past i (write_algebraic a) + 1) rest.0 ts (omega (arith, e)) rest.1) in
+    let whole = within_both a.name.at j rest.0 vs (cs ++ ts) (within_more a.name.at (i + 1) j vs (omega (arith, p.0.0)) (variables_within a.vars (i + 1) p.0.1)) (within_more j k rest.0 (cs ++ ts) (omega arith) both) in
+    (rest.0, (omega (arith, p.0.0), subst (λ (is : List ℕ). Within a.name.at rest.0 (vs ++ is)) (sym (made_both (made_by_constructors made) (made_type_names (map algebraic_type as')) ∙ ap (λ (is : List ℕ). is ++ ts) (symbols_tokens names))) whole))
 
 inductives_within : (ds : List Inductive) (i : ℕ) → PlacedInductives i ds → (hi : ℕ) × Within i hi (made_tokens (made_by_inductives (map inductive_predicate ds)))
 inductives_within [] i p = (i, omega arith)

@@ -4,14 +4,14 @@ use Rattle.std.specs.Option.{is_none}
 use Rattle.elab_groups.specs.tokens_why.declared.terminal.Terminal.TheVariants as t
 use Rattle.elab_groups.specs.surface.declared.names.Name.{Name}
 use Rattle.elab_groups.specs.surface.Lexeme.{Word, mark}
-use Rattle.elab_groups.specs.surface.Forms.{SyntaxForm, past, write_called, write_form}
+use Rattle.elab_groups.specs.surface.Forms.{SyntaxForm, IsForm, type_forms, IsPlaced, past, write_called, write_form}
 use Rattle.elab_groups.specs.surface.Trees.{SyntaxTree, write, name_row, type_part, bar_before}
-use Rattle.elab_groups.specs.surface.Declarations.{ParamGroup, Member, Constructor, Algebraic, Clause, Inductive, SyntaxDeclaration, type_decl, algebraic_decl, function_decl, predicate_decl, constant_decl, inductive_decl, prop_decl, use_decl, clone_decl, scope_decl, variable_row, typed_names, write_param, param_row, definition, write_member, other_members, write_constructor, constructor_tail, constructor_list, write_algebraic, algebraic_tail, algebraic_list, write_clause, clause_tail, clause_list, write_inductive}
-use Rattle.elab_groups.specs.surface.DeclarationRules.{IsTypedParam, AreParams, IsMember, AreMembers, IsOptionalDefinition, IsDefined, AreConstructors, AreAlgebraic, AreClauses, AreInductive, IsLevelDecl, PlacedTyped, PlacedParams, PlacedDefinition, PlacedMember, PlacedMembers, PlacedConstructors, PlacedAlgebraic, PlacedAlgebraics, PlacedClauses, PlacedInductives, PlacedDecl}
+use Rattle.elab_groups.specs.surface.Declarations.{ParamGroup, Member, Constructor, Algebraic, Clause, Inductive, SyntaxDeclaration, type_decl, algebraic_decl, function_decl, predicate_decl, constant_decl, inductive_decl, prop_decl, use_decl, clone_decl, scope_decl, variable_row, typed_names, write_param, param_row, definition, write_member, other_members, write_constructor, constructor_tail, constructor_list, write_field, field_tail, semicolon_after, write_type_body, write_algebraic, algebraic_tail, algebraic_list, write_clause, clause_tail, clause_list, write_inductive}
+use Rattle.elab_groups.specs.surface.DeclarationRules.{IsTypedParam, AreParams, IsMember, AreMembers, IsOptionalDefinition, IsDefined, AreConstructors, AreFields, IsTypeBody, AreAlgebraic, AreClauses, AreInductive, IsLevelDecl, PlacedTyped, PlacedParams, PlacedDefinition, PlacedMember, PlacedMembers, PlacedConstructors, PlacedFields, PlacedTypeBody, PlacedAlgebraic, PlacedAlgebraics, PlacedClauses, PlacedInductives, PlacedDecl}
 use Rattle.elab_groups.specs.name_resolution.Abstract.{Expression, type_expression, expression}
 use Rattle.elab_groups.specs.name_resolution.Where.{Where}
 use Rattle.elab_groups.specs.name_resolution.Faults.{form_fault, type_fault, fault}
-use Rattle.elab_groups.specs.parts.Declarations.{Parameter, GroupMember, Declaration, parameter_of, group_member, constructor, algebraic_type, clause, inductive_predicate, declaration, symbol, word, words, params_fault, constructors_fault, types_fault, clauses_fault, inductives_fault, with_vars, own_variables}
+use Rattle.elab_groups.specs.parts.Declarations.{Parameter, GroupMember, Declaration, parameter_of, group_member, constructor, type_constructors, algebraic_type, clause, inductive_predicate, declaration, symbol, word, words, params_fault, constructors_fault, types_fault, clauses_fault, inductives_fault, with_vars, own_variables}
 use Rattle.elab_groups.specs.parts.Outcomes.{Setting, around}
 use Rattle.elab_groups.specs.members.Members.{words_of_parameters, body_fault, member_fault, members_fault}
 use Rattle.elab_groups.specs.Groups.{within_group}
@@ -109,15 +109,49 @@ constructors_at w (c ∷ cs) i o p =
     let e = past_both i (write_constructor c) (constructor_tail cs) in
     both_at i k k (past k (constructor_tail cs)) i (past i (write_constructor c ++ constructor_tail cs)) _ _ _ _ (omega arith) (omega arith) (omega (arith, l)) (omega (arith, m)) (omega (arith, e)) (constructor_at w c i (o.0, tt) (p.0, p.1, tt)) (constructors_tail w cs k o.1 p.2)
 
-algebraic_at : (w : Where) (a : Algebraic) (i : ℕ) → AreConstructors a.constructors → PlacedAlgebraic i a → Ranged i (past i (write_algebraic a)) (constructors_fault w (map constructor a.constructors)) (ConstructorsFail w (map constructor a.constructors))
+-- fields of a record
+field_at : (w : Where) (q : ParamGroup) (i : ℕ) → IsForm type_forms q.of_type → IsPlaced (past i (name_row q.names) + 1) q.of_type → Ranged i (past i (write_field q)) (form_fault w false (type_expression q.of_type)) (FormFails w false (type_expression q.of_type))
+field_at w q i o p =
+    let j = past i (name_row q.names) in
+    let l = past_up i (name_row q.names) in
+    let e : past i (write_field q) ≡ past (past i (name_row q.names) + 1) (write_form q.of_type) = past_both i (name_row q.names) _ in
+    wider (j + 1) (past (j + 1) (write_form q.of_type)) i (past i (write_field q)) _ _ (omega (arith, l)) (omega (arith, e)) (form_at w false q.of_type (j + 1) o p)
+
+fields_tail : (w : Where) (ps : List ParamGroup) (j : ℕ) → AreFields ps → PlacedFields (j + 1) ps → Ranged j (past j (field_tail ps)) (params_fault w false (map parameter_of ps)) (ParamsFail w false (map parameter_of ps))
+fields_tail w [] j o p = none_at j j
+fields_tail w (q ∷ ps) j o p =
+    let k = past (j + 1) (write_field q) in
+    let l = past_up (j + 1) (write_field q) in
+    let m = past_up k (field_tail ps) in
+    let e = past_both (j + 1) (write_field q) (field_tail ps) in
+    both_at (j + 1) k k (past k (field_tail ps)) j (past (j + 1) (write_field q ++ field_tail ps)) _ _ _ _ (omega arith) (omega arith) (omega (arith, l)) (omega (arith, m)) (omega (arith, e)) (field_at w q (j + 1) o.1 p.1) (fields_tail w ps k o.2 p.2)
+
+-- constructors, or the fields of a record
+body_at : (w : Where) (bar : Bool) (cs : List Constructor) (fs : List ParamGroup) (semi : Bool) (x : Word) (i : ℕ) → IsTypeBody bar cs fs semi → PlacedTypeBody i bar cs fs → Ranged i (past i (write_type_body bar cs fs semi)) (constructors_fault w (type_constructors x cs fs)) (ConstructorsFail w (type_constructors x cs fs))
+body_at w bar cs [] semi x i o p =
+    let k = past i (bar_before bar) in
+    let m = past_up i (bar_before bar) in
+    let q = past_both i (bar_before bar) (constructor_list cs) in
+    wider k (past k (constructor_list cs)) i (past i (bar_before bar ++ constructor_list cs)) _ _ (omega (arith, m)) (omega (arith, q)) (constructors_at w cs k o.1 p)
+body_at w bar cs (f ∷ ps) semi x i o p =
+    let last = semicolon_after semi ++ (mark t.RBrace ∷ []) in
+    let k = past (i + 1) (write_field f) in
+    let z = past k (field_tail ps) in
+    let l = past_up (i + 1) (write_field f) in
+    let m = past_up k (field_tail ps) in
+    let e = past_both (i + 1) (write_field f) (field_tail ps ++ last) in
+    let n = past_more k (field_tail ps) last in
+    both_at (i + 1) z z z i (past (i + 1) (write_field f ++ (field_tail ps ++ last))) _ _ _ _ (omega arith) (omega arith) (omega (arith, l, m)) (omega arith) (omega (arith, e, n))
+    (both_at (i + 1) k k z (i + 1) z _ _ _ _ (omega arith) (omega arith) (omega (arith, l)) (omega (arith, m)) (omega arith) (field_at w f (i + 1) o.0.1 p.1) (fields_tail w ps k o.0.2 p.2))
+    (none_at z z)
+
+algebraic_at : (w : Where) (a : Algebraic) (i : ℕ) → IsTypeBody a.bar a.constructors a.fields a.semi → PlacedAlgebraic i a → Ranged i (past i (write_algebraic a)) (constructors_fault w (algebraic_type a).constructors) (ConstructorsFail w (algebraic_type a).constructors)
 algebraic_at w a i o p =
     let j = past (i + 1) (variable_row a.vars) in
-    let k = past (j + 1) (bar_before a.bar) in
+    let body = write_type_body a.bar a.constructors a.fields a.semi in
     let l = past_up (i + 1) (variable_row a.vars) in
-    let m = past_up (j + 1) (bar_before a.bar) in
-    let e : past i (write_algebraic a) ≡ past (past (i + 1) (variable_row a.vars) + 1) (bar_before a.bar ++ constructor_list a.constructors) = past_both (i + 1) (variable_row a.vars) _ in
-    let q = past_both (j + 1) (bar_before a.bar) (constructor_list a.constructors) in
-    wider k (past k (constructor_list a.constructors)) i (past i (write_algebraic a)) _ _ (omega (arith, l, m)) (omega (arith, e, q)) (constructors_at w a.constructors k o p.2)
+    let e : past i (write_algebraic a) ≡ past (past (i + 1) (variable_row a.vars) + 1) (write_type_body a.bar a.constructors a.fields a.semi) = past_both (i + 1) (variable_row a.vars) _ in
+    wider (j + 1) (past (j + 1) body) i (past i (write_algebraic a)) _ _ (omega (arith, l)) (omega (arith, e)) (body_at w a.bar a.constructors a.fields a.semi a.name.text (j + 1) o p.2)
 
 types_tail : (w : Where) (as' : List Algebraic) (j : ℕ) → AreAlgebraic as' → PlacedAlgebraics (j + 1) as' → Ranged j (past j (algebraic_tail as')) (types_fault w (map algebraic_type as')) (TypesFail w (map algebraic_type as'))
 types_tail w [] j o p = none_at j j
@@ -126,7 +160,7 @@ types_tail w (a ∷ as') j o p =
     let l = past_up (j + 1) (write_algebraic a) in
     let m = past_up k (algebraic_tail as') in
     let e = past_both (j + 1) (write_algebraic a) (algebraic_tail as') in
-    both_at (j + 1) k k (past k (algebraic_tail as')) j (past (j + 1) (write_algebraic a ++ algebraic_tail as')) _ _ _ _ (omega arith) (omega arith) (omega (arith, l)) (omega (arith, m)) (omega (arith, e)) (algebraic_at (with_vars w (words (map word a.vars))) a (j + 1) o.1 p.0) (types_tail w as' k o.2 p.1)
+    both_at (j + 1) k k (past k (algebraic_tail as')) j (past (j + 1) (write_algebraic a ++ algebraic_tail as')) _ _ _ _ (omega arith) (omega arith) (omega (arith, l)) (omega (arith, m)) (omega (arith, e)) (algebraic_at (with_vars w (words (map word a.vars))) a (j + 1) o.0 p.0) (types_tail w as' k o.1 p.1)
 
 types_at : (w : Where) (as' : List Algebraic) (i : ℕ) → AreAlgebraic as' → PlacedAlgebraics i as' → Ranged i (past i (algebraic_list as')) (types_fault w (map algebraic_type as')) (TypesFail w (map algebraic_type as'))
 types_at w [] i o p = none_at i i
@@ -135,7 +169,7 @@ types_at w (a ∷ as') i o p =
     let l = past_up i (write_algebraic a) in
     let m = past_up k (algebraic_tail as') in
     let e = past_both i (write_algebraic a) (algebraic_tail as') in
-    both_at i k k (past k (algebraic_tail as')) i (past i (write_algebraic a ++ algebraic_tail as')) _ _ _ _ (omega arith) (omega arith) (omega (arith, l)) (omega (arith, m)) (omega (arith, e)) (algebraic_at (with_vars w (words (map word a.vars))) a i o.1 p.0) (types_tail w as' k o.2 p.1)
+    both_at i k k (past k (algebraic_tail as')) i (past i (write_algebraic a ++ algebraic_tail as')) _ _ _ _ (omega arith) (omega arith) (omega (arith, l)) (omega (arith, m)) (omega (arith, e)) (algebraic_at (with_vars w (words (map word a.vars))) a i o.0 p.0) (types_tail w as' k o.1 p.1)
 
 -- ---- inductive predicates
 clause_at : (w : Where) (c : Clause) (i : ℕ) → AreClauses (c ∷ []) → PlacedClauses i (c ∷ []) → Ranged i (past i (write_clause c)) (fault w true [] true (expression c.prop)) (NamesFail w true [] true (expression c.prop))

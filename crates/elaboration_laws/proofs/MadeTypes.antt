@@ -140,16 +140,16 @@ module _ (theory within : Word) where
     next = n + (count_fields k.fields + 1)
 
     abbrev own : List SymbolTree
-    own = field_entries theory within k.called.name vars t 1 (words_of_parameters k.fields) fields
+    own = field_entries theory within k.own vars t 1 (words_of_parameters k.fields) fields
 
     abbrev rest : List SymbolTree
     rest = constructors_entries theory within vars t ks (constructor_trees w next ks)
 
     cons_step : (j : ℕ) (e : SymbolTree) → e.kind ≡ Constructor → (slice_get own j ≡ Some e) ⊎ ((length own ≤ j) × (slice_get rest (j - length own) ≡ Some e))
         → ((i : ℕ) → slice_get rest i ≡ Some e → IsTrue (is_constructor (constructed_as (next + i) (constructor_trees w next ks)))) → IsTrue (is_constructor (constructed_as (n + suc j) (constructor_trees w n (k ∷ ks))))
-    cons_step j e q (inl y) f = absurd (slice_all (λ (i : SymbolTree). i.kind ≡ Constructor → ⊥) own (kinds_differ theory within k.called.name vars t 1 (words_of_parameters k.fields) fields) j e y q)
+    cons_step j e q (inl y) f = absurd (slice_all (λ (i : SymbolTree). i.kind ≡ Constructor → ⊥) own (kinds_differ theory within k.own vars t 1 (words_of_parameters k.fields) fields) j e y q)
     cons_step j e q (inr y) f =
-        let count = count_entries theory within k.called.name vars t 1 (words_of_parameters k.fields) fields in
+        let count = count_entries theory within k.own vars t 1 (words_of_parameters k.fields) fields in
         let long = types_count w k.fields in
         let tree : ConstructorTree = record { symbol = n; fields = fields; projections = numbering_from (n + 1) fields } in
         let a = differ n (n + suc j) (omega arith) in

@@ -53,8 +53,8 @@ module _ (theory : Word) where
   constructors_of within n t (k ∷ ks) [] = All-nil Of
   constructors_of within n t (k ∷ ks) (c ∷ cs) =
       let ws = words_of_parameters k.fields in
-      All-append Of (named_entries theory within k.called.name n t ws c.fields) (constructors_entries theory within n t ks cs)
-      (All-cons Of _ (field_entries theory within k.called.name n t 1 ws c.fields) refl (fields_of within k.called.name n t 1 ws c.fields)) (constructors_of within n t ks cs)
+      All-append Of (named_entries theory within k.own n t ws c.fields) (constructors_entries theory within n t ks cs)
+      (All-cons Of _ (field_entries theory within k.own n t 1 ws c.fields) refl (fields_of within k.own n t 1 ws c.fields)) (constructors_of within n t ks cs)
 
   pub group_of : (within : Word) (ts : List AlgebraicType) (ys : List AlgebraicTree) → All Of (group_entries theory within ts ys)
   group_of within [] ys = All-nil Of

@@ -13,7 +13,7 @@ use Rattle.name_resolution.specs.declared.NamingFault.TheVariants as names
 use Rattle.name_resolution.specs.Faults.{first_of, fault_if}
 use Rattle.name_resolution.specs.Naming.{Tells}
 use Rattle.name_resolution.specs.Where.{place_of}
-use Rattle.elab_groups.specs.parts.Declarations.{TokenName, Parameter, AlgebraicConstructor, AlgebraicType, words, names_of_parameters, constructor_names, list_fault}
+use Rattle.elab_groups.specs.parts.Declarations.{TokenName, Parameter, AlgebraicConstructor, AlgebraicType, words, called_names, names_of_parameters, constructor_names, list_fault}
 use Rattle.elab_groups.specs.members.Members.{parameter_words}
 use Rattle.elab_groups.specs.parts.Outcomes.{declared_in, IsNameRefused}
 use Rattle.elab_groups.proofs.parts.Alike.{both}
@@ -126,7 +126,8 @@ constructors_words : (n : ℕ) (ks : List AlgebraicConstructor) → numbered_wor
 constructors_words n [] = refl
 constructors_words n (k ∷ ks) =
     let m = n + (count_fields k.fields + 1) in
-    ap (λ (ws : List Word). k.called.name ∷ ws) (both_words (numbered_fields (n + 1) k.fields) (numbered_constructors m ks) (names_of_parameters k.fields) (constructor_names ks) (fields_words (n + 1) k.fields) (constructors_words m ks))
+    both_words (numbered_names n (called_names k.called)) (numbered_fields (n + 1) k.fields ++ numbered_constructors m ks) (called_names k.called) (names_of_parameters k.fields ++ constructor_names ks) (named_words n (called_names k.called))
+    (both_words (numbered_fields (n + 1) k.fields) (numbered_constructors m ks) (names_of_parameters k.fields) (constructor_names ks) (fields_words (n + 1) k.fields) (constructors_words m ks))
 
 pub with_both : {A : Type 0} (xs ys : List NumberedName) (names : NamesOf A) → with_numbered (xs ++ ys) names ≡ with_numbered ys (with_numbered xs names)
 with_both [] ys names = refl

@@ -44,10 +44,10 @@ cons_length theory within v t w n (k ∷ ks) =
     let fs = parameter_types w k.fields in
     let ws = words_of_parameters k.fields in
     let m = n + (count_fields k.fields + 1) in
-    let here : List SymbolTree = named_entries theory within k.called.name v t ws fs in
+    let here : List SymbolTree = named_entries theory within k.own v t ws fs in
     let rest : List SymbolTree = constructors_entries theory within v t ks (constructor_trees w m ks) in
     let a : length (here ++ rest) ≡ length here + length rest = length-append here rest in
-    let b : length here ≡ suc (count_fields k.fields) = ap suc (fields_length theory within k.called.name v t 1 ws fs ∙ types_count w k.fields) in
+    let b : length here ≡ suc (count_fields k.fields) = ap suc (fields_length theory within k.own v t 1 ws fs ∙ types_count w k.fields) in
     let d : length rest ≡ entry_count ks = cons_length theory within v t w m ks in
     let e : length (here ++ rest) ≡ (count_fields k.fields + 1) + entry_count ks = omega (arith, a, b, d) in e
 

@@ -1,5 +1,5 @@
 -- What names mean where the names of a group are there, among them those of entries that aren't made yet.
-use Rattle.std.proofs.Common.{◌≡◌, ℕ, suc, ◌+◌, ◌<◌, ◌≤◌, true, List, [], ◌∷◌, ◌++◌, length, length-append, IfSome, refl, sym, ap, subst, ◌∙◌, arith}
+use Rattle.std.proofs.Common.{◌≡◌, Option, None, Some, ℕ, suc, ◌+◌, ◌<◌, ◌≤◌, true, List, [], ◌∷◌, ◌++◌, length, length-append, IfSome, refl, sym, ap, subst, ◌∙◌, arith}
 use Rattle.std.proofs.Math.ListN.{length-map}
 use Rattle.trees.specs.Tree.{Tree}
 use Rattle.trees.specs.Node.{Grows}
@@ -17,7 +17,7 @@ use Rattle.name_resolution.specs.Where.{NamesTree}
 use Rattle.name_resolution.specs.declared.world.World.{World}
 use Rattle.open_types.specs.Drafts.{MeaningHeld, WorldHeld}
 use Rattle.open_types.specs.Scoped.{IsScoped}
-use Rattle.elab_groups.specs.parts.Declarations.{TokenName, Parameter, AlgebraicConstructor, AlgebraicType}
+use Rattle.elab_groups.specs.parts.Declarations.{TokenName, Parameter, AlgebraicConstructor, AlgebraicType, called_names}
 use Rattle.elab_groups.specs.members.Members.{parameter_words, words_of_parameters}
 use Rattle.elab_groups.specs.parts.Entries.{IsSignature, IsExtended, AreScopes}
 use Rattle.elab_groups.specs.parts.Outcomes.{over}
@@ -58,15 +58,19 @@ module _ (P : ℕ → Type 0) where
       (names_numbered n p.names (λ i e. h i (omega (arith, e, w, l))))
       (fields_numbered (n + m) ps (λ i e. subst P (search (arith)) (h (m + i) (omega (arith, e, l)))))
 
+  called_numbered : (n : ℕ) (o : Option TokenName) → P n → AreNumbered P (numbered_names n (called_names o))
+  called_numbered n None h = tt
+  called_numbered n (Some c) h = (h, tt)
+
   pub constructors_numbered : (n : ℕ) (ks : List AlgebraicConstructor) → ((i : ℕ) → i < entry_count ks → P (n + i)) → AreNumbered P (numbered_constructors n ks)
   constructors_numbered n [] h = tt
   constructors_numbered n (k ∷ ks) h =
-      let m = count_fields k.fields + 1 in (
-        subst P (search (arith)) (h 0 (omega arith)),
-        both_numbered P (numbered_fields (n + 1) k.fields) (numbered_constructors (n + m) ks)
-            (fields_numbered (n + 1) k.fields (λ i e. subst P (search (arith)) (h (suc i) (omega arith))))
-            (constructors_numbered (n + m) ks (λ i e. subst P (search (arith)) (h (m + i) (omega arith)))),
-      )
+      let m = count_fields k.fields + 1 in
+      both_numbered P (numbered_names n (called_names k.called)) (numbered_fields (n + 1) k.fields ++ numbered_constructors (n + m) ks)
+      (called_numbered n k.called (subst P (search (arith)) (h 0 (omega arith))))
+      (both_numbered P (numbered_fields (n + 1) k.fields) (numbered_constructors (n + m) ks)
+      (fields_numbered (n + 1) k.fields (λ i e. subst P (search (arith)) (h (suc i) (omega arith))))
+      (constructors_numbered (n + m) ks (λ i e. subst P (search (arith)) (h (m + i) (omega arith)))))
 
 scopes_numbered : (s : List Tree) (m : ℕ) (xs : List NumberedName) (names : ScopeNames) → AreNumbered (λ (i : ℕ). i < m) xs → AreScopes s m names → AreScopes s m (with_numbered xs names)
 scopes_numbered s m [] names h k = k

@@ -20,7 +20,7 @@ use Rattle.open_types.specs.Patterns.{no_notes}
 use Rattle.elab_groups.specs.declared.parts.ElabFault.{ElabFault}
 use Rattle.elab_groups.specs.declared.parts.made.Elaborated.{Elaborated}
 use Rattle.elab_groups.specs.parts.Elaborated.{unseen}
-use Rattle.elab_groups.specs.parts.Declarations.{TokenName, Parameter, AlgebraicConstructor, AlgebraicType, constructor, algebraic_type, words, list_fault, constructor_names, made_type_names, made_fault, params_seen, with_vars, types_fault}
+use Rattle.elab_groups.specs.parts.Declarations.{TokenName, Parameter, AlgebraicConstructor, AlgebraicType, constructor, algebraic_type, words, list_fault, called_names, constructor_names, made_type_names, made_fault, params_seen, with_vars, types_fault}
 use Rattle.elab_groups.specs.members.Members.{parameter_types, parameter_words, words_of_parameters}
 use Rattle.elab_groups.specs.parts.Entries.{type_entry, named_entries}
 use Rattle.elab_declarations.specs.NewNames.{name_made}
@@ -32,6 +32,9 @@ constructors_of ks = map constructor (map constructor_of ks)
 
 abbrev pub algebraics_of : List AlgTree → List AlgebraicType
 algebraics_of ts = map algebraic_type (map algebraic_of ts)
+
+abbrev pub constructors_in : AlgTree → List AlgebraicConstructor
+constructors_in a = (algebraic_type (algebraic_of a)).constructors
 
 -- ---- the widths of the tuples in the fields
 abbrev pub constructors_seen : SeenTree → List AlgebraicConstructor → SeenTree
@@ -92,8 +95,8 @@ numbered_fields n (p ∷ ps) =
 -- each constructor before its fields
 abbrev pub numbered_constructors : ℕ → List AlgebraicConstructor → List NumberedName
 numbered_constructors n [] = []
-numbered_constructors n (k ∷ ks) = numbered k.called.name n
-    ∷ (numbered_fields (n + 1) k.fields
+numbered_constructors n (k ∷ ks) = numbered_names n (called_names k.called)
+    ++ (numbered_fields (n + 1) k.fields
     ++ numbered_constructors (n + (count_fields k.fields + 1)) ks)
 
 abbrev pub with_numbered : {A : Type 0} → List NumberedName → NamesOf A → NamesOf A
@@ -152,7 +155,7 @@ abbrev pub constructors_entries : Word → Word → ℕ → Tree → List Algebr
 constructors_entries theory within vars type [] cs = []
 constructors_entries theory within vars type (k ∷ ks) [] = []
 constructors_entries theory within vars type (k ∷ ks) (c ∷ cs) =
-    named_entries theory within k.called.name vars type (words_of_parameters k.fields) c.fields
+    named_entries theory within k.own vars type (words_of_parameters k.fields) c.fields
     ++ constructors_entries theory within vars type ks cs
 
 abbrev pub group_entries : Word → Word → List AlgebraicType → List AlgebraicTree → List SymbolTree

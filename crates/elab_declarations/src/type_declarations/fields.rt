@@ -8,7 +8,7 @@ ghost use Rattle.open_types.specs.Drafts.{HoldsType, WorldHeld};
 ghost use Rattle.elab_groups.specs.parts.Declarations.{word, words, params_fault, constructors_fault, types_fault};
 ghost use Rattle.elab_groups.specs.members.Members.{parameter_types};
 ghost use Rattle.elab_groups.specs.members.Sources.{parameters_of};
-ghost use Rattle.elab_declarations.specs.type_declarations.Algebraics.{constructors_of, algebraics_of, count_fields, entry_count, group_count, numbering_from, constructor_trees, algebraic_trees};
+ghost use Rattle.elab_declarations.specs.type_declarations.Algebraics.{constructors_in, constructors_of, algebraics_of, count_fields, entry_count, group_count, numbering_from, constructor_trees, algebraic_trees};
 ghost use Rattle.elab_groups.specs.parts.Entries.{tuple_in, IsSignature};
 ghost use Rattle.elab_groups.specs.parts.Outcomes.{over};
 ghost use Rattle.elab_declarations.specs.type_declarations.Held.{ConTyped, AlgTyped, HaveThings};
@@ -105,6 +105,38 @@ fn push_constructors(
     push_constructors(alloc, store, world, made, number, rest)
 }
 
+// The constructors of a type from a number on, after those that are there.
+fn push_alternatives(
+    alloc: Global,
+    store: &mut Store,
+    world: &World<'_>,
+    made: &mut Seq<Con>,
+    number: &mut usize,
+    of: &AlgTree,
+) -> Result<(), NamingFault>
+    requires world { WorldHeld store.old world.now }
+    requires closed { world.now.new_vars ≡ false }
+    requires made { All (ConTyped store.old) made.old }
+    requires fits { number.old + entry_count (constructors_in of.now) < 2 ^ 64 }
+    ensures typed { OnOk result (All (ConTyped store.new) made.new) }
+    ensures cons { OnOk result (cons_at store.new made.new ≡ cons_at store.old made.old
+        ++ constructor_trees
+        (where_at store.old world.now) number.old (constructors_in of.now)) }
+    ensures number { OnOk result (number.new ≡ number.old + entry_count (constructors_in of.now)) }
+    ensures told { Tells result (constructors_fault (where_at store.old world.now) (constructors_in
+        of.now)) }
+    ensures grows { Grows store.old store.new }
+{
+    let fields = of.fields.as_slice();
+    if let [_, ..] = fields {
+        let con = make_constructor(alloc, store, world, *number, fields)?;
+        *number += con.fields.len() + 1;
+        made.push(con)?;
+        return Ok(());
+    }
+    push_constructors(alloc, store, world, made, number, of.cons.as_slice())
+}
+
 // What names mean over a signature and scopes with these type variables and no others.
 fn world_of<'a>(sig: &'a Signature, scope: &'a Scope, vars: &'a [Text]) -> World<'a>
     ensures names { (s : List Tree) → where_at s result ≡ over (symbols_at s sig.now.symbols)
@@ -132,32 +164,25 @@ fn make_constructors(
 ) -> Result<Seq<Con>, NamingFault>
     requires signature { IsSignature store.old sig.now.symbols }
     requires scopes { HaveThings store.old scope.now }
-    requires fits { number.old + entry_count (constructors_of source.now.cons) < 2 ^ 64 }
+    requires fits { number.old + entry_count (constructors_in source.now) < 2 ^ 64 }
     ensures typed { IfOk result (All (ConTyped store.new)) }
     ensures cons { IfOk result (λ made. cons_at store.new made ≡ constructor_trees
         (over (symbols_at store.old sig.now.symbols) (scope_at store.old scope.now)
-        (words (map word source.now.vars))) number.old (constructors_of source.now.cons)) }
-    ensures number { OnOk result (number.new ≡ number.old + entry_count (constructors_of
-        source.now.cons)) }
+        (words (map word source.now.vars))) number.old (constructors_in source.now)) }
+    ensures number { OnOk result (number.new ≡ number.old + entry_count (constructors_in
+        source.now)) }
     ensures free { OnOk result (constructors_fault
         (over (symbols_at store.old sig.now.symbols) (scope_at store.old scope.now)
-        (words (map word source.now.vars))) (constructors_of source.now.cons) ≡ None) }
+        (words (map word source.now.vars))) (constructors_in source.now) ≡ None) }
     ensures err { IfErr result (λ fault. Tells (Err fault) (constructors_fault
         (over (symbols_at store.old sig.now.symbols) (scope_at store.old scope.now)
-        (words (map word source.now.vars))) (constructors_of source.now.cons))) }
+        (words (map word source.now.vars))) (constructors_in source.now))) }
     ensures grows { Grows store.old store.new }
 {
     let vars = texts_of(alloc, source.vars.as_slice())?;
     let world = world_of(sig, scope, vars.as_slice());
     let mut made = Seq::new(alloc);
-    push_constructors(
-        alloc,
-        store,
-        &world,
-        &mut made,
-        number,
-        source.cons.as_slice(),
-    )?;
+    push_alternatives(alloc, store, &world, &mut made, number, source)?;
     Ok(made)
 }
 

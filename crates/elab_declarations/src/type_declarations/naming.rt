@@ -7,7 +7,7 @@ ghost use Rattle.elab_groups.specs.members.Members.{parameter_words};
 ghost use Rattle.elab_groups.specs.members.Sources.{parameters_of};
 ghost use Rattle.elab_groups.specs.parts.Outcomes.{declared_in};
 ghost use Rattle.elab_declarations.specs.NewNames.{indexed_names, name_made};
-ghost use Rattle.elab_declarations.specs.type_declarations.Algebraics.{constructors_of, algebraics_of, count_fields, entry_count, group_count, numbered_names, numbered_fields, with_numbered, with_constructors, with_types, symbols_made, constructor_words, constructors_made, types_made};
+ghost use Rattle.elab_declarations.specs.type_declarations.Algebraics.{constructors_in, constructors_of, algebraics_of, count_fields, entry_count, group_count, numbered_names, numbered_fields, with_numbered, with_constructors, with_types, symbols_made, constructor_words, constructors_made, types_made};
 
 use crate::new_names::declare_new;
 use elab_groups::parts::{find_repeated, gather};
@@ -140,6 +140,29 @@ fn declare_constructors(
     declare_constructors(scope, before, number, rest)
 }
 
+// The names of the constructors of a type with those of their fields; the constructor of a record has none.
+fn declare_alternatives(
+    scope: &mut Scope,
+    before: &mut IndexSet<Vec<u8>>,
+    number: &mut usize,
+    of: &AlgTree,
+) -> Result<(), NamingFault>
+    ensures scope { OnOk result (scope.new ≡ with_constructors number.old (constructors_in of.now)
+        scope.old) }
+    ensures before { OnOk result (indexed_names before.new ≡ indexed_names before.old
+        ++ constructor_words (constructors_in of.now)) }
+    ensures number { OnOk result (number.new ≡ number.old + entry_count (constructors_in of.now)) }
+    ensures told { Tells result (constructors_made (declared_in scope.old Table.Symbols)
+        (indexed_names before.old) (constructors_in of.now)) }
+{
+    let fields = of.fields.as_slice();
+    if let [_, ..] = fields {
+        *number = number_after(*number)?;
+        return declare_fields(scope, before, number, fields);
+    }
+    declare_constructors(scope, before, number, of.cons.as_slice())
+}
+
 // A type variable that occurs twice among those of a type.
 fn check_variables(alloc: Global, vars: &[Name]) -> Result<(), NamingFault>
     ensures { Tells result (list_fault [] (map word vars.now)) }
@@ -181,7 +204,6 @@ pub fn declare_types(
     };
     declare_name(scope, Table::Types, &mut before.types, &first.name, symbol)?;
     check_variables(alloc, first.vars.as_slice())?;
-    let cons = first.cons.as_slice();
-    declare_constructors(scope, &mut before.constructors, number, cons)?;
+    declare_alternatives(scope, &mut before.constructors, number, first)?;
     declare_types(alloc, scope, before, symbol + 1, number, rest)
 }

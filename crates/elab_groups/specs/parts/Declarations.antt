@@ -1,6 +1,6 @@
 -- Declarations in abstract syntax: what each makes, and its first fault of names (Why3 manual,
 -- "logical declarations").
-use Rattle.std.specs.Prelude.{ℕ, Bool, true, false, cond, ◌||◌, List, [], ◌∷◌, ◌++◌, map, Option, Some, None, option_map}
+use Rattle.std.specs.Prelude.{ℕ, Bool, true, false, cond, codes, ◌||◌, List, [], ◌∷◌, ◌++◌, map, Option, Some, None, option_map}
 use Rattle.std.specs.Option.{is_some}
 use Rattle.std.specs.Str.{bytes_eq}
 use Rattle.surface.specs.Lexeme.{Word}
@@ -39,8 +39,10 @@ pub record GroupMember : Type 0 where
   pub result : Option TypeExpression
   pub body : Option Expression
 
+-- It makes one name, its own; that of a record makes none.
 pub record AlgebraicConstructor : Type 0 where
-  pub called : TokenName
+  pub own : Word
+  pub called : Option TokenName
   pub fields : List Parameter
 
 pub record AlgebraicType : Type 0 where
@@ -85,14 +87,30 @@ group_member m = record {
 }
 
 abbrev pub constructor : source.Constructor → AlgebraicConstructor
-constructor c = record { called = word c.name; fields = map parameter_of c.fields }
+constructor c = record {
+  own = c.name.text;
+  called = Some (word c.name);
+  fields = map parameter_of c.fields;
+}
+
+-- that of a record type `r` is `mk_r`
+abbrev pub record_constructor : Word → List source.ParamGroup → AlgebraicConstructor
+record_constructor x ps = record {
+  own = codes "mk_" ++ x;
+  called = None;
+  fields = map parameter_of ps;
+}
+
+abbrev pub type_constructors : Word → List source.Constructor → List source.ParamGroup
+    → List AlgebraicConstructor
+type_constructors x cs [] = map constructor cs
+type_constructors x cs (p ∷ ps) = record_constructor x (p ∷ ps) ∷ []
 
 abbrev pub algebraic_type : source.Algebraic → AlgebraicType
 algebraic_type a = record {
   called = word a.name;
   vars = map word a.vars;
-  constructors =
-      map constructor a.constructors;
+  constructors = type_constructors a.name.text a.constructors a.fields;
 }
 
 abbrev pub clause : source.Clause → InductiveClause
@@ -149,10 +167,15 @@ abbrev pub names_of_parameters : List Parameter → List TokenName
 names_of_parameters [] = []
 names_of_parameters (p ∷ ps) = p.names ++ names_of_parameters ps
 
+abbrev pub called_names : Option TokenName → List TokenName
+called_names None = []
+called_names (Some c) = c ∷ []
+
 -- the names of constructors, each before those of its fields
 abbrev pub constructor_names : List AlgebraicConstructor → List TokenName
 constructor_names [] = []
-constructor_names (c ∷ cs) = c.called ∷ (names_of_parameters c.fields ++ constructor_names cs)
+constructor_names (c ∷ cs) =
+    called_names c.called ++ (names_of_parameters c.fields ++ constructor_names cs)
 
 abbrev pub made_by_constructors : List AlgebraicConstructor → List Made
 made_by_constructors cs = map (makes Symbols) (constructor_names cs)
