@@ -52,8 +52,8 @@ module _ (theory within : Word) (inner : IsScopedName within) where
   constructors_words vars type (k ∷ ks) [] h = All-nil HasWord
   constructors_words vars type (k ∷ ks) (c ∷ cs) h =
       let ws = words_of_parameters k.fields in
-      All-append HasWord (named_entries theory within k.called.name vars type ws c.fields) (constructors_entries theory within vars type ks cs)
-      (named_words theory within k.called.name vars type ws c.fields inner (joined within k.called.name inner h.0.name) h.0.fields) (constructors_words vars type ks cs h.1)
+      All-append HasWord (named_entries theory within k.own vars type ws c.fields) (constructors_entries theory within vars type ks cs)
+      (named_words theory within k.own vars type ws c.fields inner (joined within k.own inner h.0.name) h.0.fields) (constructors_words vars type ks cs h.1)
 
   group_words : (ts : List AlgebraicType) (ys : List AlgebraicTree) → TypesNamed ts → HaveWords (group_entries theory within ts ys)
   group_words [] ys h = All-nil HasWord

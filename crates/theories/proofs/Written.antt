@@ -1,5 +1,5 @@
 -- The names that a declaration makes are texts of its tokens.
-use Rattle.std.proofs.Common.{codes, List, [], ◌∷◌, ◌++◌, map, All, Some, None, refl, arith}
+use Rattle.std.proofs.Common.{◌≡◌, Bool, true, false, ◌&&◌, append_assoc, subst, sym, codes, List, [], ◌∷◌, ◌++◌, map, All, Some, None, refl, arith}
 use Rattle.std.specs.Option.{IfSome}
 use Rattle.std.specs.List.{AllByRecursion}
 use Rattle.std.proofs.lemmas.List.Elements.{All-weaker}
@@ -12,12 +12,12 @@ use Rattle.surface.specs.Trees.{SyntaxTree, write, name_row, bar_before, type_pa
 use Rattle.surface.specs.Declarations.{variable_row, param_row, definition, write_member, other_members, write_constructor, constructor_tail, constructor_list, write_algebraic, algebraic_tail, clause_list, write_inductive, inductive_tail, prop_word, write_decl}
 use Rattle.surface.specs.Declarations as source
 use Rattle.elaboration_laws.specs.name_resolution.Abstract.{expression, spelled, prefix_name, infix_name, text_of_own}
-use Rattle.elaboration_laws.specs.elab_groups.parts.Declarations.{GroupMember, AlgebraicConstructor, AlgebraicType, Declaration, abstract_type, alias, algebraic, member_group, inductive, proposition_declaration, declaration, symbol, word, words, parameter_of, group_member, constructor, algebraic_type, inductive_predicate}
+use Rattle.elaboration_laws.specs.elab_groups.parts.Declarations.{GroupMember, AlgebraicConstructor, AlgebraicType, Declaration, abstract_type, alias, algebraic, member_group, inductive, proposition_declaration, declaration, symbol, word, words, parameter_of, group_member, constructor, type_constructors, algebraic_type, inductive_predicate}
 use Rattle.elaboration_laws.specs.elab_groups.members.Members.{parameter_words, words_of_parameters}
 use Rattle.surface.specs.declared.names.Name.{Name}
 use Rattle.elaboration_laws.specs.elab_declarations.inductive_declarations.Inductives.{as_members}
 use Rattle.elaboration_laws.specs.elab_declarations.Outcomes.{proposition_seen}
-use Rattle.tasks.specs.Words.{IsScopedName}
+use Rattle.tasks.specs.Words.{IsScopedName, has_no_number}
 use Rattle.theories.specs.Lexemes.{SaysWord, IsWordLexeme, AreWordLexemes}
 use Rattle.theories.proofs.Words.{written_name, joined}
 use Rattle.elaboration_laws.proofs.Variables.{VariableAs, IsVariable, tail_of, front_of, back_of, variables_told}
@@ -25,7 +25,7 @@ use Rattle.elaboration_laws.proofs.Variables.{VariableAs, IsVariable, tail_of, f
 -- ---- what is named
 -- a field without a name has an empty word
 pub record IsConstructorNamed (k : AlgebraicConstructor) : Type 0 where
-  pub name : IsScopedName k.called.name
+  pub name : IsScopedName k.own
   pub fields : AllByRecursion IsScopedName (words_of_parameters k.fields)
 
 abbrev pub ConstructorsNamed : List AlgebraicConstructor → Type 0
@@ -135,14 +135,39 @@ constructors_named : (cs : List source.Constructor) → Are (constructor_list cs
 constructors_named [] q = tt
 constructors_named (c ∷ cs) q = (constructor_named c (constructor_tail cs) q, others_named cs (back_at (write_constructor c) (constructor_tail cs) q))
 
+-- fields of a record
+field_words : (ns : List Name) (last : List Lexeme) → Are (name_row ns ++ last) → AllByRecursion IsScopedName (parameter_words (map word ns))
+field_words [] last q = (written_name [] refl, tt)
+field_words (n ∷ ns) last q = names_are (n ∷ ns) last q
+
+record_words : (p : source.ParamGroup) (ps : List source.ParamGroup) → Are (source.write_field p ++ source.field_tail ps) → AllByRecursion IsScopedName (words_of_parameters (map parameter_of (p ∷ ps)))
+record_words p [] q = both_named (parameter_words (map word p.names)) [] (field_words p.names (mark t.Colon ∷ write_form p.of_type) (front_at (source.write_field p) [] q)) tt
+record_words p (f ∷ ps) q = both_named (parameter_words (map word p.names)) (words_of_parameters (map parameter_of (f ∷ ps))) (field_words p.names (mark t.Colon ∷ write_form p.of_type) (front_at (source.write_field p) (source.field_tail (f ∷ ps)) q))
+    (record_words f ps (tail_at (mark t.Semi) (source.write_field f ++ source.field_tail ps) (back_at (source.write_field p) (source.field_tail (f ∷ ps)) q)))
+
+-- `mk_` before a name
+record_named : (x : Word) → IsScopedName x → IsScopedName (codes "mk_" ++ x)
+record_named [] h = record { bytes = refl; parts = refl }
+record_named (b ∷ bs) h = record { bytes = h.bytes; parts = right_of _ (has_no_number b bs) h.parts }
+  where
+    right_of : (c d : Bool) → (c && d) ≡ true → d ≡ true
+    right_of true d e = e
+    right_of false d e = absurd (cc)
+
+body_named : (bar : Bool) (cs : List source.Constructor) (fs : List source.ParamGroup) (semi : Bool) (x : Word) → IsScopedName x → Are (source.write_type_body bar cs fs semi) → ConstructorsNamed (type_constructors x cs fs)
+body_named bar cs [] semi x h q = constructors_named cs (back_at (bar_before bar) (constructor_list cs) q)
+body_named bar cs (p ∷ ps) semi x h q =
+    let last = source.semicolon_after semi ++ (mark t.RBrace ∷ []) in
+    let whole = source.write_field p ++ source.field_tail ps in
+    let fields = subst Are (sym (append_assoc (source.write_field p) (source.field_tail ps) last)) (tail_at (mark t.LBrace) (source.write_field p ++ (source.field_tail ps ++ last)) q) in
+    (record { name = record_named x h; fields = record_words p ps (front_at whole last fields) }, tt)
+
 type_named : (a : source.Algebraic) → Are (write_algebraic a) → IsTypeNamed (algebraic_type a)
 type_named a q =
-    let last = bar_before a.bar ++ constructor_list a.constructors in
+    let last = source.write_type_body a.bar a.constructors a.fields a.semi in
+    let name : IsScopedName a.name.text = q 0 (lx t.Lident a.name.text) (omega arith) in
     let r = back_at (variable_row a.vars) (mark t.Equal ∷ last) (tail_at (lx t.Lident a.name.text) (variable_row a.vars ++ (mark t.Equal ∷ last)) q) in
-    record {
-      name = q 0 (lx t.Lident a.name.text) (omega arith);
-      constructors = constructors_named a.constructors (back_at (bar_before a.bar) (constructor_list a.constructors) (tail_at (mark t.Equal) last r));
-    }
+    record { name = name; constructors = body_named a.bar a.constructors a.fields a.semi a.name.text name (tail_at (mark t.Equal) last r) }
 
 other_types_named : (as_ : List source.Algebraic) → Are (algebraic_tail as_) → TypesNamed (map algebraic_type as_)
 other_types_named [] q = tt

@@ -143,6 +143,22 @@ fn push_constructors(
     push_constructors(scope, rest, moves)
 }
 
+// The constructors of a type with their fields; the constructor of a record makes no name.
+fn push_alternatives(
+    scope: &Scope,
+    of: &AlgTree,
+    moves: &mut Vec<Move<usize>>,
+) -> Result<(), AllocError>
+    ensures { OnOk result (moves.new.items ≡ moves.old.items ++ moves_made scope.now
+        (made_by_constructors (algebraic_type (algebraic_of of.now)).constructors)) }
+{
+    let fields = of.fields.as_slice();
+    if let [_, ..] = fields {
+        return push_fields(scope, fields, moves);
+    }
+    push_constructors(scope, of.cons.as_slice(), moves)
+}
+
 fn push_types(
     scope: &Scope,
     types: &[AlgTree],
@@ -155,7 +171,7 @@ fn push_types(
         return Ok(());
     };
     push_plain(scope, Table::Types, &first.name, moves)?;
-    push_constructors(scope, first.cons.as_slice(), moves)?;
+    push_alternatives(scope, first, moves)?;
     push_types(scope, rest, moves)
 }
 
