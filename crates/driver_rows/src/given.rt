@@ -7,7 +7,7 @@ use trees::TermId;
 // Theory, name, kind, number of type variables, number of arguments.
 type Entry = (&'static str, &'static str, SymbolKind, usize, usize);
 
-static ENTRIES: [Entry; 17] = [
+static ENTRIES: [Entry; 19] = [
     ("BuiltIn", "int", SymbolKind::Kind, 0, 0),
     ("int.Int", "-_", SymbolKind::Function, 0, 1),
     ("int.Int", "+", SymbolKind::Function, 0, 2),
@@ -19,12 +19,14 @@ static ENTRIES: [Entry; 17] = [
     ("int.Int", ">=", SymbolKind::Predicate, 0, 2),
     ("T", "t", SymbolKind::Kind, 1, 0),
     ("T", "f", SymbolKind::Function, 0, 1),
-    ("T", "S.f", SymbolKind::Constructor, 0, 10),
+    ("T", "S.f", SymbolKind::Function, 0, 10),
     ("T", "S.C'1", SymbolKind::Projection, 0, 1),
     ("T", "!_", SymbolKind::Function, 0, 0),
     ("T", "S.g", SymbolKind::Projection, 0, 1),
     ("T", "h", SymbolKind::Projection, 0, 1),
     ("T", "C'1", SymbolKind::Projection, 0, 1),
+    ("T", "S.C", SymbolKind::Constructor, 0, 1),
+    ("T", "mk_r", SymbolKind::Constructor, 0, 2),
 ];
 
 // Known theories, each with its propositions. The first of a path counts.

@@ -1,5 +1,5 @@
 -- What a driver's name of a symbol stands for (Why3 manual, "Drivers").
-use Rattle.std.specs.Prelude.{ℕ, ◌+◌, Bool, true, false, ◌&&◌, ◌||◌, List, [], ◌∷◌, length, codes, nat_eq, is_some, Option, Some, None, String, Vec, string_bytes, if◌then◌else◌}
+use Rattle.std.specs.Prelude.{ℕ, ◌+◌, Bool, true, false, ◌&&◌, ◌||◌, not, List, [], ◌∷◌, length, codes, nat_eq, is_some, Option, Some, None, String, Vec, string_bytes, if◌then◌else◌}
 use Rattle.std.specs.declared.alloc.Global.{Global}
 use Rattle.std.specs.List.{list_any}
 use Rattle.word_tables.specs.Words.{is_same_word}
@@ -45,11 +45,12 @@ abbrev mutual
   is_field_after_dot [] = false
   is_field_after_dot (b ∷ bs) = if nat_eq b 46 then is_field_name bs else is_field_after_dot bs
 
--- a constructor and a named field are functions here
+-- A constructor and a named field are functions here; the constructor of a record, `mk_r` of a type
+-- `r`, is none, since no name of a source stands for it.
 abbrev pub is_named_kind : NameKind → SymbolKind → List ℕ → Bool
 is_named_kind n.Type k.Kind name = true
 is_named_kind n.Function k.Function name = true
-is_named_kind n.Function k.Constructor name = true
+is_named_kind n.Function k.Constructor name = not (is_field_name name)
 is_named_kind n.Function k.Projection name = is_field_name name
 is_named_kind n.Predicate k.Predicate name = true
 is_named_kind _ _ name = false

@@ -90,7 +90,7 @@ fn is_kind(kind: NameKind, its: SymbolKind, name: &[u8]) -> bool
     match (kind, its) {
         (NameKind::Type, SymbolKind::Kind) => true,
         (NameKind::Function, SymbolKind::Function) => true,
-        (NameKind::Function, SymbolKind::Constructor) => true,
+        (NameKind::Function, SymbolKind::Constructor) => !is_field_name(name),
         (NameKind::Function, SymbolKind::Projection) => is_field_name(name),
         (NameKind::Predicate, SymbolKind::Predicate) => true,
         _ => false,
