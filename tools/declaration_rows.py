@@ -255,8 +255,22 @@ class Writer:
         name = self.name(a[0])
         variables = self.row(a[1], self.name)
         self.put("=")
+        if a[2][0][0] is None:
+            return name, variables, [(None, self.record(*a[2][0][1:]))]
         cons = self.row(a[2], lambda k: (self.name(k[0]), self.params(k[1])), "|")
         return name, variables, cons
+
+    def field(self, p):
+        name = self.name(p[0][0])
+        self.put(":")
+        return [name], self.form(p[1])
+
+    def record(self, fields, semi):
+        """The fields of a record, each with one name, and whether a semicolon is after the last one."""
+        self.put("{")
+        fields = self.row(fields, self.field, ";")
+        self.put(*";}" if semi else "}")
+        return fields
 
     def inductive(self, d):
         name = self.name(d[0])
@@ -826,7 +840,7 @@ class Elaborator:
         for name, variables, cons in d[1]:
             self.made([x for x in self.t.types if x not in self.t.built], [name], types)
             self.distinct(variables)
-            self.made(self.t.symbols, [x for c, fields in cons for x in [c, *(y for names, _ in fields for y in names)]], symbols)
+            self.made(self.t.symbols, [x for c, fields in cons for x in [*filter(None, [c]), *(y for names, _ in fields for y in names)]], symbols)
         self.raise_first()
         self.tuples_of(d)
         for (_, name), variables, cons in d[1]:
@@ -844,11 +858,13 @@ class Elaborator:
             k = self.t.types[name][1]
             own = ("a", k, [("v", i) for i in range(len(variables))])
             text += f"@{k}"
-            for (_, c), fields in cons:
+            for c, fields in cons:
+                word = c[1] if c else f"mk_{name}"
                 words = [x for names, _ in fields for _, x in names or [(0, None)]]
                 types = [self.meaning(f) for names, f in fields for _ in names or [0]]
-                n = self.t.constructor("T", c, len(variables), own, types, words)
-                self.t.symbols[c] = n
+                n = self.t.constructor("T", word, len(variables), own, types, words)
+                if c:
+                    self.t.symbols[word] = n
                 text += f"c{n}" + self.show_types(types) + "".join(f"^{n + 1 + i}" for i in range(len(types)))
         (_, name), variables, _ = d[1][0]
         return f"T {name} {len(variables)} {text}"
@@ -1240,6 +1256,10 @@ class Generator:
         made = []
         for x, vs in heads:
             made.append([x, vs, []])
+            if len(words) > 3 and self.chance(0.3):
+                fields = [[[words.pop()], self.form(1, vs)] for _ in range(r.randint(1, 3))]
+                made[-1][2].append([None, fields, self.chance(0.3)])
+                continue
             for _ in range(r.randint(1, 2)):
                 fields = []
                 for _ in range(r.randint(0, 2)):
