@@ -50,6 +50,10 @@ checked : (s : Symbol) → lines_fit s (productions s) ≡ true
 checked (s.Take x) = refl
 checked (s.Expr m) = expr_checked m (nat_le m 3)
 checked (s.Tail m u) = tail_checked m u m u operators
+checked (s.HeadRest true) = refl
+checked (s.HeadRest false) = refl
+checked (s.Head true) = refl
+checked (s.Head false) = refl
 checked _ = refl
 
 abbrev member : Terminal → List Terminal → Bool
@@ -113,17 +117,17 @@ tail_silent m u (o ∷ os) y h = by_test (nat_le m (prec o) && nat_le (need o) u
     by_test false j = j
 
 silent : (s : Symbol) (y : Terminal) → optional s ≡ true → none_takes (leftovers s) y ≡ true → takes s y ≡ None
-silent (s.Tail m u) y o h = tail_silent m u operators y (operators_only y (first (s.Tail 0 9) [] y (later s.Scoped (s.Tail 0 9 ∷ []) y (later s.Args (s.Scoped ∷ s.Tail 0 9 ∷ []) y h))))
+silent (s.Tail m u) y o h = tail_silent m u operators y (operators_only y (first (s.Tail 0 9) [] y (later s.Applied (s.Tail 0 9 ∷ []) y h)))
 silent s.Seal y o h = refl
 silent s.File y o h = first s.File [] y h
 silent s.Tvars y o h = first s.Tvars (s.Upper ∷ []) y (later s.Targs (s.Tvars ∷ s.Upper ∷ []) y (later s.Fields (s.Targs ∷ s.Tvars ∷ s.Upper ∷ []) y (later s.Algs (s.Fields ∷ s.Targs ∷ s.Tvars ∷ s.Upper ∷ []) y h)))
 silent s.Upper y o h = first s.Upper [] y (later s.Targs (s.Upper ∷ []) y (later s.Fields (s.Targs ∷ s.Upper ∷ []) y (later s.Algs (s.Fields ∷ s.Targs ∷ s.Upper ∷ []) y h)))
 silent s.Algs y o h = first s.Algs (s.Fields ∷ []) y h
 silent s.Params y o h = first s.Params [] y h
-silent s.Body y o h = first s.Body (s.Members ∷ s.Scoped ∷ (s.Tail 0 9) ∷ []) y (later s.Args (s.Body ∷ s.Members ∷ s.Scoped ∷ (s.Tail 0 9) ∷ []) y h)
-silent s.Members y o h = first s.Members (s.Scoped ∷ (s.Tail 0 9) ∷ []) y (later s.Args (s.Members ∷ s.Scoped ∷ (s.Tail 0 9) ∷ []) y h)
-silent s.Value y o h = first s.Value [] y (later (s.Tail 0 9) (s.Value ∷ []) y (later s.Scoped ((s.Tail 0 9) ∷ s.Value ∷ []) y (later s.Args (s.Scoped ∷ (s.Tail 0 9) ∷ s.Value ∷ []) y h)))
-silent s.Clauses y o h = first s.Clauses (s.Scoped ∷ (s.Tail 0 9) ∷ []) y (later s.Args (s.Clauses ∷ s.Scoped ∷ (s.Tail 0 9) ∷ []) y h)
+silent s.Body y o h = first s.Body (s.Members ∷ s.Tail 0 9 ∷ []) y (later s.Applied (s.Body ∷ s.Members ∷ s.Tail 0 9 ∷ []) y h)
+silent s.Members y o h = first s.Members (s.Tail 0 9 ∷ []) y (later s.Applied (s.Members ∷ s.Tail 0 9 ∷ []) y h)
+silent s.Value y o h = first s.Value [] y (later (s.Tail 0 9) (s.Value ∷ []) y (later s.Applied (s.Tail 0 9 ∷ s.Value ∷ []) y h))
+silent s.Clauses y o h = first s.Clauses (s.Tail 0 9 ∷ []) y (later s.Applied (s.Clauses ∷ s.Tail 0 9 ∷ []) y h)
 silent s.Renamed y o h = first s.Renamed [] y h
 silent s.Subst y o h = first s.Subst (s.Targs ∷ []) y (later s.Qids (s.Subst ∷ s.Targs ∷ []) y (later s.Elems (s.Qids ∷ s.Subst ∷ s.Targs ∷ []) y h))
 silent s.Elems y o h = first s.Elems (s.Qids ∷ s.Targs ∷ []) y h
@@ -133,8 +137,11 @@ silent s.AsPart y o h = first s.AsPart [] y h
 silent s.Quids y o h = first s.Quids [] y h
 silent s.Patoms y o h = first s.Patoms (s.Quids ∷ []) y h
 silent s.Fields y o h = first s.Fields [] y (later s.Algs (s.Fields ∷ []) y h)
+silent (s.HeadRest b) y o h = first (s.HeadRest b) [] y h
 silent s.Scoped y o h = first s.Scoped [] y h
-silent s.Args y o h = first s.Args (s.Scoped ∷ []) y h
+silent s.Applied y o h = first s.Applied [] y h
+silent s.Dots y o h = first s.Dots [] y h
+silent s.Args y o h = first s.Args (s.Dots ∷ []) y h
 silent _ y o h = absurd (no_false o)
 
 -- A shortest string begins with a terminal that its rule takes, and goes on with those of the symbols after.
@@ -183,7 +190,12 @@ starts s.AsPart = empty refl refl
 starts s.Quids = empty refl refl
 starts s.Patoms = empty refl refl
 starts s.Fields = empty refl refl
+starts (s.HeadRest b) = empty refl refl
 starts s.Scoped = empty refl refl
+starts s.Applied = empty refl refl
+starts s.Dots = empty refl refl
+starts (s.Head true) = due t.StarName (s.Args ∷ []) refl refl refl
+starts (s.Head false) = due t.StarName [] refl refl refl
 starts s.Args = empty refl refl
 starts s = due (head_of (shortest s)) (behind_of (takes s (head_of (shortest s)))) refl refl refl
 

@@ -88,16 +88,38 @@ open_productions = production t.IfWord
     ∷ production t.ExistsWord (s.Take t.Lident ∷ s.Binder ∷ []) ∷ []
 
 abbrev pub prim_productions : List Production
-prim_productions = production t.Lident (s.Args ∷ []) ∷ production t.Uident (s.Scoped ∷ s.Args ∷ [])
+prim_productions = production t.Lident (s.Applied ∷ []) ∷ production t.Uident (s.HeadRest true ∷ [])
     ∷ production t.StarName (s.Args ∷ []) ∷ production t.LParen (s.Hparen ∷ [])
     ∷ production t.Int [] ∷ production t.TrueWord [] ∷ production t.FalseWord []
-    ∷ production t.MatchWord (s.Expr 0 ∷ s.Scrutinees ∷ []) ∷ []
+    ∷ production t.MatchWord (s.Expr 0 ∷ s.Scrutinees ∷ s.Dots ∷ []) ∷ []
 
 abbrev pub atom_productions : List Production
-atom_productions = production t.Lident [] ∷ production t.Uident (s.Scoped ∷ [])
+atom_productions = production t.Lident (s.Dots ∷ []) ∷ production t.Uident (s.HeadRest false ∷ [])
     ∷ production t.StarName [] ∷ production t.LParen (s.Aparen ∷ []) ∷ production t.Int []
     ∷ production t.TrueWord [] ∷ production t.FalseWord []
-    ∷ production t.MatchWord (s.Expr 0 ∷ s.Scrutinees ∷ []) ∷ []
+    ∷ production t.MatchWord (s.Expr 0 ∷ s.Scrutinees ∷ s.Dots ∷ []) ∷ []
+
+abbrev pub args_productions : List Production
+args_productions = with_symbols_after atom_productions (s.Args ∷ [])
+
+-- the fields of a term, one after the other
+abbrev pub dots_productions : List Production
+dots_productions = production t.Dot (s.Qlid ∷ s.Dots ∷ []) ∷ []
+
+-- After a word in upper case: a name in it as a scope, or, where they may stand, the arguments of
+-- its constructor.
+abbrev pub head_rest_productions : Bool → List Production
+head_rest_productions true = production t.Dot (s.Head true ∷ []) ∷ args_productions
+head_rest_productions false = production t.Dot (s.Head false ∷ []) ∷ []
+
+-- a name in a scope, and what may come after it
+abbrev pub head_productions : Bool → List Production
+head_productions true =
+    production t.Lident (s.Applied ∷ []) ∷ production t.Uident (s.HeadRest true ∷ [])
+    ∷ production t.StarName (s.Args ∷ []) ∷ production t.LParen (s.Opname ∷ s.Args ∷ []) ∷ []
+head_productions false =
+    production t.Lident (s.Dots ∷ []) ∷ production t.Uident (s.HeadRest false ∷ [])
+    ∷ production t.StarName [] ∷ production t.LParen (s.Opname ∷ []) ∷ []
 
 abbrev pub expr_productions : ℕ → List Production
 expr_productions m = not_productions m
@@ -204,8 +226,9 @@ productions s.Ptuple =
     (production t.RParen [] ∷ []) ++ with_symbols_after pat_productions (s.Pmore ∷ [])
 productions s.Pmore = production t.RParen [] ∷ production t.Comma (s.Pat ∷ s.Pmore ∷ []) ∷ []
 productions s.Patoms = with_symbols_after patom_productions (s.Patoms ∷ [])
-productions s.GroupRest = production t.RParen [] ∷ production t.Comma (s.Expr 0 ∷ s.More ∷ [])
-    ∷ production t.Colon (s.TypeOf ∷ s.Take t.RParen ∷ []) ∷ []
+productions s.GroupRest = production t.RParen (s.Dots ∷ [])
+    ∷ production t.Comma (s.Expr 0 ∷ s.More ∷ s.Dots ∷ [])
+    ∷ production t.Colon (s.TypeOf ∷ s.Take t.RParen ∷ s.Dots ∷ []) ∷ []
 productions s.More = production t.RParen [] ∷ production t.Comma (s.Expr 0 ∷ s.More ∷ []) ∷ []
 productions s.Scrutinees =
     production t.Comma (s.Expr 0 ∷ s.Scrutinees ∷ []) ∷ production t.WithWord (s.Branch ∷ []) ∷ []
@@ -227,12 +250,17 @@ productions s.OpenForm = open_productions
 productions s.Fields = fields_productions
 productions s.Patom = patom_productions
 productions s.Prim = prim_productions
+productions s.Dots = dots_productions
+productions s.Applied = dots_productions ++ args_productions
+productions (s.HeadRest b) = head_rest_productions b
+productions (s.Head b) = head_productions b
 productions s.Scoped = production t.Dot (s.Qhead ∷ []) ∷ []
 productions s.Qhead = production t.Lident [] ∷ production t.Uident (s.Scoped ∷ [])
     ∷ production t.StarName [] ∷ production t.LParen (s.Opname ∷ []) ∷ []
-productions s.Args = with_symbols_after atom_productions (s.Args ∷ [])
+productions s.Args = args_productions
 productions s.Atom = atom_productions
-productions s.Hparen = (production t.RParen [] ∷ production t.Equal (s.Opend ∷ s.Args ∷ [])
+productions s.Hparen =
+    (production t.RParen (s.Dots ∷ []) ∷ production t.Equal (s.Opend ∷ s.Args ∷ [])
     ∷ production t.Operator1 (s.Opend ∷ s.Args ∷ [])
     ∷ production t.Operator2 (s.Opend ∷ s.Args ∷ [])
     ∷ production t.Operator3 (s.Opend ∷ s.Args ∷ [])
@@ -242,7 +270,7 @@ productions s.Hparen = (production t.RParen [] ∷ production t.Equal (s.Opend �
 productions s.Hminus = (production t.RParen (s.Args ∷ [])
     ∷ production t.Wild (s.Take t.RParen ∷ s.Args ∷ []) ∷ [])
     ++ with_symbols_after (expr_productions 8) (s.Tail 0 8 ∷ s.GroupRest ∷ [])
-productions s.Aparen = (production t.RParen [] ∷ production t.Equal (s.Opend ∷ [])
+productions s.Aparen = (production t.RParen (s.Dots ∷ []) ∷ production t.Equal (s.Opend ∷ [])
     ∷ production t.Operator1 (s.Opend ∷ []) ∷ production t.Operator2 (s.Opend ∷ [])
     ∷ production t.Operator3 (s.Opend ∷ []) ∷ production t.Operator4 (s.Opend ∷ [])
     ∷ production t.Minus (s.Aminus ∷ []) ∷ production t.PrefixOperator (s.Aminus ∷ []) ∷ [])
@@ -299,6 +327,7 @@ shortest s.Trigger = t.RBrack ∷ t.Dot ∷ t.StarName ∷ []
 shortest s.OpenForm = t.ExistsWord ∷ t.Lident ∷ t.Dot ∷ t.StarName ∷ []
 shortest s.Patom = t.Lident ∷ []
 shortest s.Prim = t.StarName ∷ []
+shortest (s.Head b) = t.StarName ∷ []
 shortest s.Qhead = t.StarName ∷ []
 shortest s.Atom = t.StarName ∷ []
 shortest s.Hparen = t.RParen ∷ []
@@ -317,8 +346,8 @@ optional s = has_no_terminal (shortest s)
 
 -- what may be left of a rule on the stack when its tokens are taken
 abbrev pub leftovers : Symbol → List Symbol
-leftovers (s.Expr m) = s.Args ∷ s.Scoped ∷ s.Tail 0 9 ∷ []
-leftovers (s.Tail m u) = s.Args ∷ s.Scoped ∷ s.Tail 0 9 ∷ []
+leftovers (s.Expr m) = s.Applied ∷ s.Tail 0 9 ∷ []
+leftovers (s.Tail m u) = s.Applied ∷ s.Tail 0 9 ∷ []
 leftovers s.File = s.File ∷ []
 leftovers s.Tvars = s.Algs ∷ s.Fields ∷ s.Targs ∷ s.Tvars ∷ s.Upper ∷ []
 leftovers s.Typedef = s.Algs ∷ s.Fields ∷ s.Targs ∷ s.Upper ∷ []
@@ -330,12 +359,12 @@ leftovers s.RecordRest = s.Algs ∷ s.Fields ∷ []
 leftovers s.RecordNext = s.Algs ∷ s.Fields ∷ s.Targs ∷ []
 leftovers s.Algs = s.Algs ∷ s.Fields ∷ []
 leftovers s.Params = s.Params ∷ []
-leftovers s.Body = s.Args ∷ s.Body ∷ s.Members ∷ s.Scoped ∷ s.Tail 0 9 ∷ []
-leftovers s.Members = s.Args ∷ s.Members ∷ s.Scoped ∷ s.Tail 0 9 ∷ []
-leftovers s.Member = s.Args ∷ s.Members ∷ s.Scoped ∷ s.Tail 0 9 ∷ []
-leftovers s.Value = s.Args ∷ s.Scoped ∷ s.Tail 0 9 ∷ s.Value ∷ []
-leftovers s.Clause = s.Args ∷ s.Clauses ∷ s.Scoped ∷ s.Tail 0 9 ∷ []
-leftovers s.Clauses = s.Args ∷ s.Clauses ∷ s.Scoped ∷ s.Tail 0 9 ∷ []
+leftovers s.Body = s.Applied ∷ s.Body ∷ s.Members ∷ s.Tail 0 9 ∷ []
+leftovers s.Members = s.Applied ∷ s.Members ∷ s.Tail 0 9 ∷ []
+leftovers s.Member = s.Applied ∷ s.Members ∷ s.Tail 0 9 ∷ []
+leftovers s.Value = s.Applied ∷ s.Tail 0 9 ∷ s.Value ∷ []
+leftovers s.Clause = s.Applied ∷ s.Clauses ∷ s.Tail 0 9 ∷ []
+leftovers s.Clauses = s.Applied ∷ s.Clauses ∷ s.Tail 0 9 ∷ []
 leftovers s.Used = s.Renamed ∷ []
 leftovers s.Cloned = s.Elems ∷ s.Qids ∷ s.Renamed ∷ s.Subst ∷ s.Targs ∷ []
 leftovers s.Renamed = s.Renamed ∷ []
@@ -352,18 +381,25 @@ leftovers s.Pat = s.AsPart ∷ s.Patoms ∷ s.Quids ∷ []
 leftovers s.AsPart = s.AsPart ∷ []
 leftovers s.Quids = s.Quids ∷ []
 leftovers s.Patoms = s.Patoms ∷ s.Quids ∷ []
-leftovers s.Letpats = s.Args ∷ s.Scoped ∷ s.Tail 0 9 ∷ []
-leftovers s.Binder = s.Args ∷ s.Scoped ∷ s.Tail 0 9 ∷ []
-leftovers s.Binders = s.Args ∷ s.Scoped ∷ s.Tail 0 9 ∷ []
-leftovers s.Trigger = s.Args ∷ s.Scoped ∷ s.Tail 0 9 ∷ []
-leftovers s.OpenForm = s.Args ∷ s.Scoped ∷ s.Tail 0 9 ∷ []
+leftovers s.Letpats = s.Applied ∷ s.Tail 0 9 ∷ []
+leftovers s.Binder = s.Applied ∷ s.Tail 0 9 ∷ []
+leftovers s.Binders = s.Applied ∷ s.Tail 0 9 ∷ []
+leftovers s.Trigger = s.Applied ∷ s.Tail 0 9 ∷ []
+leftovers s.OpenForm = s.Applied ∷ s.Tail 0 9 ∷ []
 leftovers s.Fields = s.Algs ∷ s.Fields ∷ []
 leftovers s.Patom = s.Quids ∷ []
-leftovers s.Prim = s.Args ∷ s.Scoped ∷ []
+leftovers s.Prim = s.Applied ∷ []
+leftovers s.Dots = s.Dots ∷ []
+leftovers s.Applied = s.Applied ∷ []
+leftovers (s.HeadRest b) = s.HeadRest b ∷ []
+leftovers (s.Head b) = s.HeadRest b ∷ []
 leftovers s.Scoped = s.Scoped ∷ []
 leftovers s.Qhead = s.Scoped ∷ []
-leftovers s.Args = s.Args ∷ s.Scoped ∷ []
-leftovers s.Atom = s.Scoped ∷ []
-leftovers s.Hparen = s.Args ∷ s.Scoped ∷ []
-leftovers s.Hminus = s.Args ∷ s.Scoped ∷ []
+leftovers s.Args = s.Args ∷ s.Dots ∷ []
+leftovers s.Atom = s.Dots ∷ []
+leftovers s.Hparen = s.Applied ∷ []
+leftovers s.Hminus = s.Applied ∷ []
+leftovers s.Aparen = s.Dots ∷ []
+leftovers s.Aminus = s.Dots ∷ []
+leftovers s.GroupRest = s.Dots ∷ []
 leftovers _ = []

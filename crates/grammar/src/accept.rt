@@ -90,7 +90,10 @@ pub fn may_be_empty(symbol: Symbol) -> bool
             | Symbol::Quids
             | Symbol::Patoms
             | Symbol::Fields
+            | Symbol::HeadRest(_)
             | Symbol::Scoped
+            | Symbol::Applied
+            | Symbol::Dots
             | Symbol::Args
     )
 }

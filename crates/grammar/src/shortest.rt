@@ -58,7 +58,7 @@ fn shortest_of(rule: Symbol) -> &'static [T]
         Symbol::RecordRest | Symbol::RecordNext => &[T::RBrace],
         Symbol::Patom => &[T::Lident],
         Symbol::Prim => &[T::StarName],
-        Symbol::Qhead => &[T::StarName],
+        Symbol::Head(_) | Symbol::Qhead => &[T::StarName],
         Symbol::Atom => &[T::StarName],
         Symbol::Hparen => &[T::RParen],
         Symbol::Hminus => &[T::RParen],

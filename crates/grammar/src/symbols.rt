@@ -72,8 +72,13 @@ pub enum Symbol {
     Algs,
     Patom,
     Prim,
+    /// What comes after a word in upper case, and a name in a scope with what comes after it; true where arguments may.
+    HeadRest(bool),
+    Head(bool),
     Scoped,
     Qhead,
+    Applied,
+    Dots,
     Args,
     Atom,
     Hparen,

@@ -221,9 +221,9 @@ const PATOMS: [Row; 4] = [
 ];
 
 const GROUP: [Row; 3] = [
-    (T::RParen, &[]),
-    (T::Comma, &[ANY, More]),
-    (T::Colon, &[TypeOf, Take(T::RParen)]),
+    (T::RParen, &[Dots]),
+    (T::Comma, &[ANY, More, Dots]),
+    (T::Colon, &[TypeOf, Take(T::RParen), Dots]),
 ];
 
 const BRANCH: [Row; 5] = [
@@ -292,14 +292,56 @@ const PATOM: [Row; 4] = [
 
 /// The rows of primary expressions.
 pub const PRIM: [Row; 8] = [
-    (T::Lident, &[Args]),
-    (T::Uident, &[Scoped, Args]),
+    (T::Lident, &[Applied]),
+    (T::Uident, &[HeadRest(true)]),
     (T::StarName, &[Args]),
     (T::LParen, &[Hparen]),
     (T::Int, &[]),
     (T::TrueWord, &[]),
     (T::FalseWord, &[]),
-    (T::MatchWord, &[ANY, Scrutinees]),
+    (T::MatchWord, &[ANY, Scrutinees, Dots]),
+];
+
+const DOTS: [Row; 1] = [(T::Dot, &[Qlid, Dots])];
+
+const APPLIED: [Row; 9] = [
+    (T::Dot, &[Qlid, Dots]),
+    (T::Lident, &[Dots, Args]),
+    (T::Uident, &[HeadRest(false), Args]),
+    (T::StarName, &[Args]),
+    (T::LParen, &[Aparen, Args]),
+    (T::Int, &[Args]),
+    (T::TrueWord, &[Args]),
+    (T::FalseWord, &[Args]),
+    (T::MatchWord, &[ANY, Scrutinees, Dots, Args]),
+];
+
+const HEAD_REST: [Row; 9] = [
+    (T::Dot, &[Head(true)]),
+    (T::Lident, &[Dots, Args]),
+    (T::Uident, &[HeadRest(false), Args]),
+    (T::StarName, &[Args]),
+    (T::LParen, &[Aparen, Args]),
+    (T::Int, &[Args]),
+    (T::TrueWord, &[Args]),
+    (T::FalseWord, &[Args]),
+    (T::MatchWord, &[ANY, Scrutinees, Dots, Args]),
+];
+
+const ATOM_REST: [Row; 1] = [(T::Dot, &[Head(false)])];
+
+const HEAD: [Row; 4] = [
+    (T::Lident, &[Applied]),
+    (T::Uident, &[HeadRest(true)]),
+    (T::StarName, &[Args]),
+    (T::LParen, &[Opname, Args]),
+];
+
+const ATOM_HEAD: [Row; 4] = [
+    (T::Lident, &[Dots]),
+    (T::Uident, &[HeadRest(false)]),
+    (T::StarName, &[]),
+    (T::LParen, &[Opname]),
 ];
 
 const QHEAD: [Row; 4] = [
@@ -310,29 +352,29 @@ const QHEAD: [Row; 4] = [
 ];
 
 const ARGS: [Row; 8] = [
-    (T::Lident, &[Args]),
-    (T::Uident, &[Scoped, Args]),
+    (T::Lident, &[Dots, Args]),
+    (T::Uident, &[HeadRest(false), Args]),
     (T::StarName, &[Args]),
     (T::LParen, &[Aparen, Args]),
     (T::Int, &[Args]),
     (T::TrueWord, &[Args]),
     (T::FalseWord, &[Args]),
-    (T::MatchWord, &[ANY, Scrutinees, Args]),
+    (T::MatchWord, &[ANY, Scrutinees, Dots, Args]),
 ];
 
 const ATOM: [Row; 8] = [
-    (T::Lident, &[]),
-    (T::Uident, &[Scoped]),
+    (T::Lident, &[Dots]),
+    (T::Uident, &[HeadRest(false)]),
     (T::StarName, &[]),
     (T::LParen, &[Aparen]),
     (T::Int, &[]),
     (T::TrueWord, &[]),
     (T::FalseWord, &[]),
-    (T::MatchWord, &[ANY, Scrutinees]),
+    (T::MatchWord, &[ANY, Scrutinees, Dots]),
 ];
 
 const HPAREN: [Row; 23] = [
-    (T::RParen, &[]),
+    (T::RParen, &[Dots]),
     (T::Equal, &[Opend, Args]),
     (T::Operator1, &[Opend, Args]),
     (T::Operator2, &[Opend, Args]),
@@ -347,14 +389,17 @@ const HPAREN: [Row; 23] = [
     (T::LetWord, &[Pat, Letpats, GroupRest]),
     (T::ForallWord, &[Take(T::Lident), Binder, GroupRest]),
     (T::ExistsWord, &[Take(T::Lident), Binder, GroupRest]),
-    (T::Lident, &[Args, Tail(0, 9), GroupRest]),
-    (T::Uident, &[Scoped, Args, Tail(0, 9), GroupRest]),
+    (T::Lident, &[Applied, Tail(0, 9), GroupRest]),
+    (T::Uident, &[HeadRest(true), Tail(0, 9), GroupRest]),
     (T::StarName, &[Args, Tail(0, 9), GroupRest]),
     (T::LParen, &[Hparen, Tail(0, 9), GroupRest]),
     (T::Int, &[Tail(0, 9), GroupRest]),
     (T::TrueWord, &[Tail(0, 9), GroupRest]),
     (T::FalseWord, &[Tail(0, 9), GroupRest]),
-    (T::MatchWord, &[ANY, Scrutinees, Tail(0, 9), GroupRest]),
+    (
+        T::MatchWord,
+        &[ANY, Scrutinees, Dots, Tail(0, 9), GroupRest],
+    ),
 ];
 
 const HMINUS: [Row; 16] = [
@@ -378,10 +423,10 @@ const HMINUS: [Row; 16] = [
         T::ExistsWord,
         &[Take(T::Lident), Binder, Tail(0, 8), GroupRest],
     ),
-    (T::Lident, &[Args, Tail(8, 9), Tail(0, 8), GroupRest]),
+    (T::Lident, &[Applied, Tail(8, 9), Tail(0, 8), GroupRest]),
     (
         T::Uident,
-        &[Scoped, Args, Tail(8, 9), Tail(0, 8), GroupRest],
+        &[HeadRest(true), Tail(8, 9), Tail(0, 8), GroupRest],
     ),
     (T::StarName, &[Args, Tail(8, 9), Tail(0, 8), GroupRest]),
     (T::LParen, &[Hparen, Tail(8, 9), Tail(0, 8), GroupRest]),
@@ -390,12 +435,12 @@ const HMINUS: [Row; 16] = [
     (T::FalseWord, &[Tail(8, 9), Tail(0, 8), GroupRest]),
     (
         T::MatchWord,
-        &[ANY, Scrutinees, Tail(8, 9), Tail(0, 8), GroupRest],
+        &[ANY, Scrutinees, Dots, Tail(8, 9), Tail(0, 8), GroupRest],
     ),
 ];
 
 const APAREN: [Row; 23] = [
-    (T::RParen, &[]),
+    (T::RParen, &[Dots]),
     (T::Equal, &[Opend]),
     (T::Operator1, &[Opend]),
     (T::Operator2, &[Opend]),
@@ -410,14 +455,17 @@ const APAREN: [Row; 23] = [
     (T::LetWord, &[Pat, Letpats, GroupRest]),
     (T::ForallWord, &[Take(T::Lident), Binder, GroupRest]),
     (T::ExistsWord, &[Take(T::Lident), Binder, GroupRest]),
-    (T::Lident, &[Args, Tail(0, 9), GroupRest]),
-    (T::Uident, &[Scoped, Args, Tail(0, 9), GroupRest]),
+    (T::Lident, &[Applied, Tail(0, 9), GroupRest]),
+    (T::Uident, &[HeadRest(true), Tail(0, 9), GroupRest]),
     (T::StarName, &[Args, Tail(0, 9), GroupRest]),
     (T::LParen, &[Hparen, Tail(0, 9), GroupRest]),
     (T::Int, &[Tail(0, 9), GroupRest]),
     (T::TrueWord, &[Tail(0, 9), GroupRest]),
     (T::FalseWord, &[Tail(0, 9), GroupRest]),
-    (T::MatchWord, &[ANY, Scrutinees, Tail(0, 9), GroupRest]),
+    (
+        T::MatchWord,
+        &[ANY, Scrutinees, Dots, Tail(0, 9), GroupRest],
+    ),
 ];
 
 const AMINUS: [Row; 16] = [
@@ -441,10 +489,10 @@ const AMINUS: [Row; 16] = [
         T::ExistsWord,
         &[Take(T::Lident), Binder, Tail(0, 8), GroupRest],
     ),
-    (T::Lident, &[Args, Tail(8, 9), Tail(0, 8), GroupRest]),
+    (T::Lident, &[Applied, Tail(8, 9), Tail(0, 8), GroupRest]),
     (
         T::Uident,
-        &[Scoped, Args, Tail(8, 9), Tail(0, 8), GroupRest],
+        &[HeadRest(true), Tail(8, 9), Tail(0, 8), GroupRest],
     ),
     (T::StarName, &[Args, Tail(8, 9), Tail(0, 8), GroupRest]),
     (T::LParen, &[Hparen, Tail(8, 9), Tail(0, 8), GroupRest]),
@@ -453,7 +501,7 @@ const AMINUS: [Row; 16] = [
     (T::FalseWord, &[Tail(8, 9), Tail(0, 8), GroupRest]),
     (
         T::MatchWord,
-        &[ANY, Scrutinees, Tail(8, 9), Tail(0, 8), GroupRest],
+        &[ANY, Scrutinees, Dots, Tail(8, 9), Tail(0, 8), GroupRest],
     ),
 ];
 
@@ -526,6 +574,12 @@ pub fn rows_of(rule: Symbol) -> &'static [Row]
         Algs => &ALGS,
         Patom => &PATOM,
         Prim => &PRIM,
+        Dots => &DOTS,
+        Applied => &APPLIED,
+        HeadRest(true) => &HEAD_REST,
+        HeadRest(false) => &ATOM_REST,
+        Head(true) => &HEAD,
+        Head(false) => &ATOM_HEAD,
         Scoped => &[(T::Dot, &[Qhead])],
         Qhead => &QHEAD,
         Args => &ARGS,

@@ -4,6 +4,7 @@ pub mod NamesRead
 pub mod FormsRead
 pub mod TextsRead
 pub mod HeadsRead
+pub mod FieldsRead
 pub mod TermSteps
 pub mod ClimbRead
 pub mod AtomsRead

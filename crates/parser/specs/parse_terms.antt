@@ -3,6 +3,7 @@ pub mod Reading
 pub mod Texts
 pub mod Sources
 pub mod Names
+pub mod Fields
 pub mod Terms
 pub mod Binders
 pub mod Whole

@@ -4,6 +4,7 @@
 // Contract: the longest expression from a place, its one tree with its places, or the least token with which none begins.
 
 mod expressions;
+mod fields;
 mod names;
 mod operators;
 mod parse;

@@ -25,7 +25,7 @@ use Rattle.surface.specs.declared.expressions.ExprNode.TheFolds.{fold-roll-ExprN
 use Rattle.surface.specs.declared.expressions.ExprNode.TheViews.{roll-TriggerTree}
 use Rattle.surface.specs.Lexeme.{Word}
 use Rattle.surface.specs.Forms.{SyntaxForm, wild, variable, type_variable, composed, enclosed, aliased}
-use Rattle.surface.specs.Trees.{SyntaxTree, apply, literal, truth, falsity, group, cast, cases, prefixed, negation, binary, choice, binding, quantified}
+use Rattle.surface.specs.Trees.{SyntaxTree, apply, literal, truth, falsity, group, cast, cases, access, prefixed, negation, binary, choice, binding, quantified}
 use Rattle.surface.specs.Surface.{Arm, Terms, op_of, called_of, trees, branches, trigger, types, patterns, alternatives, binder_of, integer_word, type_step, type_whole, form_of, form_of_node, pattern_step, pattern_whole, pattern_of, pattern_of_node, node_step, arm_step, terms_step, whole_step, tree_of, arm_of, terms_of, tree_of_node}
 
 pub form_of-node : (e : TypeTree) → form_of e ≡ form_of_node e.node e.at
@@ -117,6 +117,10 @@ pub tree_of_node-Match : (es : List Expr) (bar : Bool) (bs : List BranchTree) (a
 unfolding tree_of tree_of_node arm_of terms_of
 tree_of_node-Match es bar bs a = ap (λ n. tree_of_node n a) (sym (ev.rolls-Match es bar bs)) ∙ ap (λ f. f a) (fold-roll-ExprNode (At → SyntaxTree) Arm SyntaxTree Terms node_step arm_step whole_step terms_step (ex.Match es bar bs))
 
+pub tree_of_node-Dot : (f : Expr) (q : QName) (a : At) → tree_of_node (ev.Dot f q) a ≡ access a (tree_of f) (called_of q)
+unfolding tree_of tree_of_node arm_of terms_of
+tree_of_node-Dot f q a = ap (λ n. tree_of_node n a) (sym (ev.rolls-Dot f q)) ∙ ap (λ f. f a) (fold-roll-ExprNode (At → SyntaxTree) Arm SyntaxTree Terms node_step arm_step whole_step terms_step (ex.Dot f q))
+
 pub tree_of_node-Prefix : (o : OpName) (f : Expr) (a : At) → tree_of_node (ev.Prefix o f) a ≡ prefixed a (op_of o) (tree_of f)
 unfolding tree_of tree_of_node arm_of terms_of
 tree_of_node-Prefix o f a = ap (λ n. tree_of_node n a) (sym (ev.rolls-Prefix o f)) ∙ ap (λ f. f a) (fold-roll-ExprNode (At → SyntaxTree) Arm SyntaxTree Terms node_step arm_step whole_step terms_step (ex.Prefix o f))
@@ -142,7 +146,7 @@ unfolding tree_of tree_of_node arm_of terms_of
 tree_of_node-Quant all bs None f a = ap (λ n. tree_of_node n a) (sym (ev.rolls-Quant all bs None f)) ∙ ap (λ g. g a) (fold-roll-ExprNode (At → SyntaxTree) Arm SyntaxTree Terms node_step arm_step whole_step terms_step (ex.Quant all bs None f))
 tree_of_node-Quant all bs (Some t) f a = ap (λ n. tree_of_node n a) (sym (ev.rolls-Quant all bs (Some t) f)) ∙ ap (λ g. g a) (fold-roll-ExprNode (At → SyntaxTree) Arm SyntaxTree Terms node_step arm_step whole_step terms_step (ex.Quant all bs (Some t) f))
 
-pub ruleset made = (form_of-node, form_of_node-Var, form_of_node-Named, form_of_node-Group, pattern_of-node, pattern_of_node-Wild, pattern_of_node-Var, pattern_of_node-Con, pattern_of_node-Group, pattern_of_node-Alias, tree_of-node, tree_of_node-Apply, tree_of_node-Int, tree_of_node-True, tree_of_node-False, tree_of_node-Group, tree_of_node-Cast, tree_of_node-Match, tree_of_node-Prefix, tree_of_node-Not, tree_of_node-Binary, tree_of_node-If, tree_of_node-Let, tree_of_node-Quant)
+pub ruleset made = (form_of-node, form_of_node-Var, form_of_node-Named, form_of_node-Group, pattern_of-node, pattern_of_node-Wild, pattern_of_node-Var, pattern_of_node-Con, pattern_of_node-Group, pattern_of_node-Alias, tree_of-node, tree_of_node-Apply, tree_of_node-Int, tree_of_node-True, tree_of_node-False, tree_of_node-Group, tree_of_node-Cast, tree_of_node-Match, tree_of_node-Dot, tree_of_node-Prefix, tree_of_node-Not, tree_of_node-Binary, tree_of_node-If, tree_of_node-Let, tree_of_node-Quant)
 
 pub made-Terms : (ts : List Expr) (bars : List Bool) → terms_of (roll-TriggerTree (record { terms = ts; bars = bars })) ≡ record { terms = trees (map tree_of ts); bars = bars }
 unfolding tree_of terms_of

@@ -26,7 +26,7 @@ use Rattle.surface.specs.declared.expressions.ExprNode.TheOpen.{ExprNode-F}
 use Rattle.surface.specs.declared.expressions.ExprNode.TheFolds.{fold-Expr, fold-ExprNode, fold-BranchTree, fold-TriggerTree}
 use Rattle.surface.specs.Lexeme.{Word, said}
 use Rattle.surface.specs.Forms.{Own, lower, upper, infix_op, prefix_op, star, Called, called, SyntaxForm, SyntaxForms, wild, variable, type_variable, composed, enclosed, aliased, no_forms, more_forms}
-use Rattle.surface.specs.Trees.{OperatorToken, op, TypedBinder, binds, SyntaxTree, SyntaxTrees, Branches, SyntaxTrigger, apply, literal, truth, falsity, group, cast, prefixed, negation, binary, choice, cases, binding, quantified, none, more, no_branch, branch, untriggered, triggered}
+use Rattle.surface.specs.Trees.{OperatorToken, op, TypedBinder, binds, SyntaxTree, SyntaxTrees, Branches, SyntaxTrigger, apply, literal, truth, falsity, group, cast, prefixed, negation, binary, choice, cases, access, binding, quantified, none, more, no_branch, branch, untriggered, triggered}
 
 -- a branch by itself
 pub record Arm : Type 0 where
@@ -138,6 +138,7 @@ node_step ex.False a = falsity a
 node_step (ex.Group xs) a = group a (trees xs)
 node_step (ex.Cast e t) a = cast a e (form_of t)
 node_step (ex.Match es bar bs) a = cases a (trees es) bar (branches bs)
+node_step (ex.Dot e q) a = access a e (called_of q)
 node_step (ex.Prefix o e) a = prefixed a (op_of o) e
 node_step (ex.Not e) a = negation a e
 node_step (ex.Binary e o f) a = binary a e (op_of o) f

@@ -3,7 +3,7 @@ use Rattle.std.specs.Prelude.{ℕ, ◌+◌, ◌≡◌, ◌≤◌, Bool, true, fa
 use Rattle.surface.specs.Common.{⊤, Terminal, prec, need, right, is_infix, is_prefix, is_operator, At, Name}
 use Rattle.tokens_why.specs.declared.terminal.Terminal.TheVariants as t
 use Rattle.surface.specs.Lexeme.{Lexeme, Word, at, lx, mark}
-use Rattle.surface.specs.Forms.{AreForms, Called, SyntaxForm, SyntaxForms, IsForm, IsPlaced, Own, PlacedList, form_list, infix_op, more_forms, no_forms, past, pattern_forms, prefix_op, type_forms, write_called, write_form}
+use Rattle.surface.specs.Forms.{AreForms, Called, SyntaxForm, SyntaxForms, IsForm, IsPlaced, Own, lower, PlacedList, form_list, infix_op, more_forms, no_forms, past, pattern_forms, prefix_op, type_forms, write_called, write_form}
 
 pub record OperatorToken : Type 0 where
   pub at : ℕ
@@ -30,6 +30,8 @@ mutual
     binary : At → SyntaxTree → OperatorToken → SyntaxTree → SyntaxTree
     choice : At → SyntaxTree → SyntaxTree → SyntaxTree → SyntaxTree
     cases : At → SyntaxTrees → Bool → Branches → SyntaxTree
+    -- a field of a term
+    access : At → SyntaxTree → Called → SyntaxTree
     binding : At → SyntaxForms → SyntaxTree → SyntaxTree → SyntaxTree
     quantified : At → Bool → List TypedBinder → SyntaxTrigger → SyntaxTree → SyntaxTree
 
@@ -107,6 +109,7 @@ abbrev mutual
   write (cases a es bar bs) =
       mark t.MatchWord ∷ (write_list es
       ++ (mark t.WithWord ∷ (bar_before bar ++ (write_branches bs ++ (mark t.EndWord ∷ [])))))
+  write (access a e c) = write e ++ (mark t.Dot ∷ write_called c)
   write (binding a ps e f) =
       mark t.LetWord ∷ (form_list ps ++ (mark t.Equal ∷ (write e ++ (mark t.InWord ∷ write f))))
   write (quantified a all bs g e) =
@@ -190,6 +193,19 @@ IsAtom (binding a ps e f) = ⊥
 IsAtom (quantified a all bs g e) = ⊥
 IsAtom _ = ⊤
 
+abbrev pub IsLowerName : Own → Type 0
+IsLowerName (lower w) = ⊤
+IsLowerName _ = ⊥
+
+-- what a field may be taken of
+abbrev pub IsPlainTerm : SyntaxTree → Type 0
+IsPlainTerm (apply a c none) = IsLowerName c.own
+IsPlainTerm (group a es) = ⊤
+IsPlainTerm (cast a e f) = ⊤
+IsPlainTerm (cases a es bar bs) = ⊤
+IsPlainTerm (access a e c) = ⊤
+IsPlainTerm _ = ⊥
+
 abbrev pub HasSome : {A : Type 0} → List A → Type 0
 HasSome [] = ⊥
 HasSome (x ∷ xs) = ⊤
@@ -234,6 +250,7 @@ abbrev mutual
       × IsLevel e × IsLevel f
   IsLevel (choice a c e f) = IsLevel c × IsLevel e × IsLevel f
   IsLevel (cases a es bar bs) = HasSomeTree es × AreLevel es × HasBranch bs × AreBranches bs
+  IsLevel (access a e c) = IsPlainTerm e × IsLevel e × IsLowerName c.own
   IsLevel (binding a ps e f) = HasForm ps × AreForms pattern_forms ps × IsLevel e × IsLevel f
   IsLevel (quantified a all bs g e) = HasSome bs × AreBinders bs × IsTrigger g × IsLevel e
 
@@ -303,6 +320,8 @@ abbrev mutual
   IsPlacedTree i (cases a es bar bs) =
       (a ≡ at i) × PlacedCommas (i + 1) es
       × PlacedBranches (past (past (i + 1) (write_list es) + 1) (bar_before bar)) bs
+  IsPlacedTree i (access a e c) =
+      (a ≡ at i) × IsPlacedTree i e × (c.at ≡ past i (write e) + 1)
   IsPlacedTree i (binding a ps e f) =
       (a ≡ at i) × PlacedList (i + 1) ps × IsPlacedTree (past (i + 1) (form_list ps) + 1) e
       × IsPlacedTree (past (past (i + 1) (form_list ps) + 1) (write e) + 1) f

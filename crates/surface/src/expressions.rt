@@ -14,7 +14,7 @@ pub struct Expr {
 
 /// The forms of terms and formulas.
 /// `Apply` without arguments is the atom. The truth value of `Match` says that a `|` is before the first branch;
-/// that of `Quant` is true for `forall`.
+/// that of `Quant` is true for `forall`. `Dot` is `e.a`.
 #[cycle(expression_tree)]
 #[derive(Drop)]
 pub enum ExprNode {
@@ -25,6 +25,7 @@ pub enum ExprNode {
     Group(Seq<Expr>),
     Cast(Boxed<Expr>, TypeTree),
     Match(Seq<Expr>, bool, Seq<BranchTree>),
+    Dot(Boxed<Expr>, QName),
     Prefix(OpName, Boxed<Expr>),
     Not(Boxed<Expr>),
     Binary(Boxed<Expr>, OpName, Boxed<Expr>),

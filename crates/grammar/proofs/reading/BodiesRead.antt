@@ -73,7 +73,7 @@ reads_tvars (n ∷ ns) d zs i k vs p h = rw (reads_tvars ns d zs (i + 1) k vs p.
 -- definitions and members
 pub members_follow : (ms : List Member) (zs : List Lexeme) → Ends zs → Follow 0 (other_members ms ++ zs)
 members_follow [] zs n = n.follow
-members_follow (d ∷ ms) zs n = record { args = refl; scope = refl; ops = λ i. absurd (no_false i) }
+members_follow (d ∷ ms) zs n = record { args = refl; dots = refl; ops = λ i. absurd (no_false i) }
 
 part_stop : (ty : Option SyntaxForm) (zs : List Lexeme) → Stops s.Params (type_part ty ++ (mark t.Equal ∷ zs))
 part_stop None zs = refl
@@ -109,7 +109,7 @@ reads_value (Some e) zs i k vs l p n h = rw (expr_then e zs (i + 1) s.Decls k vs
 -- clauses
 clause_follow : (cs : List Clause) (zs : List Lexeme) → Follow 0 zs → Follow 0 (clause_tail cs ++ zs)
 clause_follow [] zs n = n
-clause_follow (c ∷ cs) zs n = record { args = refl; scope = refl; ops = λ i. absurd (no_false i) }
+clause_follow (c ∷ cs) zs n = record { args = refl; dots = refl; ops = λ i. absurd (no_false i) }
 
 clause_split : (a b c ys : List Lexeme) → ((a ++ (mark t.Colon ∷ b)) ++ c) ++ ys ≡ a ++ (mark t.Colon ∷ (b ++ (c ++ ys)))
 clause_split a b c ys = simp append_assoc
@@ -150,7 +150,7 @@ reads_clause false (c ∷ cs) is zs i k vs e l p n h = rw (clause_split (write_c
 
 pub ind_follow : (is : List Inductive) (zs : List Lexeme) → Ends zs → Follow 0 (inductive_tail is ++ zs)
 ind_follow [] zs n = n.follow
-ind_follow (d ∷ is) zs n = record { args = refl; scope = refl; ops = λ i. absurd (no_false i) }
+ind_follow (d ∷ is) zs n = record { args = refl; dots = refl; ops = λ i. absurd (no_false i) }
 
 pub ind_tokens_of : (a b c d e ys : List Lexeme) → ((a ++ (b ++ (mark t.Equal ∷ (c ++ d)))) ++ e) ++ ys ≡ a ++ (b ++ (mark t.Equal ∷ (c ++ (d ++ (e ++ ys)))))
 ind_tokens_of a b c d e ys = simp append_assoc

@@ -28,18 +28,18 @@ abbrev pub ends_decl : Terminal → Bool
 ends_decl x = list_any (same x) (t.EndWord ∷ t.ScopeWord ∷ t.TypeWord ∷ t.FunctionWord ∷ t.PredicateWord ∷ t.ConstantWord ∷ t.InductiveWord ∷ t.AxiomWord ∷ t.LemmaWord ∷ t.GoalWord ∷ t.UseWord ∷ t.CloneWord ∷ [])
 
 pub ends_at : (x : Terminal) (zs : List Lexeme) → ends_decl x ≡ true → Ends (mark x ∷ zs)
-ends_at t.EndWord zs h = record { follow = record { args = refl; scope = refl; ops = λ i. absurd (no_false i) }; no_targs = refl; no_fields = refl; no_algs = refl; no_tvars = refl; no_upper = refl; no_params = refl; no_body = refl; no_members = refl; no_value = refl; no_clauses = refl; no_renamed = refl; no_subst = refl; no_elems = refl; no_qids = refl }
-ends_at t.ScopeWord zs h = record { follow = record { args = refl; scope = refl; ops = λ i. absurd (no_false i) }; no_targs = refl; no_fields = refl; no_algs = refl; no_tvars = refl; no_upper = refl; no_params = refl; no_body = refl; no_members = refl; no_value = refl; no_clauses = refl; no_renamed = refl; no_subst = refl; no_elems = refl; no_qids = refl }
-ends_at t.TypeWord zs h = record { follow = record { args = refl; scope = refl; ops = λ i. absurd (no_false i) }; no_targs = refl; no_fields = refl; no_algs = refl; no_tvars = refl; no_upper = refl; no_params = refl; no_body = refl; no_members = refl; no_value = refl; no_clauses = refl; no_renamed = refl; no_subst = refl; no_elems = refl; no_qids = refl }
-ends_at t.FunctionWord zs h = record { follow = record { args = refl; scope = refl; ops = λ i. absurd (no_false i) }; no_targs = refl; no_fields = refl; no_algs = refl; no_tvars = refl; no_upper = refl; no_params = refl; no_body = refl; no_members = refl; no_value = refl; no_clauses = refl; no_renamed = refl; no_subst = refl; no_elems = refl; no_qids = refl }
-ends_at t.PredicateWord zs h = record { follow = record { args = refl; scope = refl; ops = λ i. absurd (no_false i) }; no_targs = refl; no_fields = refl; no_algs = refl; no_tvars = refl; no_upper = refl; no_params = refl; no_body = refl; no_members = refl; no_value = refl; no_clauses = refl; no_renamed = refl; no_subst = refl; no_elems = refl; no_qids = refl }
-ends_at t.ConstantWord zs h = record { follow = record { args = refl; scope = refl; ops = λ i. absurd (no_false i) }; no_targs = refl; no_fields = refl; no_algs = refl; no_tvars = refl; no_upper = refl; no_params = refl; no_body = refl; no_members = refl; no_value = refl; no_clauses = refl; no_renamed = refl; no_subst = refl; no_elems = refl; no_qids = refl }
-ends_at t.InductiveWord zs h = record { follow = record { args = refl; scope = refl; ops = λ i. absurd (no_false i) }; no_targs = refl; no_fields = refl; no_algs = refl; no_tvars = refl; no_upper = refl; no_params = refl; no_body = refl; no_members = refl; no_value = refl; no_clauses = refl; no_renamed = refl; no_subst = refl; no_elems = refl; no_qids = refl }
-ends_at t.AxiomWord zs h = record { follow = record { args = refl; scope = refl; ops = λ i. absurd (no_false i) }; no_targs = refl; no_fields = refl; no_algs = refl; no_tvars = refl; no_upper = refl; no_params = refl; no_body = refl; no_members = refl; no_value = refl; no_clauses = refl; no_renamed = refl; no_subst = refl; no_elems = refl; no_qids = refl }
-ends_at t.LemmaWord zs h = record { follow = record { args = refl; scope = refl; ops = λ i. absurd (no_false i) }; no_targs = refl; no_fields = refl; no_algs = refl; no_tvars = refl; no_upper = refl; no_params = refl; no_body = refl; no_members = refl; no_value = refl; no_clauses = refl; no_renamed = refl; no_subst = refl; no_elems = refl; no_qids = refl }
-ends_at t.GoalWord zs h = record { follow = record { args = refl; scope = refl; ops = λ i. absurd (no_false i) }; no_targs = refl; no_fields = refl; no_algs = refl; no_tvars = refl; no_upper = refl; no_params = refl; no_body = refl; no_members = refl; no_value = refl; no_clauses = refl; no_renamed = refl; no_subst = refl; no_elems = refl; no_qids = refl }
-ends_at t.UseWord zs h = record { follow = record { args = refl; scope = refl; ops = λ i. absurd (no_false i) }; no_targs = refl; no_fields = refl; no_algs = refl; no_tvars = refl; no_upper = refl; no_params = refl; no_body = refl; no_members = refl; no_value = refl; no_clauses = refl; no_renamed = refl; no_subst = refl; no_elems = refl; no_qids = refl }
-ends_at t.CloneWord zs h = record { follow = record { args = refl; scope = refl; ops = λ i. absurd (no_false i) }; no_targs = refl; no_fields = refl; no_algs = refl; no_tvars = refl; no_upper = refl; no_params = refl; no_body = refl; no_members = refl; no_value = refl; no_clauses = refl; no_renamed = refl; no_subst = refl; no_elems = refl; no_qids = refl }
+ends_at t.EndWord zs h = record { follow = record { args = refl; dots = refl; ops = λ i. absurd (no_false i) }; no_targs = refl; no_fields = refl; no_algs = refl; no_tvars = refl; no_upper = refl; no_params = refl; no_body = refl; no_members = refl; no_value = refl; no_clauses = refl; no_renamed = refl; no_subst = refl; no_elems = refl; no_qids = refl }
+ends_at t.ScopeWord zs h = record { follow = record { args = refl; dots = refl; ops = λ i. absurd (no_false i) }; no_targs = refl; no_fields = refl; no_algs = refl; no_tvars = refl; no_upper = refl; no_params = refl; no_body = refl; no_members = refl; no_value = refl; no_clauses = refl; no_renamed = refl; no_subst = refl; no_elems = refl; no_qids = refl }
+ends_at t.TypeWord zs h = record { follow = record { args = refl; dots = refl; ops = λ i. absurd (no_false i) }; no_targs = refl; no_fields = refl; no_algs = refl; no_tvars = refl; no_upper = refl; no_params = refl; no_body = refl; no_members = refl; no_value = refl; no_clauses = refl; no_renamed = refl; no_subst = refl; no_elems = refl; no_qids = refl }
+ends_at t.FunctionWord zs h = record { follow = record { args = refl; dots = refl; ops = λ i. absurd (no_false i) }; no_targs = refl; no_fields = refl; no_algs = refl; no_tvars = refl; no_upper = refl; no_params = refl; no_body = refl; no_members = refl; no_value = refl; no_clauses = refl; no_renamed = refl; no_subst = refl; no_elems = refl; no_qids = refl }
+ends_at t.PredicateWord zs h = record { follow = record { args = refl; dots = refl; ops = λ i. absurd (no_false i) }; no_targs = refl; no_fields = refl; no_algs = refl; no_tvars = refl; no_upper = refl; no_params = refl; no_body = refl; no_members = refl; no_value = refl; no_clauses = refl; no_renamed = refl; no_subst = refl; no_elems = refl; no_qids = refl }
+ends_at t.ConstantWord zs h = record { follow = record { args = refl; dots = refl; ops = λ i. absurd (no_false i) }; no_targs = refl; no_fields = refl; no_algs = refl; no_tvars = refl; no_upper = refl; no_params = refl; no_body = refl; no_members = refl; no_value = refl; no_clauses = refl; no_renamed = refl; no_subst = refl; no_elems = refl; no_qids = refl }
+ends_at t.InductiveWord zs h = record { follow = record { args = refl; dots = refl; ops = λ i. absurd (no_false i) }; no_targs = refl; no_fields = refl; no_algs = refl; no_tvars = refl; no_upper = refl; no_params = refl; no_body = refl; no_members = refl; no_value = refl; no_clauses = refl; no_renamed = refl; no_subst = refl; no_elems = refl; no_qids = refl }
+ends_at t.AxiomWord zs h = record { follow = record { args = refl; dots = refl; ops = λ i. absurd (no_false i) }; no_targs = refl; no_fields = refl; no_algs = refl; no_tvars = refl; no_upper = refl; no_params = refl; no_body = refl; no_members = refl; no_value = refl; no_clauses = refl; no_renamed = refl; no_subst = refl; no_elems = refl; no_qids = refl }
+ends_at t.LemmaWord zs h = record { follow = record { args = refl; dots = refl; ops = λ i. absurd (no_false i) }; no_targs = refl; no_fields = refl; no_algs = refl; no_tvars = refl; no_upper = refl; no_params = refl; no_body = refl; no_members = refl; no_value = refl; no_clauses = refl; no_renamed = refl; no_subst = refl; no_elems = refl; no_qids = refl }
+ends_at t.GoalWord zs h = record { follow = record { args = refl; dots = refl; ops = λ i. absurd (no_false i) }; no_targs = refl; no_fields = refl; no_algs = refl; no_tvars = refl; no_upper = refl; no_params = refl; no_body = refl; no_members = refl; no_value = refl; no_clauses = refl; no_renamed = refl; no_subst = refl; no_elems = refl; no_qids = refl }
+ends_at t.UseWord zs h = record { follow = record { args = refl; dots = refl; ops = λ i. absurd (no_false i) }; no_targs = refl; no_fields = refl; no_algs = refl; no_tvars = refl; no_upper = refl; no_params = refl; no_body = refl; no_members = refl; no_value = refl; no_clauses = refl; no_renamed = refl; no_subst = refl; no_elems = refl; no_qids = refl }
+ends_at t.CloneWord zs h = record { follow = record { args = refl; dots = refl; ops = λ i. absurd (no_false i) }; no_targs = refl; no_fields = refl; no_algs = refl; no_tvars = refl; no_upper = refl; no_params = refl; no_body = refl; no_members = refl; no_value = refl; no_clauses = refl; no_renamed = refl; no_subst = refl; no_elems = refl; no_qids = refl }
 ends_at _ zs h = absurd (no_false h)
 
 pub next_ends : (ds : SyntaxDeclarations) (zs : List Lexeme) → Ends ((write_decls ds ++ (mark t.EndWord ∷ [])) ++ zs)

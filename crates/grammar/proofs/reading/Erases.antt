@@ -22,6 +22,10 @@ pub erases : (top : Symbol) → Erases top
 erases (s.Take x) = record { lines = refl; empty = refl }
 erases (s.Expr m) = record { lines = expr_lines m (nat_le m 3); empty = refl }
 erases (s.Tail m u) = record { lines = tail_lines m u operators; empty = refl }
+erases (s.HeadRest true) = record { lines = refl; empty = refl }
+erases (s.HeadRest false) = record { lines = refl; empty = refl }
+erases (s.Head true) = record { lines = refl; empty = refl }
+erases (s.Head false) = record { lines = refl; empty = refl }
 erases _ = record { lines = refl; empty = refl }
 
 -- What the grammar accepts is read, and nothing else.

@@ -1,8 +1,8 @@
 -- Values that are right, with their places and tokens.
-use Rattle.grammar.proofs.reading.Common.{◌≡◌, ℕ, ◌+◌, Bool, true, false, ◌&&◌, List, [], ◌∷◌, ◌++◌, Option, Some, None, ◌≤◌, ⊤, Terminal, Symbol, is_tail, Name, Lexeme, Word, lx, mark, AreForms, AreParts, IsForm, IsFormPart, IsPlaced, PlacedList, PlacedRow, form_list, form_row, form_tail, past, pattern_forms, scoped, type_forms, write_called, write_form, write_own, is_infix, is_operator, prec, need, right, AreAtoms, AreBranches, AreLevel, HasSome, IsAtom, IsLevel, IsOwn, IsPlacedTree, MayBeMarked, OperatorToken, PlacedBranches, PlacedCommas, PlacedTrees, ends_open, none, tight, write, write_op, write_others, write_row, write_tail, definition, element_tail, other_members, param_row, renamed, substitution, write_decls, write_element, write_file, write_path, AreLevelDecls, AreMembers, AreParams, IsOptionalDefinition, IsElement, IsLevelFile, IsNewProp, IsNewSymbol, IsSymbolName, PlacedDecls, PlacedDefinition, PlacedElement, PlacedFile, PlacedMembers, PlacedParams, PlacedRenamed, Chain, Closing, Dotted, Minus, Paren, Scoped, cast_to, closes_group, holds, link, named_operator, named_by, nothing, operand, stop, ReadingRow, Val, Vals, back, extend, front, blank, write_param, IsTypedParam, PlacedTyped, algebraic_tail, write_field}
+use Rattle.grammar.proofs.reading.Common.{◌≡◌, ℕ, ◌+◌, Bool, true, false, ◌&&◌, List, [], ◌∷◌, ◌++◌, Option, Some, None, ◌≤◌, ⊤, Terminal, Symbol, is_tail, Name, Lexeme, Word, lx, mark, AreForms, AreParts, IsForm, IsFormPart, IsPlaced, PlacedList, PlacedRow, form_list, form_row, form_tail, past, pattern_forms, scoped, type_forms, write_called, write_form, write_own, is_infix, is_operator, prec, need, right, AreAtoms, AreBranches, AreLevel, HasSome, IsAtom, IsLevel, IsOwn, IsPlacedTree, MayBeMarked, OperatorToken, PlacedBranches, PlacedCommas, PlacedTrees, ends_open, none, tight, write, write_op, write_others, write_row, write_tail, definition, element_tail, other_members, param_row, renamed, substitution, write_decls, write_element, write_file, write_path, AreLevelDecls, AreMembers, AreParams, IsOptionalDefinition, IsElement, IsLevelFile, IsNewProp, IsNewSymbol, IsSymbolName, PlacedDecls, PlacedDefinition, PlacedElement, PlacedFile, PlacedMembers, PlacedParams, PlacedRenamed, Scoped, NameRest, IsLowerName, Own, UpperRest, SyntaxTrees, args_rest, dots_rest, scopes_name, unscoped, Chain, Closing, Dotted, Minus, Paren, Headed, cast_to, closes_group, holds, link, named_operator, named_by, nothing, operand, stop, ReadingRow, Val, Vals, back, extend, front, blank, write_param, IsTypedParam, PlacedTyped, algebraic_tail, write_field}
 use Rattle.tokens_why.specs.declared.terminal.Terminal.TheVariants as t
 use Rattle.grammar.specs.declared.symbols.Symbol.TheVariants as s
-use Rattle.grammar.proofs.reading.TermsRight.{IsArm, IsBound, IsBranch, IsCases, IsLet, IsNames, IsTerms, write_arm, write_bound, write_branch, write_cases, write_let, write_names, write_terms_part}
+use Rattle.grammar.proofs.reading.TermsRight.{AreDots, IsArm, IsBound, IsBranch, IsCases, IsLet, IsNames, IsTerms, write_arm, write_bound, write_branch, write_cases, write_dots, write_let, write_names, write_terms_part}
 use Rattle.grammar.proofs.reading.DeclsRight.{IsAlg, IsAxioms, IsBody, IsClausePart, IsClauses, IsCloned, IsCon, IsFields, IsMemberPart, IsPname, IsPparen, IsPropAt, IsQids, IsSubst, IsTvars, IsType, IsUpper, IsUsed, IsVars, value_open, write_alg, write_axioms, write_body, write_clause_part, write_clauses, write_cloned, write_con, write_fields, write_member_part, write_pname, write_pparen, write_qids, write_tvars, write_type, write_upper, write_used, write_vars, AreOthers, IsField, IsRecordNext, IsRecordRest, write_record_next, write_record_rest}
 
 infixr 5 ◌▸◌
@@ -35,6 +35,17 @@ abbrev pub write_chain : Chain → List Lexeme
 write_chain stop = []
 write_chain (link o f c) = write_op o ∷ (write f ++ write_chain c)
 
+abbrev pub write_applied : NameRest → List Lexeme
+write_applied (args_rest ts) = write_row ts
+write_applied (dots_rest cs) = write_dots cs
+
+abbrev pub write_headed : Headed → List Lexeme
+write_headed d = (scoped d.scopes ++ write_own d.own) ++ write_applied d.rest
+
+abbrev pub write_head_rest : UpperRest → List Lexeme
+write_head_rest (unscoped ts) = write_row ts
+write_head_rest (scopes_name d) = mark t.Dot ∷ write_headed d
+
 abbrev pub write_scoped : Scoped → List Lexeme
 write_scoped d = scoped d.scopes ++ write_own d.own
 
@@ -47,11 +58,11 @@ opend false = mark t.RParen ∷ []
 opend true = mark t.Wild ∷ mark t.RParen ∷ []
 
 abbrev pub write_closing : Closing → List Lexeme
-write_closing (closes_group es) = write_tail es ++ (mark t.RParen ∷ [])
-write_closing (cast_to f) = mark t.Colon ∷ (write_form f ++ (mark t.RParen ∷ []))
+write_closing (closes_group es cs) = (write_tail es ++ (mark t.RParen ∷ [])) ++ write_dots cs
+write_closing (cast_to f cs) = mark t.Colon ∷ ((write_form f ++ (mark t.RParen ∷ [])) ++ write_dots cs)
 
 abbrev pub write_paren : Paren → List Lexeme
-write_paren nothing = mark t.RParen ∷ []
+write_paren (nothing cs) = mark t.RParen ∷ write_dots cs
 write_paren (named_operator o b ts) = write_op o ∷ (opend b ++ write_row ts)
 write_paren (holds e z) = write e ++ write_closing z
 
@@ -80,8 +91,12 @@ writes (s.Tail m u) c = write_chain c
 writes s.Prim e = write e
 writes s.Atom e = write e
 writes s.Args ts = write_row ts
+writes (s.HeadRest b) d = write_head_rest d
+writes (s.Head b) d = write_headed d
 writes s.Scoped d = own_dots d
 writes s.Qhead d = write_scoped d
+writes s.Applied r = write_applied r
+writes s.Dots cs = write_dots cs
 writes s.Opname n = write_op n.op ∷ opend n.prefix
 writes s.Opend b = opend b
 writes s.Hparen p = write_paren p
@@ -159,19 +174,40 @@ abbrev pub ChainBehind : Bool → ℕ → ℕ → ℕ → Chain → Type 0
 ChainBehind true m u i c = c ≡ stop
 ChainBehind false m u i c = IsChain m u i c
 
+abbrev pub IsApplied : ℕ → NameRest → Type 0
+IsApplied i (args_rest ts) = AreAtoms ts × PlacedTrees i ts
+IsApplied i (dots_rest cs) = AreDots i cs
+
+-- arguments where they may stand
+abbrev pub IsRow : Bool → ℕ → SyntaxTrees → Type 0
+IsRow true i ts = AreAtoms ts × PlacedTrees i ts
+IsRow false i ts = ts ≡ none
+
+abbrev pub IsRest : Bool → Own → ℕ → NameRest → Type 0
+IsRest b o i (args_rest ts) = IsRow b i ts
+IsRest b o i (dots_rest cs) = IsLowerName o × AreDots i cs
+
 abbrev pub IsScoped : Option Scoped → Type 0
 IsScoped None = ⊤
 IsScoped (Some d) = IsOwn d.own
+
+-- a name and what comes after it
+abbrev pub IsHeaded : Bool → ℕ → Headed → Type 0
+IsHeaded b i d = IsOwn d.own × IsRest b d.own (past i (scoped d.scopes ++ write_own d.own)) d.rest
+
+abbrev pub IsHeadRest : Bool → ℕ → UpperRest → Type 0
+IsHeadRest b i (unscoped ts) = IsRow b i ts
+IsHeadRest b i (scopes_name d) = IsHeaded b (i + 1) d
 
 abbrev pub IsNamer : ℕ → OperatorToken → Type 0
 IsNamer i o = (o.at ≡ i) × (is_operator o.terminal ≡ true) × MayBeMarked o.terminal o.text
 
 abbrev pub IsClosing : ℕ → Closing → Type 0
-IsClosing i (closes_group es) = AreLevel es × PlacedCommas (i + 1) es
-IsClosing i (cast_to f) = IsForm type_forms f × IsPlaced (i + 1) f
+IsClosing i (closes_group es cs) = AreLevel es × PlacedCommas (i + 1) es × AreDots (past i (write_tail es ++ (mark t.RParen ∷ []))) cs
+IsClosing i (cast_to f cs) = IsForm type_forms f × IsPlaced (i + 1) f × AreDots (past (i + 1) (write_form f ++ (mark t.RParen ∷ []))) cs
 
 abbrev pub IsParen : ℕ → Paren → Type 0
-IsParen i nothing = ⊤
+IsParen i (nothing cs) = AreDots (i + 1) cs
 IsParen i (named_operator o b ts) = IsNamer i o × AreAtoms ts × PlacedTrees (past (i + 1) (opend b)) ts
 IsParen i (holds e z) = IsLevel e × IsPlacedTree i e × IsClosing (past i (write e)) z
 
@@ -206,8 +242,12 @@ Is (s.Tail m u) i c = IsChain m u i c
 Is s.Prim i e = IsLevel e × IsPlacedTree i e × (tight e ≡ 9) × (ends_open e ≡ false)
 Is s.Atom i e = IsAtom e × IsLevel e × IsPlacedTree i e
 Is s.Args i ts = AreAtoms ts × PlacedTrees i ts
+Is (s.HeadRest b) i d = IsHeadRest b i d
+Is (s.Head b) i d = IsHeaded b i d
 Is s.Scoped i d = IsScoped d
 Is s.Qhead i d = IsOwn d.own
+Is s.Applied i r = IsApplied i r
+Is s.Dots i cs = AreDots i cs
 Is s.Opname i n = IsNamer i n.op
 Is s.Hparen i p = IsParen i p
 Is s.Aparen i p = IsParen i p × HasNoArgs p

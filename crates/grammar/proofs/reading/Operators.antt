@@ -119,10 +119,15 @@ abbrev pub OpsBelow : ℕ → List Lexeme → Type 0
 OpsBelow n [] = ⊤
 OpsBelow n (y ∷ ys) = is_infix y.terminal ≡ true → need y.terminal ≤ n
 
--- what may come after a tree: no argument, no scope, and an operator only where the tree may be its left operand
+-- no field begins
+abbrev pub NoDot : List Lexeme → Type 0
+NoDot [] = ⊤
+NoDot (x ∷ xs) = same t.Dot x.terminal ≡ false
+
+-- what may come after a tree: no argument, no field, and an operator only where the tree may be its left operand
 pub record Follow (n : ℕ) (ys : List Lexeme) : Type 0 where
   pub args : Stops s.Args ys
-  pub scope : Stops s.Scoped ys
+  pub dots : NoDot ys
   pub ops : OpsBelow n ys
 
 abbrev pub reach : SyntaxTree → ℕ

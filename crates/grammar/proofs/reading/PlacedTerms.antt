@@ -1,5 +1,5 @@
 -- Each right expression can be placed: one with the same tokens has its places.
-use Rattle.grammar.proofs.reading.Common.{◌≡◌, ℕ, ◌+◌, ◌≤◌, Bool, List, [], ◌∷◌, ◌++◌, Option, Some, None, refl, sym, ap, ◌∙◌, subst, need, right, Name, At, at, lx, mark, name, SyntaxForm, SyntaxForms, form_list, past, pattern_forms, type_forms, write_called, AreAlternatives, AreAtoms, AreBinders, AreBranches, AreLevel, AreTerms, TypedBinder, Branches, HasBranch, HasSome, HasSomeTree, IsAtom, IsLevel, IsPlacedTree, IsTrigger, IsTypePart, PlacedAlternatives, PlacedBinder, PlacedBinders, PlacedBranches, PlacedCommas, PlacedNames, PlacedPart, PlacedTrees, PlacedTrigger, SyntaxTree, SyntaxTrees, SyntaxTrigger, alternative_list, alternative_tail, apply, bar_before, binary, binder_list, binder_tail, binding, binds, branch, cases, cast, choice, ends_open, falsity, group, literal, more, name_row, negation, no_branch, none, op, prefixed, quantified, quantifier, separator, terms_tail, tight, triggered, truth, type_part, untriggered, write, write_binder, write_branches, write_list, write_op, write_others, write_row, write_tail, write_trigger}
+use Rattle.grammar.proofs.reading.Common.{◌≡◌, ℕ, ◌+◌, ◌≤◌, Bool, List, [], ◌∷◌, ◌++◌, Option, Some, None, refl, sym, ap, ◌∙◌, subst, need, right, Name, At, at, lx, mark, name, SyntaxForm, SyntaxForms, form_list, past, pattern_forms, type_forms, write_called, AreAlternatives, AreAtoms, AreBinders, AreBranches, AreLevel, AreTerms, TypedBinder, Branches, HasBranch, HasSome, HasSomeTree, IsAtom, IsLevel, IsPlacedTree, IsPlainTerm, access, IsTrigger, IsTypePart, PlacedAlternatives, PlacedBinder, PlacedBinders, PlacedBranches, PlacedCommas, PlacedNames, PlacedPart, PlacedTrees, PlacedTrigger, SyntaxTree, SyntaxTrees, SyntaxTrigger, alternative_list, alternative_tail, apply, bar_before, binary, binder_list, binder_tail, binding, binds, branch, cases, cast, choice, ends_open, falsity, group, literal, more, name_row, negation, no_branch, none, op, prefixed, quantified, quantifier, separator, terms_tail, tight, triggered, truth, type_part, untriggered, write, write_binder, write_branches, write_list, write_op, write_others, write_row, write_tail, write_trigger}
 use Rattle.tokens_why.specs.declared.terminal.Terminal.TheVariants as t
 use Rattle.grammar.proofs.reading.PlacedForms.{Put, PutList, behind, form_at, join, list_at, moved}
 
@@ -41,6 +41,7 @@ pub record TreeAt (i : ℕ) (e : SyntaxTree) : Type 0 where
   pub tightness : tight tree ≡ tight e
   pub open_end : ends_open tree ≡ ends_open e
   pub atom : IsAtom e → IsAtom tree
+  pub plain : IsPlainTerm e → IsPlainTerm tree
 
 -- after a separator each
 pub record TermsAt (i : ℕ) (es : SyntaxTrees) (bars : List Bool) : Type 0 where
@@ -54,20 +55,20 @@ at_operator i j = record { first = i; main = j }
 
 mutual
   pub tree_at : (i : ℕ) (e : SyntaxTree) → IsLevel e → TreeAt i e
-  tree_at i (apply a c none) h = record { tree = apply (at i) (moved i c) none; right = h; placed = (refl, refl, tt); tokens = refl; tightness = refl; open_end = refl; atom = λ p. p }
+  tree_at i (apply a c none) h = record { tree = apply (at i) (moved i c) none; right = h; placed = (refl, refl, tt); tokens = refl; tightness = refl; open_end = refl; atom = λ p. p; plain = λ p. p }
   tree_at i (apply a c (more e es)) h = let u = tree_at (past i (write_called c)) e h.1.1 in let r = atoms_at (past (past i (write_called c)) (write u.tree)) es h.1.2 in
-      record { tree = apply (at i) (moved i c) (more u.tree r.value); right = (h.0, (u.atom h.1.0, u.right, r.right)); placed = (refl, refl, (u.placed, r.placed)); tokens = ap (λ v. write_called c ++ v) (join u.tokens r.tokens); tightness = refl; open_end = refl; atom = λ p. absurd p }
-  tree_at i (literal a w) h = record { tree = literal (at i) w; right = h; placed = refl; tokens = refl; tightness = refl; open_end = refl; atom = λ p. p }
-  tree_at i (truth a) h = record { tree = truth (at i); right = h; placed = refl; tokens = refl; tightness = refl; open_end = refl; atom = λ p. p }
-  tree_at i (falsity a) h = record { tree = falsity (at i); right = h; placed = refl; tokens = refl; tightness = refl; open_end = refl; atom = λ p. p }
+      record { tree = apply (at i) (moved i c) (more u.tree r.value); right = (h.0, (u.atom h.1.0, u.right, r.right)); placed = (refl, refl, (u.placed, r.placed)); tokens = ap (λ v. write_called c ++ v) (join u.tokens r.tokens); tightness = refl; open_end = refl; atom = λ p. absurd p; plain = λ p. absurd p }
+  tree_at i (literal a w) h = record { tree = literal (at i) w; right = h; placed = refl; tokens = refl; tightness = refl; open_end = refl; atom = λ p. p; plain = λ p. absurd p }
+  tree_at i (truth a) h = record { tree = truth (at i); right = h; placed = refl; tokens = refl; tightness = refl; open_end = refl; atom = λ p. p; plain = λ p. absurd p }
+  tree_at i (falsity a) h = record { tree = falsity (at i); right = h; placed = refl; tokens = refl; tightness = refl; open_end = refl; atom = λ p. p; plain = λ p. absurd p }
   tree_at i (group a es) h = let r = commas_at (i + 1) es h in
-      record { tree = group (at i) r.value; right = r.right; placed = (refl, r.placed); tokens = behind (mark t.LParen) (join r.tokens refl); tightness = refl; open_end = refl; atom = λ p. p }
+      record { tree = group (at i) r.value; right = r.right; placed = (refl, r.placed); tokens = behind (mark t.LParen) (join r.tokens refl); tightness = refl; open_end = refl; atom = λ p. p; plain = λ p. p }
   tree_at i (cast a e f) h = let u = tree_at (i + 1) e h.0 in let w = form_at type_forms (past (i + 1) (write u.tree) + 1) f h.1 in
-      record { tree = cast (at i) u.tree w.form; right = (u.right, w.right); placed = (refl, u.placed, w.placed); tokens = behind (mark t.LParen) (join u.tokens (behind (mark t.Colon) (join w.tokens refl))); tightness = refl; open_end = refl; atom = λ p. p }
+      record { tree = cast (at i) u.tree w.form; right = (u.right, w.right); placed = (refl, u.placed, w.placed); tokens = behind (mark t.LParen) (join u.tokens (behind (mark t.Colon) (join w.tokens refl))); tightness = refl; open_end = refl; atom = λ p. p; plain = λ p. p }
   tree_at i (prefixed a o e) h = let u = tree_at (i + 1) e h.3 in
-      record { tree = prefixed (at i) (op i o.terminal o.text) u.tree; right = (h.0, h.1, subst (λ n. 8 ≤ n) (sym u.tightness) h.2, u.right); placed = (refl, refl, u.placed); tokens = behind (write_op o) u.tokens; tightness = refl; open_end = u.open_end; atom = λ p. absurd p }
+      record { tree = prefixed (at i) (op i o.terminal o.text) u.tree; right = (h.0, h.1, subst (λ n. 8 ≤ n) (sym u.tightness) h.2, u.right); placed = (refl, refl, u.placed); tokens = behind (write_op o) u.tokens; tightness = refl; open_end = u.open_end; atom = λ p. absurd p; plain = λ p. absurd p }
   tree_at i (negation a e) h = let u = tree_at (i + 1) e h.1 in
-      record { tree = negation (at i) u.tree; right = (subst (λ n. 3 ≤ n) (sym u.tightness) h.0, u.right); placed = (refl, u.placed); tokens = behind (mark t.NotWord) u.tokens; tightness = refl; open_end = u.open_end; atom = λ p. absurd p }
+      record { tree = negation (at i) u.tree; right = (subst (λ n. 3 ≤ n) (sym u.tightness) h.0, u.right); placed = (refl, u.placed); tokens = behind (mark t.NotWord) u.tokens; tightness = refl; open_end = u.open_end; atom = λ p. absurd p; plain = λ p. absurd p }
   tree_at i (binary a e o f) h = let u = tree_at i e h.5 in let w = tree_at (past i (write u.tree) + 1) f h.6 in
       record {
         tree = binary (at_operator i (past i (write u.tree))) u.tree (op (past i (write u.tree)) o.terminal o.text) w.tree;
@@ -77,15 +78,18 @@ mutual
         tightness = refl;
         open_end = w.open_end;
         atom = λ p. absurd p;
+        plain = λ p. absurd p;
       }
   tree_at i (choice a c e f) h = let u = tree_at (i + 1) c h.0 in let v = tree_at (past (i + 1) (write u.tree) + 1) e h.1 in let w = tree_at (past (past (i + 1) (write u.tree) + 1) (write v.tree) + 1) f h.2 in
-      record { tree = choice (at i) u.tree v.tree w.tree; right = (u.right, v.right, w.right); placed = (refl, u.placed, v.placed, w.placed); tokens = behind (mark t.IfWord) (join u.tokens (behind (mark t.ThenWord) (join v.tokens (behind (mark t.ElseWord) w.tokens)))); tightness = refl; open_end = refl; atom = λ p. absurd p }
+      record { tree = choice (at i) u.tree v.tree w.tree; right = (u.right, v.right, w.right); placed = (refl, u.placed, v.placed, w.placed); tokens = behind (mark t.IfWord) (join u.tokens (behind (mark t.ThenWord) (join v.tokens (behind (mark t.ElseWord) w.tokens)))); tightness = refl; open_end = refl; atom = λ p. absurd p; plain = λ p. absurd p }
   tree_at i (cases a es bar bs) h = let u = commas_at (i + 1) es h.1 in let w = branches_at (past (past (i + 1) (write_list u.value) + 1) (bar_before bar)) bs h.3 in
-      record { tree = cases (at i) u.value bar w.value; right = (u.some h.0, u.right, w.some h.2, w.right); placed = (refl, u.placed, w.placed); tokens = behind (mark t.MatchWord) (join u.tokens (behind (mark t.WithWord) (ap (λ v. bar_before bar ++ v) (join w.tokens refl)))); tightness = refl; open_end = refl; atom = λ p. p }
+      record { tree = cases (at i) u.value bar w.value; right = (u.some h.0, u.right, w.some h.2, w.right); placed = (refl, u.placed, w.placed); tokens = behind (mark t.MatchWord) (join u.tokens (behind (mark t.WithWord) (ap (λ v. bar_before bar ++ v) (join w.tokens refl)))); tightness = refl; open_end = refl; atom = λ p. p; plain = λ p. p }
+  tree_at i (access a e c) h = let u = tree_at i e h.1 in
+      record { tree = access (at i) u.tree (moved (past i (write u.tree) + 1) c); right = (u.plain h.0, u.right, h.2); placed = (refl, u.placed, refl); tokens = join u.tokens refl; tightness = refl; open_end = refl; atom = λ p. p; plain = λ p. p }
   tree_at i (binding a ps e f) h = let u = list_at pattern_forms (i + 1) ps h.1 in let v = tree_at (past (i + 1) (form_list u.value) + 1) e h.2 in let w = tree_at (past (past (i + 1) (form_list u.value) + 1) (write v.tree) + 1) f h.3 in
-      record { tree = binding (at i) u.value v.tree w.tree; right = (u.some h.0, u.right, v.right, w.right); placed = (refl, u.placed, v.placed, w.placed); tokens = behind (mark t.LetWord) (join u.tokens (behind (mark t.Equal) (join v.tokens (behind (mark t.InWord) w.tokens)))); tightness = refl; open_end = refl; atom = λ p. absurd p }
+      record { tree = binding (at i) u.value v.tree w.tree; right = (u.some h.0, u.right, v.right, w.right); placed = (refl, u.placed, v.placed, w.placed); tokens = behind (mark t.LetWord) (join u.tokens (behind (mark t.Equal) (join v.tokens (behind (mark t.InWord) w.tokens)))); tightness = refl; open_end = refl; atom = λ p. absurd p; plain = λ p. absurd p }
   tree_at i (quantified a all bs g e) h = let u = binders_at (i + 1) bs h.1 in let v = trigger_at (past (i + 1) (binder_list u.value)) g h.2 in let w = tree_at (past (past (i + 1) (binder_list u.value)) (write_trigger v.value) + 1) e h.3 in
-      record { tree = quantified (at i) all u.value v.value w.tree; right = (u.some h.0, u.right, v.right, w.right); placed = (refl, u.placed, v.placed, w.placed); tokens = behind (mark (quantifier all)) (join u.tokens (join v.tokens (behind (mark t.Dot) w.tokens))); tightness = refl; open_end = refl; atom = λ p. absurd p }
+      record { tree = quantified (at i) all u.value v.value w.tree; right = (u.some h.0, u.right, v.right, w.right); placed = (refl, u.placed, v.placed, w.placed); tokens = behind (mark (quantifier all)) (join u.tokens (join v.tokens (behind (mark t.Dot) w.tokens))); tightness = refl; open_end = refl; atom = λ p. absurd p; plain = λ p. absurd p }
 
   pub atoms_at : (i : ℕ) (es : SyntaxTrees) → AreAtoms es → Put AreAtoms (PlacedTrees i) write_row es
   atoms_at i none h = record { value = none; right = tt; placed = tt; tokens = refl }

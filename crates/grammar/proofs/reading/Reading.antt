@@ -72,6 +72,33 @@ extended s a ss f own d xs = extended_at s a ss f own d.is d.due xs (apart_at xs
     apart_at [] = tt
     apart_at (x ∷ xs) = λ r e. d.apart x.terminal r e
 
+-- no row begins with the first token
+abbrev pub NoneAt : {s : Symbol} → List (ReadingRow s) → List Lexeme → Type 0
+NoneAt own [] = ⊤
+NoneAt own (x ∷ xs) = find own x.terminal ≡ None
+
+-- Where a rule that may be empty reads what another reads, which may be empty too.
+pub extended_over : (s a : Symbol) (f : Val a → Val s) (own : List (ReadingRow s)) (v0 : Val a) → rows s ≡ own ++ extend s a [] (λ v vs. f v) (rows a) → blank a ≡ Some v0 → blank s ≡ Some (f v0) → is_seal a ≡ false → is_seal s ≡ false → (xs : List Lexeme) → NoneAt own xs → (i : ℕ) (k : List Symbol) (v : Val a) (vs : Vals k) → Reads (a ∷ k) xs i (v, vs) → Reads (s ∷ k) xs i (f v, vs)
+extended_over s a f own v0 is ba bs la ls xs n i k v vs h = by_tokens xs n h
+  where
+    by_blank : (o : Option (Vals k)) → with_blank a k (Some v0) o ≡ Some (v, vs) → with_blank s k (Some (f v0)) o ≡ Some (f v, vs)
+    by_blank None g = cc
+    by_blank (Some us) g = ap (option_map {U = Val s × Vals k} (λ q. (f q.0, q.1))) g
+
+    blanks : (o : Option (Vals k)) → with_blank a k (blank a) o ≡ Some (v, vs) → with_blank s k (blank s) o ≡ Some (f v, vs)
+    blanks o g = ap (λ b. with_blank s k b o) bs ∙ by_blank o (sym (ap (λ b. with_blank a k b o) ba) ∙ g)
+
+    by_found : (x : Lexeme) (xs : List Lexeme) → find own x.terminal ≡ None → (o : Option (ReadingRow a)) → find (rows a) x.terminal ≡ o → by_row a k (λ k'. read xs (i + 1) false k') i x.text o (with_blank a k (blank a) (values_over (λ k'. read xs (i + 1) false k') i x (is_seal a) k)) ≡ Some (v, vs) → Reads (s ∷ k) (x ∷ xs) i (f v, vs)
+    by_found x xs n o e g = ap (λ o. by_row s k (λ k'. read xs (i + 1) false k') i x.text o (with_blank s k (blank s) (values_over (λ k'. read xs (i + 1) false k') i x (is_seal s) k))) (ap (λ rs. find rs x.terminal) is ∙ find_apart own (extend s a [] (λ v vs. f v) (rows a)) x.terminal n ∙ find_extend s a [] (λ v vs. f v) (rows a) x.terminal ∙ ap (option_map (then_row s a [] (λ v vs. f v))) e) ∙ over o g
+      where
+        over : (o : Option (ReadingRow a)) → by_row a k (λ k'. read xs (i + 1) false k') i x.text o (with_blank a k (blank a) (values_over (λ k'. read xs (i + 1) false k') i x (is_seal a) k)) ≡ Some (v, vs) → by_row s k (λ k'. read xs (i + 1) false k') i x.text (option_map (then_row s a [] (λ v vs. f v)) o) (with_blank s k (blank s) (values_over (λ k'. read xs (i + 1) false k') i x (is_seal s) k)) ≡ Some (f v, vs)
+        over (Some r) g = fused {C = Val s × Vals k} (λ u. (f u.0, u.1)) (λ u. r.act k i x.text u) (read xs (i + 1) false (r.behind k)) ∙ ap (option_map {U = Val s × Vals k} (λ u. (f u.0, u.1))) g
+        over None g = ap (λ b. with_blank s k (blank s) (values_over (λ k'. read xs (i + 1) false k') i x b k)) ls ∙ blanks (values_over (λ k'. read xs (i + 1) false k') i x false k) (sym (ap (λ b. with_blank a k (blank a) (values_over (λ k'. read xs (i + 1) false k') i x b k)) la) ∙ g)
+
+    by_tokens : (xs : List Lexeme) → NoneAt own xs → Reads (a ∷ k) xs i (v, vs) → Reads (s ∷ k) xs i (f v, vs)
+    by_tokens [] n g = blanks (at_end k) g
+    by_tokens (x ∷ xs) n g = by_found x xs n (find (rows a) x.terminal) refl g
+
 -- no row begins with a closing parenthesis
 pub apart_close : {s a : Symbol} (r : ReadingRow s) → r.first ≡ t.RParen → find (rows a) t.RParen ≡ None → (x : Terminal) (q : ReadingRow a) → find (rows a) x ≡ Some q → find (r ∷ []) x ≡ None
 apart_close {s} {a} r c n x q e = by_test (same r.first x) refl

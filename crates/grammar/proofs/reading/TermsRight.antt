@@ -1,6 +1,15 @@
 -- What the rules of branches, `let` and quantifiers may be read as, and the tokens of that.
-use Rattle.grammar.proofs.reading.Common.{ℕ, ◌+◌, List, [], ◌∷◌, ◌++◌, Option, Lexeme, mark, AreForms, SyntaxForm, SyntaxForms, PlacedList, form_tail, past, pattern_forms, AreAlternatives, AreBinders, AreBranches, AreLevel, AreTerms, Branches, HasBranch, IsLevel, IsPlacedTree, IsTrigger, IsTypePart, PlacedAlternatives, PlacedBinders, PlacedBranches, PlacedCommas, PlacedNames, PlacedPart, PlacedTrigger, SyntaxTree, SyntaxTrigger, alternative_tail, bar_before, binder_tail, name_row, terms_tail, type_part, write, write_branches, write_others, write_tail, write_trigger, ArmPart, BinderPart, BoundPart, BranchPart, CasesPart, LetPart, TermsPart}
+use Rattle.grammar.proofs.reading.Common.{◌≡◌, ⊤, ℕ, ◌+◌, Called, IsLowerName, write_called, List, [], ◌∷◌, ◌++◌, Option, Lexeme, mark, AreForms, SyntaxForm, SyntaxForms, PlacedList, form_tail, past, pattern_forms, AreAlternatives, AreBinders, AreBranches, AreLevel, AreTerms, Branches, HasBranch, IsLevel, IsPlacedTree, IsTrigger, IsTypePart, PlacedAlternatives, PlacedBinders, PlacedBranches, PlacedCommas, PlacedNames, PlacedPart, PlacedTrigger, SyntaxTree, SyntaxTrigger, alternative_tail, bar_before, binder_tail, name_row, terms_tail, type_part, write, write_branches, write_others, write_tail, write_trigger, ArmPart, BinderPart, BoundPart, BranchPart, CasesPart, LetPart, TermsPart}
 use Rattle.tokens_why.specs.declared.terminal.Terminal.TheVariants as t
+
+-- fields one after the other
+abbrev pub write_dots : List Called → List Lexeme
+write_dots [] = []
+write_dots (c ∷ cs) = mark t.Dot ∷ (write_called c ++ write_dots cs)
+
+abbrev pub AreDots : ℕ → List Called → Type 0
+AreDots i [] = ⊤
+AreDots i (c ∷ cs) = (c.at ≡ i + 1) × IsLowerName c.own × AreDots (past (i + 1) (write_called c)) cs
 
 abbrev pub write_arm : ArmPart → List Lexeme
 write_arm a = form_tail a.patterns ++ (alternative_tail a.alternatives ++ (mark t.Arrow ∷ (write a.body ++ (write_others a.others ++ (mark t.EndWord ∷ [])))))

@@ -1,10 +1,10 @@
 -- What is read has the tokens that it is read from.
-use Rattle.grammar.proofs.reading.Common.{◌≡◌, ℕ, ◌+◌, Bool, true, false, ◌&&◌, cond, List, [], ◌∷◌, ◌++◌, Option, Some, None, refl, sym, ap, ◌∙◌, subst, Terminal, Symbol, same, operators, is_seal, is_tail, sealed, same_true, Lexeme, lx, no_forms, none, stop, fields_of, ReadingRow, Val, Vals, rows, at_end, blank, by_row, find, values_over, read, with_blank}
+use Rattle.grammar.proofs.reading.Common.{◌≡◌, ℕ, ◌+◌, Bool, true, false, ◌&&◌, cond, List, [], ◌∷◌, ◌++◌, Option, Some, None, refl, sym, ap, ◌∙◌, subst, Terminal, Symbol, same, operators, is_seal, is_tail, sealed, same_true, Lexeme, lx, no_forms, none, args_rest, unscoped, stop, fields_of, ReadingRow, Val, Vals, rows, at_end, blank, by_row, find, values_over, read, with_blank}
 use Rattle.grammar.specs.declared.symbols.Symbol.TheVariants as s
 use Rattle.grammar.proofs.reading.Good.{AllProper, AllRows, Good, Is, Piece, Proper, RowOk, flag, hushed, writes}
 use Rattle.grammar.proofs.reading.FormsBuilt.{as_ok, atype_ok, pat_ok, patom_ok, patoms_ok, pmore_ok, ptuple_ok, qlid_ok, quids_ok, targs_ok, tmore_ok, ttuple_ok, type_ok}
 use Rattle.grammar.proofs.reading.OpenBuilt.{arm_ok, binder_ok, binders_ok, branch_ok, branches_ok, letpats_ok, open_ok, opens_form, scrutinees_ok, terms_ok}
-use Rattle.grammar.proofs.reading.TermsBuilt.{aminus_ok, aparen_ok, args_ok, atom_ok, expr_ok, hminus_ok, hparen_ok, more_ok, opend_ok, opname_ok, prim_ok, qhead_ok, rest_ok, scoped_ok, tail_ok}
+use Rattle.grammar.proofs.reading.TermsBuilt.{scoped_ok, qhead_ok, aminus_ok, aparen_ok, applied_rows_ok, args_ok, dots_rows_ok, atom_ok, expr_ok, hminus_ok, hparen_ok, more_ok, opend_ok, opname_ok, prim_ok, head_ok, rest_ok, head_rest_ok, tail_ok}
 use Rattle.grammar.proofs.reading.PartsBuilt.{algvars_ok, axioms_ok, body_ok, con_ok, fields_ok, id_ok, member_ok, members_ok, op_ok, param_ok, params_ok, pname_ok, pparen_ok, qid_ok, qids_ok, qop_ok, tvars_ok, typedef_ok, upper_ok, value_ok, algs_ok, record_field_ok, record_next_ok, record_rest_ok}
 use Rattle.grammar.proofs.reading.DeclsBuilt.{clause_ok, clauses_ok, cloned_ok, decls_ok, elem_ok, elems_ok, elvars_ok, file_ok, path_ok, renamed_ok, subst_ok, used_ok}
 use Rattle.grammar.proofs.reading.Reading.{unmapped}
@@ -29,8 +29,12 @@ all_ok (s.Tail m u) = tail_ok m u operators refl
 all_ok s.Prim = prim_ok
 all_ok s.Atom = atom_ok
 all_ok s.Args = args_ok
+all_ok (s.HeadRest b) = head_rest_ok b
+all_ok (s.Head b) = head_ok b
 all_ok s.Scoped = scoped_ok
 all_ok s.Qhead = qhead_ok
+all_ok s.Applied = applied_rows_ok
+all_ok s.Dots = dots_rows_ok
 all_ok s.Opname = opname_ok
 all_ok s.Opend = opend_ok
 all_ok s.Hparen = hparen_ok
@@ -97,7 +101,11 @@ blank_ok s.AsPart v i h = let e : None ≡ v = cc in subst (BlankOk s.AsPart i) 
 blank_ok (s.Tail m u) v i h = let e : stop ≡ v = cc in subst (BlankOk (s.Tail m u) i) e (tt, refl, refl)
 blank_ok s.Seal v i h = (tt, refl, refl)
 blank_ok s.Args v i h = let e : none ≡ v = cc in subst (BlankOk s.Args i) e ((tt, tt), refl, refl)
+blank_ok (s.HeadRest true) v i h = let e : unscoped none ≡ v = cc in subst (BlankOk (s.HeadRest true) i) e ((tt, tt), refl, refl)
+blank_ok (s.HeadRest false) v i h = let e : unscoped none ≡ v = cc in subst (BlankOk (s.HeadRest false) i) e (refl, refl, refl)
 blank_ok s.Scoped v i h = let e : None ≡ v = cc in subst (BlankOk s.Scoped i) e (tt, refl, refl)
+blank_ok s.Applied v i h = let e : args_rest none ≡ v = cc in subst (BlankOk s.Applied i) e ((tt, tt), refl, refl)
+blank_ok s.Dots v i h = let e : [] ≡ v = cc in subst (BlankOk s.Dots i) e (tt, refl, refl)
 blank_ok s.File v i h = let e : [] ≡ v = cc in subst (BlankOk s.File i) e ((tt, tt), refl, refl)
 blank_ok s.Tvars v i h = let e : record { vars = []; equation = None } ≡ v = cc in subst (BlankOk s.Tvars i) e ((tt, tt), refl, refl)
 blank_ok s.Upper v i h = let e : fields_of (record { fields = []; constructors = []; others = [] }) ≡ v = cc in subst (BlankOk s.Upper i) e ((tt, tt, (tt, tt, (tt, tt))), refl, refl)

@@ -1,29 +1,45 @@
 -- What the rules of terms are read as, before it is part of a tree.
-use Rattle.grammar.specs.reading.Common.{Name, Word, at, Called, SyntaxForm, SyntaxForms, Own, aliased, called, infix_op, more_forms, no_forms, prefix_op, upper, TypedBinder, Branches, OperatorToken, SyntaxTree, SyntaxTrees, SyntaxTrigger, apply, binary, binding, binds, branch, cases, cast, choice, falsity, group, literal, more, negation, none, prefixed, quantified, truth}
+use Rattle.grammar.specs.reading.Common.{Name, Word, access, at, Called, SyntaxForm, SyntaxForms, Own, aliased, called, lower, infix_op, more_forms, no_forms, prefix_op, upper, TypedBinder, Branches, OperatorToken, SyntaxTree, SyntaxTrees, SyntaxTrigger, apply, binary, binding, binds, branch, cases, cast, choice, falsity, group, literal, more, negation, none, prefixed, quantified, truth}
 use Rattle.std.specs.Prelude.{Bool, true, Option, ℕ, false, List, [], ◌∷◌, Some, None}
 
 pub record Dotted : Type 0 where
   pub scopes : List Word
   pub last : Word
 
+-- what comes after a name: arguments, or fields
+pub data NameRest : Type 0 where
+  args_rest : SyntaxTrees → NameRest
+  dots_rest : List Called → NameRest
+
 -- an own name after scopes
 pub record Scoped : Type 0 where
   pub scopes : List Word
   pub own : Own
+
+-- the same, and what comes after it
+pub record Headed : Type 0 where
+  pub scopes : List Word
+  pub own : Own
+  pub rest : NameRest
+
+-- what comes after a word in upper case: arguments, or a name for which it is a scope
+pub data UpperRest : Type 0 where
+  unscoped : SyntaxTrees → UpperRest
+  scopes_name : Headed → UpperRest
 
 -- operators, each with its right operand
 pub data Chain : Type 0 where
   stop : Chain
   link : OperatorToken → SyntaxTree → Chain → Chain
 
--- what comes after the first tree in parentheses
+-- what comes after the first tree in parentheses, and the fields of all that they hold
 pub data Closing : Type 0 where
-  closes_group : SyntaxTrees → Closing
-  cast_to : SyntaxForm → Closing
+  closes_group : SyntaxTrees → List Called → Closing
+  cast_to : SyntaxForm → List Called → Closing
 
 -- what comes after a parenthesis: nothing, an operator's name and its arguments, or trees
 pub data Paren : Type 0 where
-  nothing : Paren
+  nothing : List Called → Paren
   named_operator : OperatorToken → Bool → SyntaxTrees → Paren
   holds : SyntaxTree → Closing → Paren
 
@@ -44,6 +60,9 @@ scope_on w (Some d) = record { scopes = w ∷ d.scopes; last = d.last }
 abbrev pub upper_called : ℕ → Word → Option Dotted → Called
 upper_called i w d = called i (scope_on w d).scopes (upper (scope_on w d).last)
 
+abbrev pub lower_called : ℕ → Dotted → Called
+lower_called i d = called i d.scopes (lower d.last)
+
 abbrev pub named_at : ℕ → SyntaxForm → Option Name → SyntaxForm
 named_at i p None = p
 named_at i p (Some n) = aliased (at i) p n
@@ -60,6 +79,7 @@ first_token (negation a e) = a.first
 first_token (binary a e o f) = a.first
 first_token (choice a c e f) = a.first
 first_token (cases a es bar bs) = a.first
+first_token (access a e c) = a.first
 first_token (binding a ps e f) = a.first
 first_token (quantified a all bs g e) = a.first
 
@@ -74,12 +94,22 @@ abbrev pub own_op : Bool → OperatorToken → Own
 own_op false o = infix_op o.terminal o.text
 own_op true o = prefix_op o.terminal o.text
 
+-- the fields of a tree that begins at token i, the first one innermost
+abbrev pub accessed : ℕ → SyntaxTree → List Called → SyntaxTree
+accessed i e [] = e
+accessed i e (c ∷ cs) = accessed i (access (at i) e c) cs
+
+-- a name with what comes after it
+abbrev pub with_rest : ℕ → Called → NameRest → SyntaxTree
+with_rest i c (args_rest ts) = apply (at i) c ts
+with_rest i c (dots_rest cs) = accessed i (apply (at i) c none) cs
+
 abbrev pub closed_group : ℕ → SyntaxTree → Closing → SyntaxTree
-closed_group i e (closes_group es) = group (at i) (more e es)
-closed_group i e (cast_to f) = cast (at i) e f
+closed_group i e (closes_group es cs) = accessed i (group (at i) (more e es)) cs
+closed_group i e (cast_to f cs) = accessed i (cast (at i) e f) cs
 
 abbrev pub paren : ℕ → Paren → SyntaxTree
-paren i nothing = group (at i) none
+paren i (nothing cs) = accessed i (group (at i) none) cs
 paren i (named_operator o p ts) = apply (at i) (called i [] (own_op p o)) ts
 paren i (holds e c) = closed_group i e c
 
@@ -91,8 +121,15 @@ abbrev pub scope_own : Word → Option Scoped → Scoped
 scope_own w None = record { scopes = []; own = upper w }
 scope_own w (Some d) = record { scopes = w ∷ d.scopes; own = d.own }
 
-abbrev pub dotted_name : ℕ → Scoped → Called
+abbrev pub upper_head : Word → UpperRest → Headed
+upper_head w (unscoped ts) = record { scopes = []; own = upper w; rest = args_rest ts }
+upper_head w (scopes_name d) = record { scopes = w ∷ d.scopes; own = d.own; rest = d.rest }
+
+abbrev pub dotted_name : ℕ → Headed → Called
 dotted_name i d = called i d.scopes d.own
+
+abbrev pub headed_tree : ℕ → Headed → SyntaxTree
+headed_tree i d = with_rest i (dotted_name i d) d.rest
 
 -- after the first pattern of an alternative: its other patterns, other alternatives, the body and
 -- other branches

@@ -3,7 +3,7 @@ use Rattle.std.specs.Prelude.{◌++◌}
 use Rattle.grammar.specs.reading.Common.{Algebraic, Bool, Option, refl, sym, ◌∙◌, append_assoc, Terminal, Symbol, Name, Word, Called, SyntaxForm, SyntaxForms, Branches, SyntaxTree, SyntaxTrees, Path, SyntaxDeclarations, Element, Member, ParamGroup, SyntaxTheory}
 use Rattle.std.proofs.Common.{◌≡◌, ℕ, List, [], ◌∷◌}
 use Rattle.grammar.specs.declared.symbols.Symbol.TheVariants as s
-use Rattle.grammar.specs.reading.Parts.{ArmPart, BinderPart, BoundPart, BranchPart, CasesPart, Chain, Closing, Dotted, LetPart, Minus, OperatorName, Paren, Scoped, TermsPart}
+use Rattle.grammar.specs.reading.Parts.{NameRest, ArmPart, BinderPart, BoundPart, BranchPart, CasesPart, Chain, Closing, Dotted, Headed, LetPart, Minus, OperatorName, Paren, Scoped, TermsPart, UpperRest}
 use Rattle.grammar.specs.reading.DeclParts.{AlgPart, BodyPart, ClausePart, ClausesPart, ClonedPart, ConPart, FieldsPart, MemberPart, NamePart, ParamPart, TvarsPart, TypePart, UpperPart, UsedPart, VarsPart, RecordPart}
 
 -- what a symbol is read as
@@ -27,8 +27,12 @@ Val (s.Tail m u) = Chain
 Val s.Prim = SyntaxTree
 Val s.Atom = SyntaxTree
 Val s.Args = SyntaxTrees
+Val (s.HeadRest b) = UpperRest
+Val (s.Head b) = Headed
 Val s.Scoped = Option Scoped
 Val s.Qhead = Scoped
+Val s.Applied = NameRest
+Val s.Dots = List Called
 Val s.Opname = OperatorName
 Val s.Opend = Bool
 Val s.Hparen = Paren

@@ -3,7 +3,7 @@ use Rattle.std.specs.Prelude.{◌&&◌, ◌++◌, ◌+◌}
 use Rattle.grammar.specs.reading.Common.{Bool, true, cond, nat_le, Option, Terminal, Symbol, at, name, Word, called, composed, enclosed, lower, more_forms, no_forms, star, type_variable, variable, wild, Called, upper, SyntaxTree, apply, binding, cases, choice, falsity, literal, more, negation, no_branch, none, op, prefixed, quantified, triggered, truth, untriggered, Name, Link, Path, Element, all_axioms, clone_decl, constant_decl, function_decl, inductive_decl, more_decls, no_decls, predicate_decl, prop_decl, prop_element, scope_decl, symbol_element, type_element, use_decl, operators}
 use Rattle.std.proofs.Common.{ℕ, false, List, [], ◌∷◌, Some, None}
 use Rattle.tokens_why.specs.Operators.{prec, need, right}
-use Rattle.grammar.specs.reading.Parts.{attach, behind_minus, binder_with, branch_of, link, dotted_name, named_operator, named_at, named_by, next_alternative, next_pattern, next_term, nothing, own_op, paren, scope_own, upper_called, cast_to, closes_group, holds, operand, scope_on}
+use Rattle.grammar.specs.reading.Parts.{scope_own, accessed, with_rest, args_rest, attach, behind_minus, dots_rest, headed_tree, scopes_name, lower_called, unscoped, binder_with, branch_of, link, named_operator, named_at, named_by, next_alternative, next_pattern, next_term, nothing, own_op, paren, upper_head, upper_called, cast_to, closes_group, holds, operand, scope_on}
 use Rattle.grammar.specs.reading.Row.{ReadingRow, Val, extend, row}
 use Rattle.surface.specs.declared.declarations.PropKind.{PropKind}
 use Rattle.surface.specs.declared.declarations.SymbolWord.{SymbolWord}
@@ -52,28 +52,71 @@ pat_rows = row s.Pat t.Wild (s.AsPart ∷ []) (λ i w vs. named_at i (wild (at i
     (λ i w vs. named_at i (enclosed (at i) vs.0) vs.1.0) ∷ []
 
 abbrev pub prim_rows : List (ReadingRow s.Prim)
-prim_rows = row s.Prim t.Lident (s.Args ∷ []) (λ i w vs. apply (at i) (called i [] (lower w)) vs.0)
-    ∷ row s.Prim t.Uident (s.Scoped ∷ s.Args ∷ [])
-    (λ i w vs. apply (at i) (dotted_name i (scope_own w vs.0)) vs.1.0)
+prim_rows =
+    row s.Prim t.Lident (s.Applied ∷ []) (λ i w vs. with_rest i (called i [] (lower w)) vs.0)
+    ∷ row s.Prim t.Uident (s.HeadRest true ∷ []) (λ i w vs. headed_tree i (upper_head w vs.0))
     ∷ row s.Prim t.StarName (s.Args ∷ []) (λ i w vs. apply (at i) (called i [] star) vs.0)
     ∷ row s.Prim t.LParen (s.Hparen ∷ []) (λ i w vs. paren i vs.0)
     ∷ row s.Prim t.Int [] (λ i w vs. literal (at i) w)
     ∷ row s.Prim t.TrueWord [] (λ i w vs. truth (at i))
     ∷ row s.Prim t.FalseWord [] (λ i w vs. falsity (at i))
-    ∷ row s.Prim t.MatchWord (s.Expr 0 ∷ s.Scrutinees ∷ [])
-    (λ i w vs. cases (at i) (more vs.0 vs.1.0.others) vs.1.0.bar vs.1.0.branches) ∷ []
+    ∷ row s.Prim t.MatchWord (s.Expr 0 ∷ s.Scrutinees ∷ s.Dots ∷ [])
+    (λ i w vs. accessed i
+    (cases (at i) (more vs.0 vs.1.0.others) vs.1.0.bar vs.1.0.branches) vs.1.1.0) ∷ []
 
 abbrev pub atom_rows : List (ReadingRow s.Atom)
-atom_rows = row s.Atom t.Lident [] (λ i w vs. apply (at i) (called i [] (lower w)) none)
-    ∷ row s.Atom t.Uident (s.Scoped ∷ [])
-    (λ i w vs. apply (at i) (dotted_name i (scope_own w vs.0)) none)
+atom_rows = row s.Atom t.Lident (s.Dots ∷ [])
+    (λ i w vs. accessed i (apply (at i) (called i [] (lower w)) none) vs.0)
+    ∷ row s.Atom t.Uident (s.HeadRest false ∷ []) (λ i w vs. headed_tree i (upper_head w vs.0))
     ∷ row s.Atom t.StarName [] (λ i w vs. apply (at i) (called i [] star) none)
     ∷ row s.Atom t.LParen (s.Aparen ∷ []) (λ i w vs. paren i vs.0)
     ∷ row s.Atom t.Int [] (λ i w vs. literal (at i) w)
     ∷ row s.Atom t.TrueWord [] (λ i w vs. truth (at i))
     ∷ row s.Atom t.FalseWord [] (λ i w vs. falsity (at i))
-    ∷ row s.Atom t.MatchWord (s.Expr 0 ∷ s.Scrutinees ∷ [])
-    (λ i w vs. cases (at i) (more vs.0 vs.1.0.others) vs.1.0.bar vs.1.0.branches) ∷ []
+    ∷ row s.Atom t.MatchWord (s.Expr 0 ∷ s.Scrutinees ∷ s.Dots ∷ [])
+    (λ i w vs. accessed i
+    (cases (at i) (more vs.0 vs.1.0.others) vs.1.0.bar vs.1.0.branches) vs.1.1.0) ∷ []
+
+abbrev pub args_rows : List (ReadingRow s.Args)
+args_rows = extend s.Args s.Atom (s.Args ∷ []) (λ v vs. more v vs.0) atom_rows
+
+abbrev pub applied_own : List (ReadingRow s.Applied)
+applied_own = row s.Applied t.Dot (s.Qlid ∷ s.Dots ∷ [])
+    (λ i w vs. dots_rest (lower_called (i + 1) vs.0 ∷ vs.1.0)) ∷ []
+
+abbrev pub head_rest_own : (b : Bool) → List (ReadingRow (s.HeadRest b))
+head_rest_own b = row (s.HeadRest b) t.Dot (s.Head b ∷ []) (λ i w vs. scopes_name vs.0) ∷ []
+
+abbrev pub head_rest_rows : (b : Bool) → List (ReadingRow (s.HeadRest b))
+head_rest_rows true =
+    head_rest_own true ++ extend (s.HeadRest true) s.Args [] (λ v vs. unscoped v) args_rows
+head_rest_rows false = head_rest_own false
+
+abbrev pub head_rows : (b : Bool) → List (ReadingRow (s.Head b))
+head_rows true = row (s.Head true) t.Lident (s.Applied ∷ [])
+    (λ i w vs. record { scopes = []; own = lower w; rest = vs.0 })
+    ∷ row (s.Head true) t.Uident (s.HeadRest true ∷ []) (λ i w vs. upper_head w vs.0)
+    ∷ row (s.Head true) t.StarName (s.Args ∷ [])
+    (λ i w vs. record { scopes = []; own = star; rest = args_rest vs.0 })
+    ∷ row (s.Head true) t.LParen (s.Opname ∷ s.Args ∷ [])
+    (λ i w vs. record {
+      scopes = [];
+      own = own_op vs.0.prefix vs.0.op;
+      rest =
+          args_rest vs.1.0;
+    }) ∷ []
+head_rows false = row (s.Head false) t.Lident (s.Dots ∷ [])
+    (λ i w vs. record { scopes = []; own = lower w; rest = dots_rest vs.0 })
+    ∷ row (s.Head false) t.Uident (s.HeadRest false ∷ []) (λ i w vs. upper_head w vs.0)
+    ∷ row (s.Head false) t.StarName []
+    (λ i w vs. record { scopes = []; own = star; rest = args_rest none })
+    ∷ row (s.Head false) t.LParen (s.Opname ∷ [])
+    (λ i w vs. record {
+      scopes = [];
+      own = own_op vs.0.prefix vs.0.op;
+      rest =
+          args_rest none;
+    }) ∷ []
 
 abbrev pub opname_row : Terminal → ReadingRow s.Opname
 opname_row o = row s.Opname o (s.Opend ∷ []) (λ i w vs. record { op = op i o w; prefix = vs.0 })
@@ -133,7 +176,8 @@ abbrev pub hminus_row : Terminal → ReadingRow s.Hparen
 hminus_row o = row s.Hparen o (s.Hminus ∷ []) (λ i w vs. behind_minus (op i o w) vs.0)
 
 abbrev pub hparen_own : List (ReadingRow s.Hparen)
-hparen_own = row s.Hparen t.RParen [] (λ i w vs. nothing) ∷ hop_row t.Equal ∷ hop_row t.Operator1
+hparen_own = row s.Hparen t.RParen (s.Dots ∷ []) (λ i w vs. nothing vs.0) ∷ hop_row t.Equal
+    ∷ hop_row t.Operator1
     ∷ hop_row t.Operator2 ∷ hop_row t.Operator3 ∷ hop_row t.Operator4 ∷ hminus_row t.Minus
     ∷ hminus_row t.PrefixOperator ∷ []
 
@@ -148,7 +192,8 @@ abbrev pub aminus_row : Terminal → ReadingRow s.Aparen
 aminus_row o = row s.Aparen o (s.Aminus ∷ []) (λ i w vs. behind_minus (op i o w) vs.0)
 
 abbrev pub aparen_own : List (ReadingRow s.Aparen)
-aparen_own = row s.Aparen t.RParen [] (λ i w vs. nothing) ∷ aop_row t.Equal ∷ aop_row t.Operator1
+aparen_own = row s.Aparen t.RParen (s.Dots ∷ []) (λ i w vs. nothing vs.0) ∷ aop_row t.Equal
+    ∷ aop_row t.Operator1
     ∷ aop_row t.Operator2 ∷ aop_row t.Operator3 ∷ aop_row t.Operator4 ∷ aminus_row t.Minus
     ∷ aminus_row t.PrefixOperator ∷ []
 
@@ -302,7 +347,12 @@ rows (s.Expr m) = expr_rows m
 rows (s.Tail m u) = tail_rows m u operators
 rows s.Prim = prim_rows
 rows s.Atom = atom_rows
-rows s.Args = extend s.Args s.Atom (s.Args ∷ []) (λ v vs. more v vs.0) atom_rows
+rows s.Args = args_rows
+rows s.Dots = row s.Dots t.Dot (s.Qlid ∷ s.Dots ∷ [])
+    (λ i w vs. lower_called (i + 1) vs.0 ∷ vs.1.0) ∷ []
+rows s.Applied = applied_own ++ extend s.Applied s.Args [] (λ v vs. args_rest v) args_rows
+rows (s.HeadRest b) = head_rest_rows b
+rows (s.Head b) = head_rows b
 rows s.Scoped = row s.Scoped t.Dot (s.Qhead ∷ []) (λ i w vs. Some vs.0) ∷ []
 rows s.Qhead = row s.Qhead t.Lident [] (λ i w vs. record { scopes = []; own = lower w })
     ∷ row s.Qhead t.Uident (s.Scoped ∷ []) (λ i w vs. scope_own w vs.0)
@@ -320,9 +370,11 @@ rows s.Hminus = hminus_own ++ extend s.Hminus (s.Expr 8) (s.Tail 0 8 ∷ s.Group
     (λ v vs. operand v vs.0 vs.1.0) (expr_rows 8)
 rows s.Aminus = aminus_own ++ extend s.Aminus (s.Expr 8) (s.Tail 0 8 ∷ s.GroupRest ∷ [])
     (λ v vs. operand v vs.0 vs.1.0) (expr_rows 8)
-rows s.GroupRest = row s.GroupRest t.RParen [] (λ i w vs. closes_group none)
-    ∷ row s.GroupRest t.Comma (s.Expr 0 ∷ s.More ∷ []) (λ i w vs. closes_group (more vs.0 vs.1.0))
-    ∷ row s.GroupRest t.Colon (s.TypeOf ∷ s.Take t.RParen ∷ []) (λ i w vs. cast_to vs.0) ∷ []
+rows s.GroupRest = row s.GroupRest t.RParen (s.Dots ∷ []) (λ i w vs. closes_group none vs.0)
+    ∷ row s.GroupRest t.Comma (s.Expr 0 ∷ s.More ∷ s.Dots ∷ [])
+    (λ i w vs. closes_group (more vs.0 vs.1.0) vs.1.1.0)
+    ∷ row s.GroupRest t.Colon (s.TypeOf ∷ s.Take t.RParen ∷ s.Dots ∷ [])
+    (λ i w vs. cast_to vs.0 vs.1.1.0) ∷ []
 rows s.More = row s.More t.RParen [] (λ i w vs. none)
     ∷ row s.More t.Comma (s.Expr 0 ∷ s.More ∷ []) (λ i w vs. more vs.0 vs.1.0) ∷ []
 rows s.OpenForm = open_rows s.OpenForm (λ e. e)

@@ -2,7 +2,7 @@
 use Rattle.std.specs.Prelude.{◌+◌}
 use Rattle.grammar.specs.reading.Common.{Bool, true, cond, Option, option_map, Terminal, Symbol, Word, Lexeme, no_forms, none, same}
 use Rattle.std.proofs.Common.{ℕ, false, List, [], ◌∷◌, Some, None}
-use Rattle.grammar.specs.reading.Parts.{stop}
+use Rattle.grammar.specs.reading.Parts.{args_rest, stop, unscoped}
 use Rattle.grammar.specs.reading.Row.{ReadingRow, Val, Vals}
 use Rattle.grammar.specs.reading.DeclParts.{fields_of}
 use Rattle.grammar.specs.Machine.{is_seal, sealed}
@@ -18,7 +18,10 @@ blank s.AsPart = Some None
 blank (s.Tail m u) = Some stop
 blank s.Seal = Some tt
 blank s.Args = Some none
+blank (s.HeadRest b) = Some (unscoped none)
 blank s.Scoped = Some None
+blank s.Applied = Some (args_rest none)
+blank s.Dots = Some []
 blank s.File = Some []
 blank s.Tvars = Some (record { vars = []; equation = None })
 blank s.Upper = Some (fields_of (record { fields = []; constructors = []; others = [] }))

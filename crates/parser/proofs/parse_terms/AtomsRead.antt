@@ -1,17 +1,15 @@
 -- What follows where atoms, arguments and trees in parentheses are read.
-use Rattle.parser.proofs.parse_terms.Common.{◌≡◌, ℕ, ◌+◌, ◌≤◌, Bool, true, false, List, [], ◌∷◌, None, refl, sym, ap, arith, Terminal, same, same_true, no_false, Lexeme, at, called, SyntaxTree, SyntaxTrees, apply, group, more, none, Scoped, closed_group, paren, rows, find, Begun, CanRead, IsReadClosed, IsRead, begins_atom, is_name, is_name_at, terminal_at}
+use Rattle.parser.proofs.parse_terms.Common.{◌≡◌, ℕ, ◌+◌, ◌≤◌, Bool, true, false, ◌&&◌, List, [], ◌∷◌, None, refl, sym, ap, arith, Terminal, same, same_true, no_false, Lexeme, at, called, SyntaxTree, SyntaxTrees, apply, group, more, none, Scoped, accessed, is_lower_name, closed_group, paren, rows, find, Begun, CanRead, IsReadClosed, IsRead, begins_atom, is_name, is_name_at, terminal_at}
 use Rattle.tokens_why.specs.declared.terminal.Terminal.TheVariants as t
 use Rattle.grammar.specs.declared.symbols.Symbol.TheVariants as s
 use Rattle.parser.proofs.parse_terms.Steps.{SideBySide, again, apart, done, expand, many, next, none_where, only, reread, start, unexpand}
 use Rattle.parser.proofs.parse_terms.TermSteps.{sure}
-use Rattle.parser.proofs.parse_terms.HeadsRead.{atom_inner, head_atom_start, head_start, no_name}
+use Rattle.parser.proofs.parse_terms.HeadsRead.{atom_inner, no_name}
+use Rattle.parser.proofs.parse_terms.FieldsRead.{prim_args}
 
 -- applications
-pub application_read : {xs : List Lexeme} {i : ℕ} (c : CanRead xs s.Prim i) (d : Scoped) (j : ℕ) (ts : SyntaxTrees) (m : ℕ) → is_name_at xs i ≡ true → IsRead xs s.Qhead i d j → IsRead xs s.Args j ts m → IsReadClosed xs s.Prim i (apply (at i) (called i d.scopes d.own) ts) (apply (at i) (called i d.scopes d.own) ts) m
-application_read {xs} {i} c d j ts m n q r = let p = next (next (head_start c n) q) r in record { first = refl; closed = refl; is = done p (apply (at i) (called i d.scopes d.own) ts) refl (λ k us. refl) }
-
-pub name_read : {xs : List Lexeme} {i : ℕ} (c : CanRead xs s.Atom i) (d : Scoped) (j : ℕ) → is_name_at xs i ≡ true → IsRead xs s.Qhead i d j → IsReadClosed xs s.Atom i (apply (at i) (called i d.scopes d.own) none) (apply (at i) (called i d.scopes d.own) none) j
-name_read {xs} {i} c d j n q = let p = next (head_atom_start c n) q in record { first = refl; closed = refl; is = done p (apply (at i) (called i d.scopes d.own) none) refl (λ k us. refl) }
+pub application_read : {xs : List Lexeme} {i : ℕ} (c : CanRead xs s.Prim i) (d : Scoped) (j : ℕ) (ts : SyntaxTrees) (m : ℕ) → is_name_at xs i ≡ true → IsRead xs s.Qhead i d j → (same t.Dot (terminal_at xs j) && is_lower_name d.own) ≡ false → IsRead xs s.Args j ts m → IsReadClosed xs s.Prim i (apply (at i) (called i d.scopes d.own) ts) (apply (at i) (called i d.scopes d.own) ts) m
+application_read {xs} {i} c d j ts m n q e r = let p = next (prim_args d j q c n e) r in record { first = refl; closed = refl; is = done p (apply (at i) (called i d.scopes d.own) ts) refl (λ k us. refl) }
 
 -- arguments
 pub atom_some : (x : Terminal) → begins_atom x ≡ true → find (rows s.Atom) x ≡ None → ⊥
@@ -57,7 +55,7 @@ Inner xs i e j = Begun xs 1 (λ k. s.Atom ∷ k) i (λ k. s.GroupRest ∷ k) (λ
 
 -- Trees in parentheses were read, and what comes after them.
 abbrev pub Members : List Lexeme → ℕ → List SyntaxTree → ℕ → Type 0
-Members xs i es j = Begun xs 1 (λ k. s.Atom ∷ k) i (λ k. s.More ∷ k) (λ k us. (group (at i) (many more es us.0), us.1)) j
+Members xs i es j = Begun xs 1 (λ k. s.Atom ∷ k) i (λ k. s.More ∷ s.Dots ∷ k) (λ k us. (accessed i (group (at i) (many more es us.0)) us.1.0, us.1.1)) j
 
 module _ (xs : List Lexeme) (i : ℕ) (e : SyntaxTree) (j : ℕ) (g : Inner xs i e j) where
   pub members_start : same t.Colon (terminal_at xs j) ≡ false → Members xs i (e ∷ []) j
@@ -67,5 +65,5 @@ module _ (xs : List Lexeme) (i : ℕ) (e : SyntaxTree) (j : ℕ) (g : Inner xs i
       further = g.ahead
 
       by_test : (b : Bool) → same t.Comma (terminal_at xs j) ≡ b → Members xs i (e ∷ []) j
-      by_test true l = let p = expand g t.Comma l refl refl in sure 1 (unexpand s.More (λ k. k) (λ k us. (group (at i) (more e us.0), us.1)) j t.Comma l refl refl (omega arith) p) further
-      by_test false l = let f = only g t.RParen (t.Comma ∷ t.Colon ∷ []) refl refl (l, (n, tt)) in let p = expand g t.RParen f refl refl in sure 1 (unexpand s.More (λ k. k) (λ k us. (group (at i) (more e us.0), us.1)) j t.RParen f refl refl (omega arith) p) further
+      by_test true l = let p = expand g t.Comma l refl refl in sure 1 (unexpand s.More (λ k. s.Dots ∷ k) (λ k us. (accessed i (group (at i) (more e us.0)) us.1.0, us.1.1)) j t.Comma l refl refl (omega arith) p) further
+      by_test false l = let f = only g t.RParen (t.Comma ∷ t.Colon ∷ []) refl refl (l, (n, tt)) in let p = expand g t.RParen f refl refl in sure 1 (unexpand s.More (λ k. s.Dots ∷ k) (λ k us. (accessed i (group (at i) (more e us.0)) us.1.0, us.1.1)) j t.RParen f refl refl (omega arith) p) further

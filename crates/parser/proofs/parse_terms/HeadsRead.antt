@@ -1,5 +1,5 @@
 -- What follows where applications and atoms are read.
-use Rattle.parser.proofs.parse_terms.Common.{◌≡◌, ℕ, ◌+◌, ◌<◌, Bool, true, false, ◌&&◌, List, [], ◌∷◌, length, Some, None, refl, sym, ap, ◌∙◌, subst, Terminal, is_operator, Symbol, same, same_true, no_false, Lexeme, at, lower, star, called, op, SyntaxTree, SyntaxTrees, apply, cases, literal, truth, falsity, none, more, Scoped, Closing, Paren, nothing, named_operator, holds, Minus, named_by, operand, scope_own, own_op, dotted_name, paren, behind_minus, Vals, row, prim_rows, atom_rows, opname_row, prefix_row, hparen_own, hminus_own, aparen_own, aminus_own, hop_row, hminus_row, aop_row, aminus_row, rows, find, read, opname_found, reads_aparen, by_first, begins_atom, is_other, row_at, split_due, stands, stands_within, unread, Begun, CanRead, ends_name, is_name, is_name_at, lexemes_from, terminal_at, token_at}
+use Rattle.parser.proofs.parse_terms.Common.{◌≡◌, ℕ, ◌+◌, ◌<◌, Bool, true, false, ◌&&◌, List, [], ◌∷◌, length, Some, None, refl, sym, ap, ◌∙◌, subst, Terminal, is_operator, Symbol, same, same_true, no_false, Lexeme, at, lower, star, called, op, SyntaxTree, SyntaxTrees, Headed, accessed, with_rest, apply, args_rest, cases, dots_rest, upper_head, headed_tree, literal, truth, falsity, none, more, Closing, Paren, nothing, named_operator, holds, Minus, named_by, operand, own_op, paren, behind_minus, Vals, row, prim_rows, atom_rows, opname_row, prefix_row, hparen_own, hminus_own, aparen_own, aminus_own, hop_row, hminus_row, aop_row, aminus_row, rows, find, read, opname_found, reads_aparen, by_first, begins_atom, is_other, row_at, split_due, stands, stands_within, unread, Begun, CanRead, ends_name, is_name, is_name_at, lexemes_from, terminal_at, token_at}
 use Rattle.tokens_why.specs.declared.terminal.Terminal.TheVariants as t
 use Rattle.grammar.specs.declared.symbols.Symbol.TheVariants as s
 use Rattle.parser.proofs.parse_terms.Steps.{all_apart, none_by, none_where, reread, start}
@@ -67,35 +67,34 @@ prim_name xs j k us o g = by_terminal (terminal_at xs j) refl o
         (q.0, q.1, ap (λ m. (behind_minus (op j t.PrefixOperator (token_at xs j).text) m.0, m.1)) q.2 ∙ p.2)
     by_terminal _ e o = absurd (no_false o)
 
-operator_paren : (xs : List Lexeme) (i : ℕ) (k : List Symbol) (b : Bool × Vals k) → terminal_at xs i ≡ t.LParen → (is_operator (terminal_at xs (i + 1)) && ends_name (terminal_at xs (i + 1 + 1))) ≡ true → read (lexemes_from xs (i + 1 + 1)) (i + 1 + 1) false (s.Opend ∷ k) ≡ Some b → read (lexemes_from xs i) i false (s.Qhead ∷ k) ≡ Some (record { scopes = []; own = own_op b.0 (op (i + 1) (terminal_at xs (i + 1)) (token_at xs (i + 1)).text) }, b.1)
-operator_paren xs i k b e o g = let y = by_and (is_operator (terminal_at xs (i + 1))) o in
-    by_first xs i s.Qhead (row s.Qhead t.LParen (s.Opname ∷ []) (λ i w vs. record { scopes = []; own = own_op vs.0.prefix vs.0.op })) k (record { op = op (i + 1) (terminal_at xs (i + 1)) (token_at xs (i + 1)).text; prefix = b.0 }, b.1) (stands xs i t.LParen e refl) (ap (find (rows s.Qhead)) e)
-    (by_first xs (i + 1) s.Opname (opname_row (terminal_at xs (i + 1))) k b (within (terminal_at xs (i + 1)) refl y) (opname_found (terminal_at xs (i + 1)) y) g)
+-- the operator that is named after a parenthesis
+opname_paren : (xs : List Lexeme) (j : ℕ) (k : List Symbol) (b : Bool × Vals k) → (is_operator (terminal_at xs j) && ends_name (terminal_at xs (j + 1))) ≡ true → read (lexemes_from xs (j + 1)) (j + 1) false (s.Opend ∷ k) ≡ Some b → read (lexemes_from xs j) j false (s.Opname ∷ k) ≡ Some (record { op = op j (terminal_at xs j) (token_at xs j).text; prefix = b.0 }, b.1)
+opname_paren xs j k b o g = let y = by_and (is_operator (terminal_at xs j)) o in by_first xs j s.Opname (opname_row (terminal_at xs j)) k b (within (terminal_at xs j) refl y) (opname_found (terminal_at xs j) y) g
   where
-    by_and : (a : Bool) → (a && ends_name (terminal_at xs (i + 1 + 1))) ≡ true → a ≡ true
+    by_and : (a : Bool) → (a && ends_name (terminal_at xs (j + 1))) ≡ true → a ≡ true
     by_and true h = refl
     by_and false h = cc
 
-    within : (x : Terminal) → terminal_at xs (i + 1) ≡ x → is_operator x ≡ true → i + 1 < length xs
-    within x e h = stands xs (i + 1) x e (other x h)
+    within : (x : Terminal) → terminal_at xs j ≡ x → is_operator x ≡ true → j < length xs
+    within x e h = stands xs j x e (other x h)
       where
         other : (x : Terminal) → is_operator x ≡ true → is_other x ≡ false
         other t.OtherWord h = cc
         other _ h = refl
 
--- a name, and what comes after it
-pub prim_headed : (xs : List Lexeme) (i : ℕ) (k : List Symbol) (vs : SyntaxTree × Vals k) → is_name_at xs i ≡ true → read (lexemes_from xs i) i false (s.Prim ∷ k) ≡ Some vs → (b : Scoped × (SyntaxTrees × Vals k)) × (read (lexemes_from xs i) i false (s.Qhead ∷ s.Args ∷ k) ≡ Some b) × ((apply (at i) (called i b.0.scopes b.0.own) b.1.0, b.1.1) ≡ vs)
+-- a name and what comes after it
+pub prim_headed : (xs : List Lexeme) (i : ℕ) (k : List Symbol) (vs : SyntaxTree × Vals k) → is_name_at xs i ≡ true → read (lexemes_from xs i) i false (s.Prim ∷ k) ≡ Some vs → (b : Headed × Vals k) × (read (lexemes_from xs i) i false (s.Head true ∷ k) ≡ Some b) × ((headed_tree i b.0, b.1) ≡ vs)
 prim_headed xs i k vs n g = by_terminal (terminal_at xs i) refl n
   where
-    by_terminal : (x : Terminal) → terminal_at xs i ≡ x → is_name x (terminal_at xs (i + 1)) (terminal_at xs (i + 1 + 1)) ≡ true → (b : Scoped × (SyntaxTrees × Vals k)) × (read (lexemes_from xs i) i false (s.Qhead ∷ s.Args ∷ k) ≡ Some b) × ((apply (at i) (called i b.0.scopes b.0.own) b.1.0, b.1.1) ≡ vs)
-    by_terminal t.Lident e n = let p = row_at xs i s.Prim (row s.Prim t.Lident (s.Args ∷ []) (λ i w vs. apply (at i) (called i [] (lower w)) vs.0)) k vs refl (ap (find prim_rows) e) g in
-        ((record { scopes = []; own = lower (token_at xs i).text }, p.0), by_first xs i s.Qhead (row s.Qhead t.Lident [] (λ i w vs. record { scopes = []; own = lower w })) (s.Args ∷ k) p.0 (stands xs i t.Lident e refl) (ap (find (rows s.Qhead)) e) p.1, p.2)
-    by_terminal t.Uident e n = let p = row_at xs i s.Prim (row s.Prim t.Uident (s.Scoped ∷ s.Args ∷ []) (λ i w vs. apply (at i) (dotted_name i (scope_own w vs.0)) vs.1.0)) k vs refl (ap (find prim_rows) e) g in
-        ((scope_own (token_at xs i).text p.0.0, p.0.1), by_first xs i s.Qhead (row s.Qhead t.Uident (s.Scoped ∷ []) (λ i w vs. scope_own w vs.0)) (s.Args ∷ k) p.0 (stands xs i t.Uident e refl) (ap (find (rows s.Qhead)) e) p.1, p.2)
+    by_terminal : (x : Terminal) → terminal_at xs i ≡ x → is_name x (terminal_at xs (i + 1)) (terminal_at xs (i + 1 + 1)) ≡ true → (b : Headed × Vals k) × (read (lexemes_from xs i) i false (s.Head true ∷ k) ≡ Some b) × ((headed_tree i b.0, b.1) ≡ vs)
+    by_terminal t.Lident e n = let p = row_at xs i s.Prim (row s.Prim t.Lident (s.Applied ∷ []) (λ i w vs. with_rest i (called i [] (lower w)) vs.0)) k vs refl (ap (find prim_rows) e) g in
+        ((record { scopes = []; own = lower (token_at xs i).text; rest = p.0.0 }, p.0.1), by_first xs i (s.Head true) (row (s.Head true) t.Lident (s.Applied ∷ []) (λ i w vs. record { scopes = []; own = lower w; rest = vs.0 })) k p.0 (stands xs i t.Lident e refl) (ap (find (rows (s.Head true))) e) p.1, p.2)
+    by_terminal t.Uident e n = let p = row_at xs i s.Prim (row s.Prim t.Uident (s.HeadRest true ∷ []) (λ i w vs. headed_tree i (upper_head w vs.0))) k vs refl (ap (find prim_rows) e) g in
+        ((upper_head (token_at xs i).text p.0.0, p.0.1), by_first xs i (s.Head true) (row (s.Head true) t.Uident (s.HeadRest true ∷ []) (λ i w vs. upper_head w vs.0)) k p.0 (stands xs i t.Uident e refl) (ap (find (rows (s.Head true))) e) p.1, p.2)
     by_terminal t.StarName e n = let p = row_at xs i s.Prim (row s.Prim t.StarName (s.Args ∷ []) (λ i w vs. apply (at i) (called i [] star) vs.0)) k vs refl (ap (find prim_rows) e) g in
-        ((record { scopes = []; own = star }, p.0), by_first xs i s.Qhead (row s.Qhead t.StarName [] (λ i w vs. record { scopes = []; own = star })) (s.Args ∷ k) p.0 (stands xs i t.StarName e refl) (ap (find (rows s.Qhead)) e) p.1, p.2)
+        ((record { scopes = []; own = star; rest = args_rest p.0.0 }, p.0.1), by_first xs i (s.Head true) (row (s.Head true) t.StarName (s.Args ∷ []) (λ i w vs. record { scopes = []; own = star; rest = args_rest vs.0 })) k p.0 (stands xs i t.StarName e refl) (ap (find (rows (s.Head true))) e) p.1, p.2)
     by_terminal t.LParen e n = let p = row_at xs i s.Prim (row s.Prim t.LParen (s.Hparen ∷ []) (λ i w vs. paren i vs.0)) k vs refl (ap (find prim_rows) e) g in let q = prim_name xs (i + 1) k p.0 n p.1 in
-        ((record { scopes = []; own = own_op q.0.0 (op (i + 1) (terminal_at xs (i + 1)) (token_at xs (i + 1)).text) }, q.0.1), operator_paren xs i (s.Args ∷ k) q.0 e n q.1, ap (λ m. (paren i m.0, m.1)) q.2 ∙ p.2)
+        ((record { scopes = []; own = own_op q.0.0 (op (i + 1) (terminal_at xs (i + 1)) (token_at xs (i + 1)).text); rest = args_rest q.0.1.0 }, q.0.1.1), by_first xs i (s.Head true) (row (s.Head true) t.LParen (s.Opname ∷ s.Args ∷ []) (λ i w vs. record { scopes = []; own = own_op vs.0.prefix vs.0.op; rest = args_rest vs.1.0 })) k (record { op = op (i + 1) (terminal_at xs (i + 1)) (token_at xs (i + 1)).text; prefix = q.0.0 }, q.0.1) (stands xs i t.LParen e refl) (ap (find (rows (s.Head true))) e) (opname_paren xs (i + 1) (s.Args ∷ k) q.0 n q.1), ap (λ m. (paren i m.0, m.1)) q.2 ∙ p.2)
     by_terminal _ e n = absurd (no_false n)
 
 atom_minus_none : (y : Terminal) → ends_name y ≡ false → find aminus_own y ≡ None
@@ -149,19 +148,19 @@ atom_name xs j k us o g = by_terminal (terminal_at xs j) refl o
         (q.0, q.1, ap (λ m. (behind_minus (op j t.PrefixOperator (token_at xs j).text) m.0, m.1)) q.2 ∙ p.2)
     by_terminal _ e o = absurd (no_false o)
 
--- a name, and what comes after it
-pub atom_headed : (xs : List Lexeme) (i : ℕ) (k : List Symbol) (vs : SyntaxTree × Vals k) → is_name_at xs i ≡ true → read (lexemes_from xs i) i false (s.Atom ∷ k) ≡ Some vs → (b : Scoped × (Vals k)) × (read (lexemes_from xs i) i false (s.Qhead ∷ k) ≡ Some b) × ((apply (at i) (called i b.0.scopes b.0.own) none, b.1) ≡ vs)
+-- a name and what comes after it
+pub atom_headed : (xs : List Lexeme) (i : ℕ) (k : List Symbol) (vs : SyntaxTree × Vals k) → is_name_at xs i ≡ true → read (lexemes_from xs i) i false (s.Atom ∷ k) ≡ Some vs → (b : Headed × Vals k) × (read (lexemes_from xs i) i false (s.Head false ∷ k) ≡ Some b) × ((headed_tree i b.0, b.1) ≡ vs)
 atom_headed xs i k vs n g = by_terminal (terminal_at xs i) refl n
   where
-    by_terminal : (x : Terminal) → terminal_at xs i ≡ x → is_name x (terminal_at xs (i + 1)) (terminal_at xs (i + 1 + 1)) ≡ true → (b : Scoped × (Vals k)) × (read (lexemes_from xs i) i false (s.Qhead ∷ k) ≡ Some b) × ((apply (at i) (called i b.0.scopes b.0.own) none, b.1) ≡ vs)
-    by_terminal t.Lident e n = let p = row_at xs i s.Atom (row s.Atom t.Lident [] (λ i w vs. apply (at i) (called i [] (lower w)) none)) k vs refl (ap (find atom_rows) e) g in
-        ((record { scopes = []; own = lower (token_at xs i).text }, p.0), by_first xs i s.Qhead (row s.Qhead t.Lident [] (λ i w vs. record { scopes = []; own = lower w })) (k) p.0 (stands xs i t.Lident e refl) (ap (find (rows s.Qhead)) e) p.1, p.2)
-    by_terminal t.Uident e n = let p = row_at xs i s.Atom (row s.Atom t.Uident (s.Scoped ∷ []) (λ i w vs. apply (at i) (dotted_name i (scope_own w vs.0)) none)) k vs refl (ap (find atom_rows) e) g in
-        ((scope_own (token_at xs i).text p.0.0, p.0.1), by_first xs i s.Qhead (row s.Qhead t.Uident (s.Scoped ∷ []) (λ i w vs. scope_own w vs.0)) (k) p.0 (stands xs i t.Uident e refl) (ap (find (rows s.Qhead)) e) p.1, p.2)
+    by_terminal : (x : Terminal) → terminal_at xs i ≡ x → is_name x (terminal_at xs (i + 1)) (terminal_at xs (i + 1 + 1)) ≡ true → (b : Headed × Vals k) × (read (lexemes_from xs i) i false (s.Head false ∷ k) ≡ Some b) × ((headed_tree i b.0, b.1) ≡ vs)
+    by_terminal t.Lident e n = let p = row_at xs i s.Atom (row s.Atom t.Lident (s.Dots ∷ []) (λ i w vs. accessed i (apply (at i) (called i [] (lower w)) none) vs.0)) k vs refl (ap (find atom_rows) e) g in
+        ((record { scopes = []; own = lower (token_at xs i).text; rest = dots_rest p.0.0 }, p.0.1), by_first xs i (s.Head false) (row (s.Head false) t.Lident (s.Dots ∷ []) (λ i w vs. record { scopes = []; own = lower w; rest = dots_rest vs.0 })) k p.0 (stands xs i t.Lident e refl) (ap (find (rows (s.Head false))) e) p.1, p.2)
+    by_terminal t.Uident e n = let p = row_at xs i s.Atom (row s.Atom t.Uident (s.HeadRest false ∷ []) (λ i w vs. headed_tree i (upper_head w vs.0))) k vs refl (ap (find atom_rows) e) g in
+        ((upper_head (token_at xs i).text p.0.0, p.0.1), by_first xs i (s.Head false) (row (s.Head false) t.Uident (s.HeadRest false ∷ []) (λ i w vs. upper_head w vs.0)) k p.0 (stands xs i t.Uident e refl) (ap (find (rows (s.Head false))) e) p.1, p.2)
     by_terminal t.StarName e n = let p = row_at xs i s.Atom (row s.Atom t.StarName [] (λ i w vs. apply (at i) (called i [] star) none)) k vs refl (ap (find atom_rows) e) g in
-        ((record { scopes = []; own = star }, p.0), by_first xs i s.Qhead (row s.Qhead t.StarName [] (λ i w vs. record { scopes = []; own = star })) (k) p.0 (stands xs i t.StarName e refl) (ap (find (rows s.Qhead)) e) p.1, p.2)
+        ((record { scopes = []; own = star; rest = args_rest none }, p.0), by_first xs i (s.Head false) (row (s.Head false) t.StarName [] (λ i w vs. record { scopes = []; own = star; rest = args_rest none })) k p.0 (stands xs i t.StarName e refl) (ap (find (rows (s.Head false))) e) p.1, p.2)
     by_terminal t.LParen e n = let p = row_at xs i s.Atom (row s.Atom t.LParen (s.Aparen ∷ []) (λ i w vs. paren i vs.0)) k vs refl (ap (find atom_rows) e) g in let q = atom_name xs (i + 1) k p.0 n p.1 in
-        ((record { scopes = []; own = own_op q.0.0 (op (i + 1) (terminal_at xs (i + 1)) (token_at xs (i + 1)).text) }, q.0.1), operator_paren xs i k q.0 e n q.1, ap (λ m. (paren i m.0, m.1)) q.2 ∙ p.2)
+        ((record { scopes = []; own = own_op q.0.0 (op (i + 1) (terminal_at xs (i + 1)) (token_at xs (i + 1)).text); rest = args_rest none }, q.0.1), by_first xs i (s.Head false) (row (s.Head false) t.LParen (s.Opname ∷ []) (λ i w vs. record { scopes = []; own = own_op vs.0.prefix vs.0.op; rest = args_rest none })) k (record { op = op (i + 1) (terminal_at xs (i + 1)) (token_at xs (i + 1)).text; prefix = q.0.0 }, q.0.1) (stands xs i t.LParen e refl) (ap (find (rows (s.Head false))) e) (opname_paren xs (i + 1) k q.0 n q.1), ap (λ m. (paren i m.0, m.1)) q.2 ∙ p.2)
     by_terminal _ e n = absurd (no_false n)
 
 pub no_name : (x o c : Terminal) → x ≡ t.LParen → is_name x o c ≡ false → (is_operator o && ends_name c) ≡ false
@@ -173,9 +172,9 @@ prim_atom xs i k vs n g = by_start (begins_atom (terminal_at xs i)) refl
   where
     by_paren : (b : Bool) → same t.RParen (terminal_at xs (i + 1)) ≡ b → (e : terminal_at xs i ≡ t.LParen) → (is_operator (terminal_at xs (i + 1)) && ends_name (terminal_at xs (i + 1 + 1))) ≡ false → read (lexemes_from xs i) i false (s.Atom ∷ k) ≡ Some vs
     by_paren true c e n = let p = row_at xs i s.Prim (row s.Prim t.LParen (s.Hparen ∷ []) (λ i w vs. paren i vs.0)) k vs refl (ap (find prim_rows) e) g in
-        let q = row_at xs (i + 1) s.Hparen (row s.Hparen t.RParen [] (λ i w vs. nothing)) k p.0 refl (ap (find (rows s.Hparen)) (rparen_true (terminal_at xs (i + 1)) c)) p.1 in
-        by_first xs i s.Atom (row s.Atom t.LParen (s.Aparen ∷ []) (λ i w vs. paren i vs.0)) k (nothing, q.0) (stands xs i t.LParen e refl) (ap (find atom_rows) e)
-        (by_first xs (i + 1) s.Aparen (row s.Aparen t.RParen [] (λ i w vs. nothing)) k q.0 (stands xs (i + 1) t.RParen (rparen_true (terminal_at xs (i + 1)) c) refl) (ap (find (rows s.Aparen)) (rparen_true (terminal_at xs (i + 1)) c)) q.1)
+        let q = row_at xs (i + 1) s.Hparen (row s.Hparen t.RParen (s.Dots ∷ []) (λ i w vs. nothing vs.0)) k p.0 refl (ap (find (rows s.Hparen)) (rparen_true (terminal_at xs (i + 1)) c)) p.1 in
+        by_first xs i s.Atom (row s.Atom t.LParen (s.Aparen ∷ []) (λ i w vs. paren i vs.0)) k (nothing q.0.0, q.0.1) (stands xs i t.LParen e refl) (ap (find atom_rows) e)
+        (by_first xs (i + 1) s.Aparen (row s.Aparen t.RParen (s.Dots ∷ []) (λ i w vs. nothing vs.0)) k q.0 (stands xs (i + 1) t.RParen (rparen_true (terminal_at xs (i + 1)) c) refl) (ap (find (rows s.Aparen)) (rparen_true (terminal_at xs (i + 1)) c)) q.1)
         ∙ ap (λ m. Some (paren i m.0, m.1)) q.2 ∙ ap (λ m. Some m) p.2
     by_paren false c e n = let p = row_at xs i s.Prim (row s.Prim t.LParen (s.Hparen ∷ []) (λ i w vs. paren i vs.0)) k vs refl (ap (find prim_rows) e) g in
         let q = prim_inner xs (i + 1) k p.0 c n p.1 in
@@ -189,7 +188,7 @@ prim_atom xs i k vs n g = by_start (begins_atom (terminal_at xs i)) refl
     by_terminal t.Int e b n = let p = row_at xs i s.Prim (row s.Prim t.Int [] (λ i w vs. literal (at i) w)) k vs refl (ap (find prim_rows) e) g in by_first xs i s.Atom (row s.Atom t.Int [] (λ i w vs. literal (at i) w)) k p.0 (stands xs i t.Int e refl) (ap (find atom_rows) e) p.1 ∙ ap (λ m. Some m) p.2
     by_terminal t.TrueWord e b n = let p = row_at xs i s.Prim (row s.Prim t.TrueWord [] (λ i w vs. truth (at i))) k vs refl (ap (find prim_rows) e) g in by_first xs i s.Atom (row s.Atom t.TrueWord [] (λ i w vs. truth (at i))) k p.0 (stands xs i t.TrueWord e refl) (ap (find atom_rows) e) p.1 ∙ ap (λ m. Some m) p.2
     by_terminal t.FalseWord e b n = let p = row_at xs i s.Prim (row s.Prim t.FalseWord [] (λ i w vs. falsity (at i))) k vs refl (ap (find prim_rows) e) g in by_first xs i s.Atom (row s.Atom t.FalseWord [] (λ i w vs. falsity (at i))) k p.0 (stands xs i t.FalseWord e refl) (ap (find atom_rows) e) p.1 ∙ ap (λ m. Some m) p.2
-    by_terminal t.MatchWord e b n = let p = row_at xs i s.Prim (row s.Prim t.MatchWord (s.Expr 0 ∷ s.Scrutinees ∷ []) (λ i w vs. cases (at i) (more vs.0 vs.1.0.others) vs.1.0.bar vs.1.0.branches)) k vs refl (ap (find prim_rows) e) g in by_first xs i s.Atom (row s.Atom t.MatchWord (s.Expr 0 ∷ s.Scrutinees ∷ []) (λ i w vs. cases (at i) (more vs.0 vs.1.0.others) vs.1.0.bar vs.1.0.branches)) k p.0 (stands xs i t.MatchWord e refl) (ap (find atom_rows) e) p.1 ∙ ap (λ m. Some m) p.2
+    by_terminal t.MatchWord e b n = let p = row_at xs i s.Prim (row s.Prim t.MatchWord (s.Expr 0 ∷ s.Scrutinees ∷ s.Dots ∷ []) (λ i w vs. accessed i (cases (at i) (more vs.0 vs.1.0.others) vs.1.0.bar vs.1.0.branches) vs.1.1.0)) k vs refl (ap (find prim_rows) e) g in by_first xs i s.Atom (row s.Atom t.MatchWord (s.Expr 0 ∷ s.Scrutinees ∷ s.Dots ∷ []) (λ i w vs. accessed i (cases (at i) (more vs.0 vs.1.0.others) vs.1.0.bar vs.1.0.branches) vs.1.1.0)) k p.0 (stands xs i t.MatchWord e refl) (ap (find atom_rows) e) p.1 ∙ ap (λ m. Some m) p.2
     by_terminal t.LParen e b n = by_paren (same t.RParen (terminal_at xs (i + 1))) refl e n
     by_terminal _ e b n = absurd (no_false b)
 
@@ -197,12 +196,12 @@ prim_atom xs i k vs n g = by_start (begins_atom (terminal_at xs i)) refl
     by_start true h = by_terminal (terminal_at xs i) refl h n
     by_start false h = absurd (unread xs i s.Prim k vs (stands_within xs s.Prim i k vs refl g) refl (none_where prim_rows begins_atom (t.Lident ∷ t.Uident ∷ t.StarName ∷ t.LParen ∷ t.Int ∷ t.TrueWord ∷ t.FalseWord ∷ t.MatchWord ∷ []) (terminal_at xs i) refl refl h) g)
 
--- A term where a name stands is the name, and arguments.
-pub head_start : {xs : List Lexeme} {i : ℕ} → CanRead xs s.Prim i → is_name_at xs i ≡ true → Begun xs 0 (λ k. s.Prim ∷ k) i (λ k. s.Qhead ∷ s.Args ∷ k) (λ k us. (apply (at i) (called i us.0.scopes us.0.own) us.1.0, us.1.1)) i
-head_start {xs} {i} c n = reread (start c) (λ k. s.Qhead ∷ s.Args ∷ k) (λ k us. (apply (at i) (called i us.0.scopes us.0.own) us.1.0, us.1.1)) (λ k vs e. prim_headed xs i k vs n e)
+-- A term where a name stands is the name with what comes after it.
+pub head_start : {xs : List Lexeme} {i : ℕ} → CanRead xs s.Prim i → is_name_at xs i ≡ true → Begun xs 0 (λ k. s.Prim ∷ k) i (λ k. s.Head true ∷ k) (λ k us. (headed_tree i us.0, us.1)) i
+head_start {xs} {i} c n = reread (start c) (λ k. s.Head true ∷ k) (λ k us. (headed_tree i us.0, us.1)) (λ k vs e. prim_headed xs i k vs n e)
 
-pub head_atom_start : {xs : List Lexeme} {i : ℕ} → CanRead xs s.Atom i → is_name_at xs i ≡ true → Begun xs 0 (λ k. s.Atom ∷ k) i (λ k. s.Qhead ∷ k) (λ k us. (apply (at i) (called i us.0.scopes us.0.own) none, us.1)) i
-head_atom_start {xs} {i} c n = reread (start c) (λ k. s.Qhead ∷ k) (λ k us. (apply (at i) (called i us.0.scopes us.0.own) none, us.1)) (λ k vs e. atom_headed xs i k vs n e)
+pub head_atom_start : {xs : List Lexeme} {i : ℕ} → CanRead xs s.Atom i → is_name_at xs i ≡ true → Begun xs 0 (λ k. s.Atom ∷ k) i (λ k. s.Head false ∷ k) (λ k us. (headed_tree i us.0, us.1)) i
+head_atom_start {xs} {i} c n = reread (start c) (λ k. s.Head false ∷ k) (λ k us. (headed_tree i us.0, us.1)) (λ k vs e. atom_headed xs i k vs n e)
 
 -- Where none does it is an atom.
 pub plain_start : {xs : List Lexeme} {i : ℕ} → CanRead xs s.Prim i → is_name_at xs i ≡ false → Begun xs 0 (λ k. s.Prim ∷ k) i (λ k. s.Atom ∷ k) (λ k us. us) i

@@ -1,5 +1,5 @@
 -- What follows where a match is read.
-use Rattle.parser.proofs.parse_terms.Common.{◌≡◌, ℕ, ◌+◌, ◌≤◌, Bool, true, false, List, [], ◌∷◌, ◌++◌, refl, ap, ◌∙◌, arith, append-nil, sym, append_assoc, same, Lexeme, at, SyntaxForm, SyntaxForms, more_forms, no_forms, Branches, SyntaxTree, branch, cases, more, no_branch, Arm, branches, forms, trees, ArmPart, branch_of, row, branch_own, Begun, CanRead, IsRead, terminal_at, IsAlternative, IsBranch}
+use Rattle.parser.proofs.parse_terms.Common.{◌≡◌, ℕ, ◌+◌, ◌≤◌, Bool, true, false, List, [], ◌∷◌, ◌++◌, refl, ap, ◌∙◌, arith, append-nil, sym, append_assoc, same, Lexeme, at, SyntaxForm, SyntaxForms, more_forms, no_forms, Branches, SyntaxTree, branch, accessed, cases, more, no_branch, Arm, branches, forms, trees, ArmPart, branch_of, row, branch_own, Begun, CanRead, IsRead, terminal_at, IsAlternative, IsBranch}
 use Rattle.tokens_why.specs.declared.terminal.Terminal.TheVariants as t
 use Rattle.grammar.specs.declared.symbols.Symbol.TheVariants as s
 use Rattle.parser.proofs.parse_terms.Steps.{again, expand, extended_due, follow, many, many_more, missed, next, only, start, unexpand}
@@ -64,10 +64,10 @@ module _ (xs : List Lexeme) (i : ℕ) (pss : List SyntaxForms) (j : ℕ) (g : Al
 
 -- scrutinees
 abbrev pub Matched : List Lexeme → ℕ → List SyntaxTree → ℕ → Type 0
-Matched xs i es j = Begun xs 1 (λ k. s.Atom ∷ k) i (λ k. s.Scrutinees ∷ k) (λ k us. (cases (at i) (many more es us.0.others) us.0.bar us.0.branches, us.1)) j
+Matched xs i es j = Begun xs 1 (λ k. s.Atom ∷ k) i (λ k. s.Scrutinees ∷ s.Dots ∷ k) (λ k us. (accessed i (cases (at i) (many more es us.0.others) us.0.bar us.0.branches) us.1.0, us.1.1)) j
 
 module _ {xs : List Lexeme} {i : ℕ} (c : CanRead xs s.Atom i) (e : same t.MatchWord (terminal_at xs i) ≡ true) where
-  pub match_start : Begun xs 1 (λ k. s.Atom ∷ k) i (λ k. s.Expr 0 ∷ s.Scrutinees ∷ k) (λ k us. (cases (at i) (more us.0 us.1.0.others) us.1.0.bar us.1.0.branches, us.1.1)) (i + 1)
+  pub match_start : Begun xs 1 (λ k. s.Atom ∷ k) i (λ k. s.Expr 0 ∷ s.Scrutinees ∷ s.Dots ∷ k) (λ k us. (accessed i (cases (at i) (more us.0 us.1.0.others) us.1.0.bar us.1.0.branches) us.1.1.0, us.1.1.1)) (i + 1)
   match_start = let p = expand (start c) t.MatchWord e refl refl in again p 1 refl (λ k us. refl)
 
 abbrev pub with_arm : Arm → Branches → Branches
@@ -79,15 +79,15 @@ branches_many (b ∷ bs) = ap (with_arm b) (branches_many bs)
 
 -- a branch is to be read after others
 abbrev pub Branching : List Lexeme → ℕ → List SyntaxTree → Bool → List Arm → ℕ → Type 0
-Branching xs i es bar bs j = Begun xs 1 (λ k. s.Atom ∷ k) i (λ k. s.Pat ∷ s.Arm ∷ k) (λ k us. (cases (at i) (trees es) bar (many with_arm bs (branch_of us.0 us.1.0)), us.1.1)) j
+Branching xs i es bar bs j = Begun xs 1 (λ k. s.Atom ∷ k) i (λ k. s.Pat ∷ s.Arm ∷ s.Dots ∷ k) (λ k us. (accessed i (cases (at i) (trees es) bar (many with_arm bs (branch_of us.0 us.1.0))) us.1.1.0, us.1.1.1)) j
 
 abbrev pub Branched : List Lexeme → ℕ → List SyntaxTree → Bool → List Arm → ℕ → Type 0
-Branched xs i es bar bs j = Begun xs 1 (λ k. s.Atom ∷ k) i (λ k. s.Branches ∷ k) (λ k us. (cases (at i) (trees es) bar (many with_arm bs us.0), us.1)) j
+Branched xs i es bar bs j = Begun xs 1 (λ k. s.Atom ∷ k) i (λ k. s.Branches ∷ s.Dots ∷ k) (λ k us. (accessed i (cases (at i) (trees es) bar (many with_arm bs us.0)) us.1.0, us.1.1)) j
 
 module _ (xs : List Lexeme) (i : ℕ) (es : List SyntaxTree) (j : ℕ) (g : Matched xs i es j) where
   module _ (n : same t.Comma (terminal_at xs j) ≡ false) where
-    pub with_start : Begun xs 1 (λ k. s.Atom ∷ k) i (λ k. s.Branch ∷ k) (λ k us. (cases (at i) (trees es) us.0.bar us.0.branches, us.1)) (j + 1)
-    with_start = let p = expand g t.WithWord (only g t.WithWord (t.Comma ∷ []) refl refl (n, tt)) refl refl in again p 1 refl (λ k us. ap (λ v. (cases (at i) v us.0.bar us.0.branches, us.1)) (trees_many es))
+    pub with_start : Begun xs 1 (λ k. s.Atom ∷ k) i (λ k. s.Branch ∷ s.Dots ∷ k) (λ k us. (accessed i (cases (at i) (trees es) us.0.bar us.0.branches) us.1.0, us.1.1)) (j + 1)
+    with_start = let p = expand g t.WithWord (only g t.WithWord (t.Comma ∷ []) refl refl (n, tt)) refl refl in again p 1 refl (λ k us. ap (λ v. (accessed i (cases (at i) v us.0.bar us.0.branches) us.1.0, us.1.1)) (trees_many es))
 
     pub barred_start : same t.Bar (terminal_at xs (j + 1)) ≡ true → Branching xs i es true [] (j + 1 + 1)
     barred_start l = let p = expand with_start t.Bar l refl refl in again p 1 refl (λ k us. refl)
@@ -97,7 +97,7 @@ module _ (xs : List Lexeme) (i : ℕ) (es : List SyntaxTree) (j : ℕ) (g : Matc
 
 module _ (xs : List Lexeme) (i : ℕ) (es : List SyntaxTree) (bar : Bool) (bs : List Arm) (j : ℕ) where
   pub branched_more : (b : Arm) (m : ℕ) → Branching xs i es bar bs j → IsBranch xs j b m → Branched xs i es bar (bs ++ b ∷ []) m
-  branched_more b m g r = let p = follow r.is g in again p 1 refl (λ k us. ap (λ v. (cases (at i) (trees es) bar (many with_arm bs (branch v b.body us.0)), us.1)) r.spelled ∙ ap (λ v. (cases (at i) (trees es) bar v, us.1)) (many_more with_arm bs b us.0))
+  branched_more b m g r = let p = follow {K = λ k. s.Dots ∷ k} r.is g in again p 1 refl (λ k us. ap (λ v. (accessed i (cases (at i) (trees es) bar (many with_arm bs (branch v b.body us.0))) us.1.0, us.1.1)) r.spelled ∙ ap (λ v. (accessed i (cases (at i) (trees es) bar v) us.1.0, us.1.1)) (many_more with_arm bs b us.0))
 
   module _ (g : Branched xs i es bar bs j) where
     pub branch_start : same t.Bar (terminal_at xs j) ≡ true → Branching xs i es bar bs (j + 1)

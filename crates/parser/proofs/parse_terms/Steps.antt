@@ -100,6 +100,10 @@ left rs y ys x r c d e = by_test (same y x) refl
     by_test true h = h
     by_test false h = let n = none_by rs (y ∷ ys) x c (h, d) in cc
 
+-- What can be read before further symbols can be read.
+pub run_over : {xs : List Lexeme} {from : List Symbol → List Symbol} (K : List Symbol → List Symbol) {i : ℕ} → CanRun xs (λ k. from (K k)) i → CanRun xs from i
+run_over {xs} {from} K {i} c = record { within = c.within; behind = K c.behind; values = c.values; reads = c.reads }
+
 -- Nothing is read yet.
 pub start : {xs : List Lexeme} {from : List Symbol → List Symbol} {i : ℕ} → CanRun xs from i → Begun xs 0 from i from (λ k us. us) i
 start {xs} {from} {i} c = record { ahead = omega arith; within = c.within; can = c; reads = λ k vs e. (vs, e, refl) }

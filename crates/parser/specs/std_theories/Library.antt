@@ -17,17 +17,21 @@ abbrev pub int_int : List ℕ
 int_int =
     codes "theory Int\n  function (-_) int : int\n  function (+) int int : int\n"
     ++ codes "  function (-) int int : int\n  function (*) int int : int\n"
-    ++ codes "  predicate (<) int int\n  predicate (<=) int int\n  predicate (>) int int\n  predicate (>=) int int\n"
+    ++ codes "  predicate (<) int int\n  predicate (<=) int int\n"
+    ++ codes "  predicate (>) int int\n  predicate (>=) int int\n"
     ++ codes "  axiom Mul_comm: forall x y: int. x * y = y * x\n"
     ++ codes "  axiom Mul_assoc: forall x y z: int. (x * y) * z = x * (y * z)\n"
     ++ codes "  axiom Mul_distr: forall x y z: int. x * (y + z) = x * y + x * z\nend\n"
 
 abbrev pub int_abs : List ℕ
-int_abs = codes "theory Abs\n  use int.Int\n  function abs (x: int) : int = if x >= 0 then x else - x\nend\n"
+int_abs =
+    codes "theory Abs\n  use int.Int\n"
+    ++ codes "  function abs (x: int) : int = if x >= 0 then x else - x\nend\n"
 
 abbrev pub int_min_max : List ℕ
 int_min_max =
-    codes "theory MinMax\n  use int.Int\n  function min (x y: int) : int = if x <= y then x else y\n"
+    codes "theory MinMax\n  use int.Int\n"
+    ++ codes "  function min (x y: int) : int = if x <= y then x else y\n"
     ++ codes "  function max (x y: int) : int = if x <= y then y else x\nend\n"
 
 abbrev pub bool_bool : List ℕ
@@ -35,7 +39,8 @@ bool_bool =
     codes "theory Bool\n  type bool = True | False\n"
     ++ codes "  function andb (x y: bool) : bool = match x with True -> y | False -> False end\n"
     ++ codes "  function orb (x y: bool) : bool = match x with True -> True | False -> y end\n"
-    ++ codes "  function notb (x: bool) : bool = match x with True -> False | False -> True end\nend\n"
+    ++ codes "  function notb (x: bool) : bool = match x with True -> False | False -> True end\n"
+    ++ codes "end\n"
 
 abbrev pub option_option : List ℕ
 option_option = codes "theory Option\n  type option 'a = None | Some 'a\nend\n"
@@ -46,18 +51,21 @@ list_list = codes "theory List\n  type list 'a = Nil | Cons 'a (list 'a)\nend\n"
 abbrev pub list_length : List ℕ
 list_length =
     codes "theory Length\n  use int.Int\n  use list.List\n"
-    ++ codes "  function length (l: list 'a) : int = match l with Nil -> 0 | Cons _ r -> 1 + length r end\n"
+    ++ codes "  function length (l: list 'a) : int ="
+    ++ codes " match l with Nil -> 0 | Cons _ r -> 1 + length r end\n"
     ++ codes "  lemma Length_nonnegative: forall l: list 'a. length l >= 0\nend\n"
 
 abbrev pub list_mem : List ℕ
 list_mem =
     codes "theory Mem\n  use list.List\n"
-    ++ codes "  predicate mem (x: 'a) (l: list 'a) = match l with Nil -> false | Cons y r -> x = y \\/ mem x r end\nend\n"
+    ++ codes "  predicate mem (x: 'a) (l: list 'a) ="
+    ++ codes " match l with Nil -> false | Cons y r -> x = y \\/ mem x r end\nend\n"
 
 abbrev pub list_append : List ℕ
 list_append =
     codes "theory Append\n  use list.List\n"
-    ++ codes "  function (++) (l1 l2: list 'a) : list 'a = match l1 with Nil -> l2 | Cons x r -> Cons x (r ++ l2) end\n"
+    ++ codes "  function (++) (l1 l2: list 'a) : list 'a ="
+    ++ codes " match l1 with Nil -> l2 | Cons x r -> Cons x (r ++ l2) end\n"
     ++ codes "  lemma Append_assoc: forall a b c: list 'a. a ++ (b ++ c) = (a ++ b) ++ c\n"
     ++ codes "  lemma Append_l_nil: forall l: list 'a. l ++ Nil = l\nend\n"
 

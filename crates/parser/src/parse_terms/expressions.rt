@@ -6,8 +6,10 @@ ghost use Rattle.tokens_why.specs.declared.terminal.Terminal.TheVariants as t;
 ghost use Rattle.surface.specs.Surface.{trigger as trigger_of};
 ghost use Rattle.parser.specs.parse_terms.Reading.{CanRead, CanRun, Climb, IsReadClosed, IsExpr, IsRead, is_name_at, takes_infix, terminal_at};
 ghost use Rattle.parser.specs.parse_terms.Sources.{lexemes};
+ghost use Rattle.parser.specs.parse_terms.Fields.{IsReadPlain};
 ghost use Rattle.parser.specs.parse_terms.Terms.{IsBranch, IsReadTrigger};
 
+use crate::parse_terms::fields::{at_field, with_fields};
 use crate::parse_terms::names::head_name;
 use crate::parse_terms::operators::{
     at_name, at_operator, at_prefix, at_quantifier, at_separator, integer_tree, operator, past_bar,
@@ -331,6 +333,12 @@ fn primary(alloc: Global, source: Source, i: usize) -> Result<(Expr, usize), All
 {
     if at_name(source, i) {
         let (name, j) = head_name(alloc, source, i)?;
+        let has_field = at_field(source, &name, j);
+        if has_field {
+            let alone = Expr::new(place(i), ExprNode::Apply(name, Seq::new(alloc)));
+            let (tree, end) = with_fields(alloc, source, i, alone, j)?;
+            return Ok((tree, end));
+        }
         let (parts, end) = arguments(alloc, source, j)?;
         return Ok((Expr::new(place(i), ExprNode::Apply(name, parts)), end));
     }
@@ -346,11 +354,14 @@ fn atom(alloc: Global, source: Source, i: usize) -> Result<(Expr, usize), AllocE
         (λ r. IsReadClosed (lexemes source.entry) rule.Atom i (tree_of r.0) (tree_of r.0) r.1) }
 {
     if at_name(source, i) {
-        let (name, end) = head_name(alloc, source, i)?;
-        return Ok((
-            Expr::new(place(i), ExprNode::Apply(name, Seq::new(alloc))),
-            end,
-        ));
+        let (name, j) = head_name(alloc, source, i)?;
+        let has_field = at_field(source, &name, j);
+        let alone = Expr::new(place(i), ExprNode::Apply(name, Seq::new(alloc)));
+        if has_field {
+            let (tree, end) = with_fields(alloc, source, i, alone, j)?;
+            return Ok((tree, end));
+        }
+        return Ok((alone, j));
     }
     let (tree, end) = plain_atom(alloc, source, i)?;
     Ok((tree, end))
@@ -396,9 +407,24 @@ fn plain_atom(alloc: Global, source: Source, i: usize) -> Result<(Expr, usize), 
     }
     let is_match = is_at(source, i, Terminal::MatchWord);
     if is_match {
-        let (tree, end) = cases(alloc, source, i)?;
+        let (plain, j) = cases(alloc, source, i)?;
+        let (tree, end) = with_fields(alloc, source, i, plain, j)?;
         return Ok((tree, end));
     }
+    let (plain, j) = enclosed(alloc, source, i)?;
+    let (tree, end) = with_fields(alloc, source, i, plain, j)?;
+    Ok((tree, end))
+}
+
+/// What is in parentheses: terms, or one with its type.
+#[cycle(descent)]
+fn enclosed(alloc: Global, source: Source, i: usize) -> Result<(Expr, usize), AllocError>
+    requires can { CanRead (lexemes source) rule.Atom i }
+    requires unnamed { is_name_at (lexemes source) i ≡ false }
+    requires opens { same t.LParen (terminal_at (lexemes source) i) ≡ true }
+    ensures { IfOk result (λ r. IsReadPlain (lexemes source.entry) i (tree_of r.0) r.1) }
+{
+    let here = place(i);
     let behind = i + 1;
     let is_empty = is_at(source, behind, Terminal::RParen);
     if is_empty {
@@ -433,8 +459,7 @@ fn plain_atom(alloc: Global, source: Source, i: usize) -> Result<(Expr, usize), 
 fn cases(alloc: Global, source: Source, i: usize) -> Result<(Expr, usize), AllocError>
     requires can { CanRead (lexemes source) rule.Atom i }
     requires word { same t.MatchWord (terminal_at (lexemes source) i) ≡ true }
-    ensures { IfOk result
-        (λ r. IsReadClosed (lexemes source.entry) rule.Atom i (tree_of r.0) (tree_of r.0) r.1) }
+    ensures { IfOk result (λ r. IsReadPlain (lexemes source.entry) i (tree_of r.0) r.1) }
 {
     let mut scrutinees: Vec<Expr> = Vec::new(alloc);
     let (first, mut j) = any_expression(alloc, source, i + 1)?;

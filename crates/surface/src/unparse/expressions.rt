@@ -31,6 +31,11 @@ pub fn push_expr(e: &Expr, out: &mut Written)
             push_scrutinees(scrutinees.as_slice(), out);
             push_arms(*bar, arms.as_slice(), out)
         }
+        ExprNode::Dot(of, field) => {
+            push_expr(of.get(), out);
+            out.push(Terminal::Dot);
+            push_called(field, out)
+        }
         ExprNode::Prefix(operator, operand) => {
             push_behind(operator_terminal(operator), operand.get(), out)
         }

@@ -1,4 +1,4 @@
-use Rattle.parser.proofs.parse_decls.Cited.{◌+◌, [], ◌≡◌, true, false, map, sym, ◌∙◌, ap, subst, refl, can_run, param_of, constructor_of, lexemes, IsCon, braced, braced_read, rules, upto}
+use Rattle.parser.proofs.parse_decls.Cited.{false, map, sym, ◌∙◌, subst, refl, can_run, param_of, constructor_of, lexemes, IsCon, braced, braced_read, rules, upto}
 use Rattle.parser.proofs.parse_decls.types.algebraic.Goals as goal
 
 pub record_fields-requires : goal.record_fields-requires

@@ -1,4 +1,4 @@
-use Rattle.parser.proofs.parse_decls.Cited.{◌+◌, [], ◌∷◌, ◌++◌, sym, ap, ◌∙◌, subst, refl, done, next, can_next, next_within, start, form_of, lexemes, token_at, name, IsRead, ParamGroup, inside, named_there, field_name, field_type, record_field, rules, upto}
+use Rattle.parser.proofs.parse_decls.Cited.{[], ◌∷◌, ◌++◌, sym, ap, ◌∙◌, subst, refl, done, next, can_next, next_within, start, form_of, lexemes, token_at, name, IsRead, inside, named_there, field_name, field_type, record_field, rules}
 use Rattle.grammar.specs.declared.symbols.Symbol.TheVariants as s
 use Rattle.parser.proofs.parse_decls.types.record_field.Goals as goal
 

@@ -1,5 +1,4 @@
-use Rattle.parser.proofs.parse_decls.Cited.{◌+◌, [], ◌∷◌, ◌++◌, true, false, map, sym, ap, ◌∙◌, subst, map-append, can_next, start, stands, refl, param_of, lexemes, IsRecord, RecordFields, brace_after, record_done, record_done_semi, record_item, record_more, record_start, inside, rules, arith, ◌≤◌, upto}
-use Rattle.tokens_why.specs.declared.terminal.Terminal.TheVariants as t
+use Rattle.parser.proofs.parse_decls.Cited.{◌+◌, [], ◌∷◌, ◌++◌, true, false, map, sym, ap, ◌∙◌, subst, map-append, can_next, start, param_of, lexemes, IsRecord, RecordFields, record_done, record_done_semi, record_item, record_more, record_start, rules, arith, ◌≤◌, upto}
 use Rattle.parser.proofs.parse_decls.types.record_fields.Goals as goal
 
 pub record_field-requires : goal.record_field-requires

@@ -1,4 +1,4 @@
-use Rattle.parser.proofs.parse_terms.Cited.{arith, ◌<◌, rules, ℕ, ◌≡◌, ◌≤◌, ◌+◌, Bool, not, ◌&&◌, List, [], ◌∷◌, ◌++◌, option_map, map, sym, ap, ◌∙◌, subst, refl, append_assoc, map-append, prec, right, same, Lexeme, at, SyntaxForms, called, more_forms, SyntaxTree, SyntaxTrees, apply, binary, binding, cases, cast, choice, ends_open, falsity, group, negation, op, prefixed, quantified, triggered, truth, more, none, literal, Arm, Terms, alternatives, arm_of, binder_of, branches, called_of, form_of, own_of, patterns, pattern_of, op_of, terms_of, tree_of, trees, trigger, forms, tree_of_node-Apply, tree_of_node-Binary, tree_of_node-Cast, tree_of_node-If, tree_of_node-Let, tree_of_node-False, tree_of_node-Group, tree_of_node-Match, tree_of_node-True, scoped_of, CanRead, Climb, IsReadClosed, IsExpr, IsRead, takes_infix, terminal_at, token_at, begins_atom, lexemes, IsBranch, IsReadTrigger, trees_many, under, plain_start, can_next, can_run, next, next_expr, next_within, stands_due, done, side_start, side_item, stands_by, side_more, side_done, expand, start, take, again, many_more, only, follow, Arguments, Members, application_read, atom_none, atom_some, inner_start, members_start, name_read, only_paren, paren_start, climb_done, climb_more, not_start, operator_within, prefix_start, prim_read, prim_start, right_can, Bound, Quantified, Triggering, body_start, else_start, if_read, if_start, let_read, let_start, quantified_body, quantified_read, quantified_start, then_start, trigger_done, trigger_start, triggering_more, value_start, branching_start, neither, quantifier_there, separator_start, inside, upto}
+use Rattle.parser.proofs.parse_terms.Cited.{arith, ◌<◌, rules, ℕ, ◌≡◌, ◌≤◌, ◌+◌, Bool, not, ◌&&◌, List, [], ◌∷◌, ◌++◌, option_map, map, sym, ap, ◌∙◌, subst, refl, append_assoc, map-append, prec, right, same, Lexeme, at, SyntaxForms, called, more_forms, SyntaxTree, SyntaxTrees, accessed, apply, binary, binding, cases, cast, choice, ends_open, falsity, group, negation, op, prefixed, quantified, triggered, truth, more, none, literal, Arm, Terms, alternatives, arm_of, binder_of, branches, called_of, form_of, own_of, patterns, pattern_of, op_of, terms_of, tree_of, trees, trigger, forms, tree_of_node-Apply, tree_of_node-Binary, tree_of_node-Cast, tree_of_node-If, tree_of_node-Let, tree_of_node-False, tree_of_node-Group, tree_of_node-Match, tree_of_node-True, scoped_of, IsReadFields, CanRead, Climb, IsReadClosed, IsReadPlain, IsExpr, IsRead, takes_infix, terminal_at, token_at, begins_atom, lexemes, IsBranch, IsReadTrigger, trees_many, under, plain_start, can_next, can_run, run_over, next, next_expr, next_within, stands_due, done, side_start, side_item, stands_by, side_more, side_done, expand, start, take, again, many_more, only, follow, Arguments, Members, atom_alone, atom_dots, atom_with, name_there, prim_args, prim_dots, prim_with, application_read, atom_none, atom_some, inner_start, members_start, only_paren, paren_start, climb_done, climb_more, not_start, operator_within, prefix_start, prim_read, prim_start, right_can, Bound, Quantified, Triggering, body_start, else_start, if_read, if_start, let_read, let_start, quantified_body, quantified_read, quantified_start, then_start, trigger_done, trigger_start, triggering_more, value_start, branching_start, neither, quantifier_there, separator_start, inside, upto}
 use Rattle.tokens_why.specs.declared.terminal.Terminal.TheVariants as t
 use Rattle.grammar.specs.declared.symbols.Symbol.TheVariants as s
 use Rattle.parser.proofs.parse_terms.HeadsRead as H
@@ -165,30 +165,42 @@ pub primary-at_name-requires : goal.primary-at_name-requires
 primary-at_name-requires m c = inside c.args.source c.args.i (stands_due c.requires refl)
 
 pub primary-head_name-requires : goal.primary-head_name-requires
-primary-head_name-requires m c = can_next (H.head_start c.requires (sym c.at_name.ensures ∙ c.if-at_name.true))
+primary-head_name-requires m c = name_there (H.head_start c.requires (sym c.at_name.ensures ∙ c.if-at_name.true))
 
 pub atom-at_name-requires : goal.atom-at_name-requires
 atom-at_name-requires m c = inside c.args.source c.args.i (stands_due c.requires refl)
 
 pub atom-head_name-requires : goal.atom-head_name-requires
-atom-head_name-requires m c = can_next (H.head_atom_start c.requires (sym c.at_name.ensures ∙ c.if-at_name.true))
+atom-head_name-requires m c = name_there (H.head_atom_start c.requires (sym c.at_name.ensures ∙ c.if-at_name.true))
 
 pub primary-arguments-requires : goal.primary-arguments-requires
-primary-arguments-requires m c = let a : c.args.i + 1 ≤ c.in_ok-name.j = c.in_ok-name.ensures.read.ahead in let w = upto c.args.source c.in_ok-name.j c.in_ok-name.ensures.read.within in (search rules, can_next (next (H.head_start c.requires (sym c.at_name.ensures ∙ c.if-at_name.true)) c.in_ok-name.ensures.read))
+primary-arguments-requires m c = let a : c.args.i + 1 ≤ c.in_ok-name.j = c.in_ok-name.ensures.read.ahead in let w = upto c.args.source c.in_ok-name.j c.in_ok-name.ensures.read.within in (search rules, can_next (prim_args (scoped_of c.in_ok-name.name) c.in_ok-name.j c.in_ok-name.ensures.read c.requires (sym c.at_name.ensures ∙ c.if-at_name.true) (sym c.at_field-has_field.ensures ∙ c.if-has_field.false)))
+
+pub primary-with_fields-requires : goal.primary-with_fields-requires
+primary-with_fields-requires m c = can_next (prim_dots (scoped_of c.in_ok-name.name) c.in_ok-name.j c.in_ok-name.ensures.read c.requires (sym c.at_name.ensures ∙ c.if-at_name.true) (sym c.at_field-has_field.ensures ∙ c.if-has_field.true))
+
+pub primary-returns-then-has_field : goal.primary-returns-then-has_field
+primary-returns-then-has_field m c = prim_with refl refl (prim_dots (scoped_of c.in_ok-name.name) c.in_ok-name.j c.in_ok-name.ensures.read c.requires (sym c.at_name.ensures ∙ c.if-at_name.true) (sym c.at_field-has_field.ensures ∙ c.if-has_field.true)) (subst (λ e. IsReadFields (lexemes c.args.source) c.args.i e c.in_ok-name.j (tree_of c.in_ok-tree.tree) c.in_ok-tree.end) (c.new-alone.ensures ∙ tree_of_node-Apply _ _ _ ∙ ap (λ a. apply a (called_of c.in_ok-name.name) (trees (map tree_of c.new.result))) c.place.ensures ∙ ap (λ n. apply (at c.args.i) (called n c.in_ok-name.name.scopes (own_of c.in_ok-name.name.style c.in_ok-name.name.text)) (trees (map tree_of c.new.result))) c.in_ok-name.ensures.place ∙ ap (λ ts. apply (at c.args.i) (called c.args.i c.in_ok-name.name.scopes (own_of c.in_ok-name.name.style c.in_ok-name.name.text)) (trees (map tree_of ts))) c.new.ensures) c.in_ok-tree.ensures)
 
 pub primary-returns-then-at_name : goal.primary-returns-then-at_name
-primary-returns-then-at_name m c = subst (λ e. IsReadClosed (lexemes c.args.source) s.Prim c.args.i e e c.in_ok-parts.end) (sym (c.new.ensures ∙ tree_of_node-Apply _ _ _ ∙ ap (λ a. apply a (called_of c.in_ok-name.name) (trees (map tree_of c.in_ok-parts.parts))) c.place.ensures ∙ ap (λ n. apply (at c.args.i) (called n c.in_ok-name.name.scopes (own_of c.in_ok-name.name.style c.in_ok-name.name.text)) (trees (map tree_of c.in_ok-parts.parts))) c.in_ok-name.ensures.place))
-    (application_read c.requires (scoped_of c.in_ok-name.name) c.in_ok-name.j (trees (map tree_of c.in_ok-parts.parts)) c.in_ok-parts.end (sym c.at_name.ensures ∙ c.if-at_name.true) c.in_ok-name.ensures.read c.in_ok-parts.ensures)
+primary-returns-then-at_name m c = subst (λ e. IsReadClosed (lexemes c.args.source) s.Prim c.args.i e e c.in_ok-parts.end) (sym (c.new-then-at_name.ensures ∙ tree_of_node-Apply _ _ _ ∙ ap (λ a. apply a (called_of c.in_ok-name.name) (trees (map tree_of c.in_ok-parts.parts))) c.place-then-at_name.ensures ∙ ap (λ n. apply (at c.args.i) (called n c.in_ok-name.name.scopes (own_of c.in_ok-name.name.style c.in_ok-name.name.text)) (trees (map tree_of c.in_ok-parts.parts))) c.in_ok-name.ensures.place))
+    (application_read c.requires (scoped_of c.in_ok-name.name) c.in_ok-name.j (trees (map tree_of c.in_ok-parts.parts)) c.in_ok-parts.end (sym c.at_name.ensures ∙ c.if-at_name.true) c.in_ok-name.ensures.read (sym c.at_field-has_field.ensures ∙ c.if-has_field.false) c.in_ok-parts.ensures)
 
 pub primary-plain_atom-requires : goal.primary-plain_atom-requires
 primary-plain_atom-requires m c = (search rules, (can_next (H.plain_start c.requires (sym c.at_name.ensures ∙ c.if-at_name.false)), (sym c.at_name.ensures ∙ c.if-at_name.false)))
 
 pub primary-returns : goal.primary-returns
-primary-returns m c = record { first = c.in_ok-tree.ensures.first; closed = c.in_ok-tree.ensures.closed; is = done (next (plain_start c.requires (sym c.at_name.ensures ∙ c.if-at_name.false)) c.in_ok-tree.ensures.is) (tree_of c.in_ok-tree.tree) refl (λ k us. refl) }
+primary-returns m c = record { first = c.in_ok-tree-2.ensures.first; closed = c.in_ok-tree-2.ensures.closed; is = done (next (plain_start c.requires (sym c.at_name.ensures ∙ c.if-at_name.false)) c.in_ok-tree-2.ensures.is) (tree_of c.in_ok-tree-2.tree) refl (λ k us. refl) }
+
+pub atom-with_fields-requires : goal.atom-with_fields-requires
+atom-with_fields-requires m c = can_next (atom_dots (scoped_of c.in_ok-name.name) c.in_ok-name.j c.in_ok-name.ensures.read c.requires (sym c.at_name.ensures ∙ c.if-at_name.true) (sym c.at_field-has_field.ensures ∙ c.if-has_field.true))
+
+pub atom-returns-then-has_field : goal.atom-returns-then-has_field
+atom-returns-then-has_field m c = atom_with (record { first = refl; closed = refl; is = atom_dots (scoped_of c.in_ok-name.name) c.in_ok-name.j c.in_ok-name.ensures.read c.requires (sym c.at_name.ensures ∙ c.if-at_name.true) (sym c.at_field-has_field.ensures ∙ c.if-has_field.true) }) (subst (λ e. IsReadFields (lexemes c.args.source) c.args.i e c.in_ok-name.j (tree_of c.in_ok-tree.tree) c.in_ok-tree.end) (c.new-alone.ensures ∙ tree_of_node-Apply _ _ _ ∙ ap (λ a. apply a (called_of c.in_ok-name.name) (trees (map tree_of c.new.result))) c.place.ensures ∙ ap (λ n. apply (at c.args.i) (called n c.in_ok-name.name.scopes (own_of c.in_ok-name.name.style c.in_ok-name.name.text)) (trees (map tree_of c.new.result))) c.in_ok-name.ensures.place ∙ ap (λ ts. apply (at c.args.i) (called c.args.i c.in_ok-name.name.scopes (own_of c.in_ok-name.name.style c.in_ok-name.name.text)) (trees (map tree_of ts))) c.new.ensures) c.in_ok-tree.ensures)
 
 pub atom-returns-then-at_name : goal.atom-returns-then-at_name
-atom-returns-then-at_name m c = subst (λ e. IsReadClosed (lexemes c.args.source) s.Atom c.args.i e e c.in_ok-name.end) (sym (c.new-then-at_name.ensures ∙ tree_of_node-Apply _ _ _ ∙ ap (λ a. apply a (called_of c.in_ok-name.name) (trees (map tree_of c.new.result))) c.place.ensures ∙ ap (λ n. apply (at c.args.i) (called n c.in_ok-name.name.scopes (own_of c.in_ok-name.name.style c.in_ok-name.name.text)) (trees (map tree_of c.new.result))) c.in_ok-name.ensures.place ∙ ap (λ ts. apply (at c.args.i) (called c.args.i c.in_ok-name.name.scopes (own_of c.in_ok-name.name.style c.in_ok-name.name.text)) (trees (map tree_of ts))) c.new.ensures))
-    (name_read c.requires (scoped_of c.in_ok-name.name) c.in_ok-name.end (sym c.at_name.ensures ∙ c.if-at_name.true) c.in_ok-name.ensures.read)
+atom-returns-then-at_name m c = subst (λ e. IsReadClosed (lexemes c.args.source) s.Atom c.args.i e e c.in_ok-name.j) (sym (c.new-alone.ensures ∙ tree_of_node-Apply _ _ _ ∙ ap (λ a. apply a (called_of c.in_ok-name.name) (trees (map tree_of c.new.result))) c.place.ensures ∙ ap (λ n. apply (at c.args.i) (called n c.in_ok-name.name.scopes (own_of c.in_ok-name.name.style c.in_ok-name.name.text)) (trees (map tree_of c.new.result))) c.in_ok-name.ensures.place ∙ ap (λ ts. apply (at c.args.i) (called c.args.i c.in_ok-name.name.scopes (own_of c.in_ok-name.name.style c.in_ok-name.name.text)) (trees (map tree_of ts))) c.new.ensures))
+    (atom_alone (scoped_of c.in_ok-name.name) c.in_ok-name.j c.in_ok-name.ensures.read c.requires (sym c.at_name.ensures ∙ c.if-at_name.true) (sym c.at_field-has_field.ensures ∙ c.if-has_field.false))
 
 pub atom-plain_atom-requires : goal.atom-plain_atom-requires
 atom-plain_atom-requires m c = (search rules, (c.requires, (sym c.at_name.ensures ∙ c.if-at_name.false)))
@@ -224,32 +236,47 @@ plain_atom-returns-then-is_false m c = subst (λ e. IsReadClosed (lexemes c.args
 pub plain_atom-cases-requires : goal.plain_atom-cases-requires
 plain_atom-cases-requires m c = (search rules, (c.requires.can, (sym c.is_at-is_match.ensures ∙ c.if-is_match.true)))
 
-pub plain_atom-returns-then-is_empty : goal.plain_atom-returns-then-is_empty
-plain_atom-returns-then-is_empty m c = subst (λ e. IsReadClosed (lexemes c.args.source) s.Atom c.args.i e e (c.args.i + 1 + 1)) (sym (c.new-then-is_empty-2.ensures ∙ tree_of_node-Group _ _ ∙ ap (λ a. group a (trees (map tree_of c.new-then-is_empty.result))) c.place-here.ensures ∙ ap (λ ts. group (at c.args.i) (trees (map tree_of ts))) c.new-then-is_empty.ensures)) (record { first = refl; closed = refl; is = done (expand (paren_start c.requires.can (only_paren c.requires.can c.requires.unnamed (sym c.is_at-is_integer.ensures ∙ c.if-is_integer.false) (sym c.is_at-is_true.ensures ∙ c.if-is_true.false) (sym c.is_at-is_false.ensures ∙ c.if-is_false.false) (sym c.is_at-is_match.ensures ∙ c.if-is_match.false))) t.RParen (sym c.is_at-is_empty.ensures ∙ c.if-is_empty.true) refl refl) (group (at c.args.i) none) refl (λ k us. refl) })
+pub plain_atom-enclosed-requires : goal.plain_atom-enclosed-requires
+plain_atom-enclosed-requires m c = (search rules, (c.requires.can, (c.requires.unnamed, only_paren c.requires.can c.requires.unnamed (sym c.is_at-is_integer.ensures ∙ c.if-is_integer.false) (sym c.is_at-is_true.ensures ∙ c.if-is_true.false) (sym c.is_at-is_false.ensures ∙ c.if-is_false.false) (sym c.is_at-is_match.ensures ∙ c.if-is_match.false))))
 
-pub plain_atom-any_expression-requires : goal.plain_atom-any_expression-requires
-plain_atom-any_expression-requires m c = let h = inside c.args.source c.args.i (stands_due c.requires.can refl) in (search rules, can_next (inner_start c.requires.can (only_paren c.requires.can c.requires.unnamed (sym c.is_at-is_integer.ensures ∙ c.if-is_integer.false) (sym c.is_at-is_true.ensures ∙ c.if-is_true.false) (sym c.is_at-is_false.ensures ∙ c.if-is_false.false) (sym c.is_at-is_match.ensures ∙ c.if-is_match.false)) c.requires.unnamed (sym c.is_at-is_empty.ensures ∙ c.if-is_empty.false)))
+pub plain_atom-with_fields-requires : goal.plain_atom-with_fields-requires
+plain_atom-with_fields-requires m c = can_next c.in_ok-plain.ensures.is
 
-pub plain_atom-type_tree-requires : goal.plain_atom-type_tree-requires
-plain_atom-type_tree-requires m c = can_next (expand (next_expr (inner_start c.requires.can (only_paren c.requires.can c.requires.unnamed (sym c.is_at-is_integer.ensures ∙ c.if-is_integer.false) (sym c.is_at-is_true.ensures ∙ c.if-is_true.false) (sym c.is_at-is_false.ensures ∙ c.if-is_false.false) (sym c.is_at-is_match.ensures ∙ c.if-is_match.false)) c.requires.unnamed (sym c.is_at-is_empty.ensures ∙ c.if-is_empty.false)) refl c.in_ok-first.ensures) t.Colon (sym c.is_at-is_cast.ensures ∙ c.if-is_cast.true) refl refl)
+pub plain_atom-returns-then-is_match : goal.plain_atom-returns-then-is_match
+plain_atom-returns-then-is_match m c = atom_with c.in_ok-plain.ensures c.in_ok-tree.ensures
 
-pub plain_atom-returns-then-is_cast : goal.plain_atom-returns-then-is_cast
-plain_atom-returns-then-is_cast m c = subst (λ e. IsReadClosed (lexemes c.args.source) s.Atom c.args.i e e (c.in_ok-ty.end + 1)) (sym (c.new-tree.ensures ∙ tree_of_node-Cast _ _ _ ∙ ap (λ a. cast a (tree_of c.in_ok-held.held) (form_of c.in_ok-ty.ty)) c.place-here.ensures ∙ ap (λ e. cast (at c.args.i) (tree_of e) (form_of c.in_ok-ty.ty)) c.in_ok-held.ensures))
-    (record { first = refl; closed = refl; is = done (take (next (expand (next_expr (inner_start c.requires.can (only_paren c.requires.can c.requires.unnamed (sym c.is_at-is_integer.ensures ∙ c.if-is_integer.false) (sym c.is_at-is_true.ensures ∙ c.if-is_true.false) (sym c.is_at-is_false.ensures ∙ c.if-is_false.false) (sym c.is_at-is_match.ensures ∙ c.if-is_match.false)) c.requires.unnamed (sym c.is_at-is_empty.ensures ∙ c.if-is_empty.false)) refl c.in_ok-first.ensures) t.Colon (sym c.is_at-is_cast.ensures ∙ c.if-is_cast.true) refl refl) c.in_ok-ty.ensures)) (cast (at c.args.i) (tree_of c.in_ok-first.first) (form_of c.in_ok-ty.ty)) refl (λ k us. refl) })
-
-pub plain_atom-members-init : goal.plain_atom-members-init
-plain_atom-members-init m c = subst (λ ts. Members (lexemes c.args.source) c.args.i (map tree_of ts) c.in_ok-first.j) (sym (c.in_ok-push.ensures.items ∙ ap (λ v. v ++ c.in_ok-first.first ∷ []) c.new-parts.ensures.items))
-    (members_start (lexemes c.args.source) c.args.i (tree_of c.in_ok-first.first) c.in_ok-first.j (next_expr (inner_start c.requires.can (only_paren c.requires.can c.requires.unnamed (sym c.is_at-is_integer.ensures ∙ c.if-is_integer.false) (sym c.is_at-is_true.ensures ∙ c.if-is_true.false) (sym c.is_at-is_false.ensures ∙ c.if-is_false.false) (sym c.is_at-is_match.ensures ∙ c.if-is_match.false)) c.requires.unnamed (sym c.is_at-is_empty.ensures ∙ c.if-is_empty.false)) refl c.in_ok-first.ensures) (sym c.is_at-is_cast.ensures ∙ c.if-is_cast.false))
-
-pub plain_atom-any_expression-requires-in-members : goal.plain_atom-any_expression-requires-in-members
-plain_atom-any_expression-requires-in-members m c = let a : c.args.i + 1 ≤ c.members.j = c.members.invariant.ahead in let w = inside c.args.source c.members.j (next_within c.members.invariant refl) in (search rules, (can_next (expand c.members.invariant t.Comma (sym c.is_at.ensures ∙ c.members-test.true) refl refl)))
-
-pub plain_atom-members-preserved : goal.plain_atom-members-preserved
-plain_atom-members-preserved m c = subst (λ ts. Members (lexemes c.args.source) c.args.i ts c.in_ok-next.end) (sym (ap (map tree_of) c.in_ok-push-2.ensures.items ∙ map-append tree_of c.members.parts.items (c.in_ok-next.next ∷ [])))
-    (again (next_expr (expand c.members.invariant t.Comma (sym c.is_at.ensures ∙ c.members-test.true) refl refl) refl c.in_ok-next.ensures) 1 refl (λ k us. ap (λ w. (group (at c.args.i) w, us.1)) (many_more more (map tree_of c.members.parts.items) (tree_of c.in_ok-next.next) us.0)))
+pub plain_atom-with_fields-requires-2 : goal.plain_atom-with_fields-requires-2
+plain_atom-with_fields-requires-2 m c = can_next c.in_ok-plain-2.ensures.is
 
 pub plain_atom-returns : goal.plain_atom-returns
-plain_atom-returns m c = subst (λ e. IsReadClosed (lexemes c.args.source) s.Atom c.args.i e e (c.members.j + 1)) (sym (c.new-2.ensures ∙ tree_of_node-Group _ _ ∙ ap (λ a. group a (trees (map tree_of c.from_vec.result))) c.place-here.ensures ∙ ap (λ ts. group (at c.args.i) (trees (map tree_of ts))) c.from_vec.ensures)) (record { first = refl; closed = refl; is = done (expand c.members.invariant t.RParen (only c.members.invariant t.RParen (t.Comma ∷ []) refl refl ((sym c.is_at.ensures ∙ c.members-test.false), tt)) refl refl) (group (at c.args.i) (trees (map tree_of c.members.parts.items))) refl (λ k us. ap (λ w. (group (at c.args.i) w, us)) (trees_many (map tree_of c.members.parts.items))) })
+plain_atom-returns m c = atom_with c.in_ok-plain-2.ensures c.in_ok-tree-2.ensures
+
+pub enclosed-returns-then-is_empty : goal.enclosed-returns-then-is_empty
+enclosed-returns-then-is_empty m c = subst (λ e. IsReadPlain (lexemes c.args.source) c.args.i e (c.args.i + 1 + 1)) (sym (c.new-then-is_empty.ensures ∙ tree_of_node-Group _ _ ∙ ap (λ a. group a (trees (map tree_of c.new.result))) c.place-here.ensures ∙ ap (λ ts. group (at c.args.i) (trees (map tree_of ts))) c.new.ensures)) (record { first = refl; closed = refl; is = again (expand (paren_start c.requires.can c.requires.opens) t.RParen (sym c.is_at-is_empty.ensures ∙ c.if-is_empty.true) refl refl) 1 refl (λ k us. refl) })
+
+pub enclosed-any_expression-requires : goal.enclosed-any_expression-requires
+enclosed-any_expression-requires m c = let h = inside c.args.source c.args.i (stands_due c.requires.can refl) in (search rules, can_next (inner_start c.requires.can c.requires.opens c.requires.unnamed (sym c.is_at-is_empty.ensures ∙ c.if-is_empty.false)))
+
+pub enclosed-type_tree-requires : goal.enclosed-type_tree-requires
+enclosed-type_tree-requires m c = can_next (expand (next_expr (inner_start c.requires.can c.requires.opens c.requires.unnamed (sym c.is_at-is_empty.ensures ∙ c.if-is_empty.false)) refl c.in_ok-first.ensures) t.Colon (sym c.is_at-is_cast.ensures ∙ c.if-is_cast.true) refl refl)
+
+pub enclosed-returns-then-is_cast : goal.enclosed-returns-then-is_cast
+enclosed-returns-then-is_cast m c = subst (λ e. IsReadPlain (lexemes c.args.source) c.args.i e (c.in_ok-ty.end + 1)) (sym (c.new-tree.ensures ∙ tree_of_node-Cast _ _ _ ∙ ap (λ a. cast a (tree_of c.in_ok-held.held) (form_of c.in_ok-ty.ty)) c.place-here.ensures ∙ ap (λ e. cast (at c.args.i) (tree_of e) (form_of c.in_ok-ty.ty)) c.in_ok-held.ensures))
+    (record { first = refl; closed = refl; is = again (take (next (expand (next_expr (inner_start c.requires.can c.requires.opens c.requires.unnamed (sym c.is_at-is_empty.ensures ∙ c.if-is_empty.false)) refl c.in_ok-first.ensures) t.Colon (sym c.is_at-is_cast.ensures ∙ c.if-is_cast.true) refl refl) c.in_ok-ty.ensures)) 1 refl (λ k us. refl) })
+
+pub enclosed-members-init : goal.enclosed-members-init
+enclosed-members-init m c = subst (λ ts. Members (lexemes c.args.source) c.args.i (map tree_of ts) c.in_ok-first.j) (sym (c.in_ok-push.ensures.items ∙ ap (λ v. v ++ c.in_ok-first.first ∷ []) c.new-parts.ensures.items))
+    (members_start (lexemes c.args.source) c.args.i (tree_of c.in_ok-first.first) c.in_ok-first.j (next_expr (inner_start c.requires.can c.requires.opens c.requires.unnamed (sym c.is_at-is_empty.ensures ∙ c.if-is_empty.false)) refl c.in_ok-first.ensures) (sym c.is_at-is_cast.ensures ∙ c.if-is_cast.false))
+
+pub enclosed-any_expression-requires-in-members : goal.enclosed-any_expression-requires-in-members
+enclosed-any_expression-requires-in-members m c = let a : c.args.i + 1 ≤ c.members.j = c.members.invariant.ahead in let w = inside c.args.source c.members.j (next_within c.members.invariant refl) in (search rules, (can_next (expand c.members.invariant t.Comma (sym c.is_at.ensures ∙ c.members-test.true) refl refl)))
+
+pub enclosed-members-preserved : goal.enclosed-members-preserved
+enclosed-members-preserved m c = subst (λ ts. Members (lexemes c.args.source) c.args.i ts c.in_ok-next.end) (sym (ap (map tree_of) c.in_ok-push-2.ensures.items ∙ map-append tree_of c.members.parts.items (c.in_ok-next.next ∷ [])))
+    (again (next_expr (expand c.members.invariant t.Comma (sym c.is_at.ensures ∙ c.members-test.true) refl refl) refl c.in_ok-next.ensures) 1 refl (λ k us. ap (λ w. (accessed c.args.i (group (at c.args.i) w) us.1.0, us.1.1)) (many_more more (map tree_of c.members.parts.items) (tree_of c.in_ok-next.next) us.0)))
+
+pub enclosed-returns : goal.enclosed-returns
+enclosed-returns m c = subst (λ e. IsReadPlain (lexemes c.args.source) c.args.i e (c.members.j + 1)) (sym (c.new-2.ensures ∙ tree_of_node-Group _ _ ∙ ap (λ a. group a (trees (map tree_of c.from_vec.result))) c.place-here.ensures ∙ ap (λ ts. group (at c.args.i) (trees (map tree_of ts))) c.from_vec.ensures)) (record { first = refl; closed = refl; is = again (expand c.members.invariant t.RParen (only c.members.invariant t.RParen (t.Comma ∷ []) refl refl ((sym c.is_at.ensures ∙ c.members-test.false), tt)) refl refl) 1 refl (λ k us. ap (λ w. (accessed c.args.i (group (at c.args.i) w) us.0, us.1)) (trees_many (map tree_of c.members.parts.items))) })
 
 pub cases-any_expression-requires : goal.cases-any_expression-requires
 cases-any_expression-requires m c = let h = inside c.args.source c.args.i (stands_due c.requires.can refl) in (search rules, can_next (M.match_start c.requires.can c.requires.word))
@@ -263,27 +290,27 @@ cases-any_expression-requires-in-scrutinees m c = let a : c.args.i + 1 ≤ c.scr
 
 pub cases-scrutinees-preserved : goal.cases-scrutinees-preserved
 cases-scrutinees-preserved m c = subst (λ ts. M.Matched (lexemes c.args.source) c.args.i ts c.in_ok-next.end) (sym (ap (map tree_of) c.in_ok-push-2.ensures.items ∙ map-append tree_of c.scrutinees.scrutinees.items (c.in_ok-next.next ∷ [])))
-    (again (next_expr (expand c.scrutinees.invariant t.Comma (sym c.is_at.ensures ∙ c.scrutinees-test.true) refl refl) refl c.in_ok-next.ensures) 1 refl (λ k us. ap (λ v. (cases (at c.args.i) v us.0.bar us.0.branches, us.1)) (many_more more (map tree_of c.scrutinees.scrutinees.items) (tree_of c.in_ok-next.next) us.0.others)))
+    (again (next_expr (expand c.scrutinees.invariant t.Comma (sym c.is_at.ensures ∙ c.scrutinees-test.true) refl refl) refl c.in_ok-next.ensures) 1 refl (λ k us. ap (λ v. (accessed c.args.i (cases (at c.args.i) v us.0.bar us.0.branches) us.1.0, us.1.1)) (many_more more (map tree_of c.scrutinees.scrutinees.items) (tree_of c.in_ok-next.next) us.0.others)))
 
 pub cases-past_bar-bar-requires : goal.cases-past_bar-bar-requires
 cases-past_bar-bar-requires m c = inside c.args.source (c.scrutinees.j + 1) (next_within (M.with_start (lexemes c.args.source) c.args.i (map tree_of c.scrutinees.scrutinees.items) c.scrutinees.j c.scrutinees.invariant (sym c.is_at.ensures ∙ c.scrutinees-test.false)) refl)
 
 pub cases-branch-alloc-requires : goal.cases-branch-alloc-requires
-cases-branch-alloc-requires m c = let g = (branching_start (lexemes c.args.source) c.args.i (map tree_of c.scrutinees.scrutinees.items) c.scrutinees.j c.scrutinees.invariant (sym c.is_at.ensures ∙ c.scrutinees-test.false) c.past_bar-bar.result.0 c.past_bar-bar.result.1 c.past_bar-bar.ensures.bar c.past_bar-bar.ensures.begins) in let a : c.args.i + 1 ≤ c.past_bar-bar.result.1 = g.ahead in let h = inside c.args.source c.args.i (stands_due c.requires.can refl) in (search rules, can_run g)
+cases-branch-alloc-requires m c = let g = (branching_start (lexemes c.args.source) c.args.i (map tree_of c.scrutinees.scrutinees.items) c.scrutinees.j c.scrutinees.invariant (sym c.is_at.ensures ∙ c.scrutinees-test.false) c.past_bar-bar.result.0 c.past_bar-bar.result.1 c.past_bar-bar.ensures.bar c.past_bar-bar.ensures.begins) in let a : c.args.i + 1 ≤ c.past_bar-bar.result.1 = g.ahead in let h = inside c.args.source c.args.i (stands_due c.requires.can refl) in (search rules, run_over {from = λ k. s.Pat ∷ s.Arm ∷ k} (λ k. s.Dots ∷ k) (can_run g))
 
 pub cases-arms-init : goal.cases-arms-init
 cases-arms-init m c = subst (λ bs. M.Branched (lexemes c.args.source) c.args.i (map tree_of c.scrutinees.scrutinees.items) c.past_bar-bar.result.0 (map arm_of bs) c.in_ok-arm.n) (sym (c.in_ok-push-3.ensures.items ∙ ap (λ v. v ++ c.in_ok-arm.arm ∷ []) c.new-arms.ensures.items))
     (M.branched_more (lexemes c.args.source) c.args.i (map tree_of c.scrutinees.scrutinees.items) c.past_bar-bar.result.0 [] c.past_bar-bar.result.1 (arm_of c.in_ok-arm.arm) c.in_ok-arm.n (branching_start (lexemes c.args.source) c.args.i (map tree_of c.scrutinees.scrutinees.items) c.scrutinees.j c.scrutinees.invariant (sym c.is_at.ensures ∙ c.scrutinees-test.false) c.past_bar-bar.result.0 c.past_bar-bar.result.1 c.past_bar-bar.ensures.bar c.past_bar-bar.ensures.begins) c.in_ok-arm.ensures)
 
 pub cases-branch-alloc-requires-in-arms : goal.cases-branch-alloc-requires-in-arms
-cases-branch-alloc-requires-in-arms m c = let a : c.args.i + 1 ≤ c.arms.n = c.arms.invariant.ahead in let w = inside c.args.source c.arms.n (next_within c.arms.invariant refl) in (search rules, can_run (M.branch_start (lexemes c.args.source) c.args.i (map tree_of c.scrutinees.scrutinees.items) c.past_bar-bar.result.0 (map arm_of c.arms.arms.items) c.arms.n c.arms.invariant (sym c.is_at-in-arms.ensures ∙ c.arms-test.true)))
+cases-branch-alloc-requires-in-arms m c = let a : c.args.i + 1 ≤ c.arms.n = c.arms.invariant.ahead in let w = inside c.args.source c.arms.n (next_within c.arms.invariant refl) in (search rules, run_over {from = λ k. s.Pat ∷ s.Arm ∷ k} (λ k. s.Dots ∷ k) (can_run (M.branch_start (lexemes c.args.source) c.args.i (map tree_of c.scrutinees.scrutinees.items) c.past_bar-bar.result.0 (map arm_of c.arms.arms.items) c.arms.n c.arms.invariant (sym c.is_at-in-arms.ensures ∙ c.arms-test.true))))
 
 pub cases-arms-preserved : goal.cases-arms-preserved
 cases-arms-preserved m c = subst (λ bs. M.Branched (lexemes c.args.source) c.args.i (map tree_of c.scrutinees.scrutinees.items) c.past_bar-bar.result.0 bs c.in_ok-more.end) (sym (ap (map arm_of) c.in_ok-push-4.ensures.items ∙ map-append arm_of c.arms.arms.items (c.in_ok-more.more ∷ [])))
     (M.branched_more (lexemes c.args.source) c.args.i (map tree_of c.scrutinees.scrutinees.items) c.past_bar-bar.result.0 (map arm_of c.arms.arms.items) (c.arms.n + 1) (arm_of c.in_ok-more.more) c.in_ok-more.end (M.branch_start (lexemes c.args.source) c.args.i (map tree_of c.scrutinees.scrutinees.items) c.past_bar-bar.result.0 (map arm_of c.arms.arms.items) c.arms.n c.arms.invariant (sym c.is_at-in-arms.ensures ∙ c.arms-test.true)) c.in_ok-more.ensures)
 
 pub cases-returns : goal.cases-returns
-cases-returns m c = subst (λ e. IsReadClosed (lexemes c.args.source) s.Atom c.args.i e e (c.arms.n + 1)) (sym (c.new-tree.ensures ∙ tree_of_node-Match _ _ _ _ ∙ ap (λ a. cases a (trees (map tree_of c.from_vec.result)) c.past_bar-bar.result.0 (branches (map arm_of c.from_vec-2.result))) c.place-here.ensures ∙ ap (λ ts. cases (at c.args.i) (trees (map tree_of ts)) c.past_bar-bar.result.0 (branches (map arm_of c.from_vec-2.result))) c.from_vec.ensures ∙ ap (λ bs. cases (at c.args.i) (trees (map tree_of c.scrutinees.scrutinees.items)) c.past_bar-bar.result.0 (branches (map arm_of bs))) c.from_vec-2.ensures)) (record { first = refl; closed = refl; is = done (expand c.arms.invariant t.EndWord (only c.arms.invariant t.EndWord (t.Bar ∷ []) refl refl ((sym c.is_at-in-arms.ensures ∙ c.arms-test.false), tt)) refl refl) (cases (at c.args.i) (trees (map tree_of c.scrutinees.scrutinees.items)) c.past_bar-bar.result.0 (branches (map arm_of c.arms.arms.items))) refl (λ k us. ap (λ v. (cases (at c.args.i) (trees (map tree_of c.scrutinees.scrutinees.items)) c.past_bar-bar.result.0 v, us)) (M.branches_many (map arm_of c.arms.arms.items))) })
+cases-returns m c = subst (λ e. IsReadPlain (lexemes c.args.source) c.args.i e (c.arms.n + 1)) (sym (c.new-tree.ensures ∙ tree_of_node-Match _ _ _ _ ∙ ap (λ a. cases a (trees (map tree_of c.from_vec.result)) c.past_bar-bar.result.0 (branches (map arm_of c.from_vec-2.result))) c.place-here.ensures ∙ ap (λ ts. cases (at c.args.i) (trees (map tree_of ts)) c.past_bar-bar.result.0 (branches (map arm_of c.from_vec-2.result))) c.from_vec.ensures ∙ ap (λ bs. cases (at c.args.i) (trees (map tree_of c.scrutinees.scrutinees.items)) c.past_bar-bar.result.0 (branches (map arm_of bs))) c.from_vec-2.ensures)) (record { first = refl; closed = refl; is = again (expand c.arms.invariant t.EndWord (only c.arms.invariant t.EndWord (t.Bar ∷ []) refl refl ((sym c.is_at-in-arms.ensures ∙ c.arms-test.false), tt)) refl refl) 1 refl (λ k us. ap (λ v. (accessed c.args.i (cases (at c.args.i) (trees (map tree_of c.scrutinees.scrutinees.items)) c.past_bar-bar.result.0 v) us.0, us.1)) (M.branches_many (map arm_of c.arms.arms.items))) })
 
 pub branch-alternative-requires : goal.branch-alternative-requires
 branch-alternative-requires m c = c.requires
@@ -386,26 +413,26 @@ plain_atom-overflow_add-result-then-is_true m c = let h = inside c.args.source c
 pub plain_atom-overflow_add-result-then-is_false : goal.plain_atom-overflow_add-result-then-is_false
 plain_atom-overflow_add-result-then-is_false m c = let h = inside c.args.source c.args.i (stands_due c.requires.can refl) in search rules
 
-pub plain_atom-overflow_add-behind : goal.plain_atom-overflow_add-behind
-plain_atom-overflow_add-behind m c = let h = inside c.args.source c.args.i (stands_due c.requires.can refl) in search rules
+pub enclosed-overflow_add-behind : goal.enclosed-overflow_add-behind
+enclosed-overflow_add-behind m c = let h = inside c.args.source c.args.i (stands_due c.requires.can refl) in search rules
 
-pub plain_atom-overflow_add-result-then-is_empty : goal.plain_atom-overflow_add-result-then-is_empty
-plain_atom-overflow_add-result-then-is_empty m c = let h = inside c.args.source c.args.i (stands_due c.requires.can refl) in search rules
+pub enclosed-overflow_add-result : goal.enclosed-overflow_add-result
+enclosed-overflow_add-result m c = let h = inside c.args.source c.args.i (stands_due c.requires.can refl) in search rules
 
-pub plain_atom-overflow_add-j : goal.plain_atom-overflow_add-j
-plain_atom-overflow_add-j m c = let h = upto c.args.source c.in_ok-first.j c.in_ok-first.ensures.within in search rules
+pub enclosed-overflow_add-j : goal.enclosed-overflow_add-j
+enclosed-overflow_add-j m c = let h = upto c.args.source c.in_ok-first.j c.in_ok-first.ensures.within in search rules
 
-pub plain_atom-overflow_add-result-then-is_cast : goal.plain_atom-overflow_add-result-then-is_cast
-plain_atom-overflow_add-result-then-is_cast m c = let h = upto c.args.source c.in_ok-ty.end c.in_ok-ty.ensures.within in search rules
+pub enclosed-overflow_add-result-then-is_cast : goal.enclosed-overflow_add-result-then-is_cast
+enclosed-overflow_add-result-then-is_cast m c = let h = upto c.args.source c.in_ok-ty.end c.in_ok-ty.ensures.within in search rules
 
-pub plain_atom-overflow_add-j-in-members : goal.plain_atom-overflow_add-j-in-members
-plain_atom-overflow_add-j-in-members m c = let h = inside c.args.source c.members.j (next_within c.members.invariant refl) in search rules
+pub enclosed-overflow_add-j-in-members : goal.enclosed-overflow_add-j-in-members
+enclosed-overflow_add-j-in-members m c = let h = inside c.args.source c.members.j (next_within c.members.invariant refl) in search rules
 
-pub plain_atom-members-smaller : goal.plain_atom-members-smaller
-plain_atom-members-smaller m c = let h = inside c.args.source c.members.j (next_within c.members.invariant refl) in let a : c.members.j + 1 < c.in_ok-next.end = c.in_ok-next.ensures.ahead in omega (arith, h, a)
+pub enclosed-members-smaller : goal.enclosed-members-smaller
+enclosed-members-smaller m c = let h = inside c.args.source c.members.j (next_within c.members.invariant refl) in let a : c.members.j + 1 < c.in_ok-next.end = c.in_ok-next.ensures.ahead in omega (arith, h, a)
 
-pub plain_atom-overflow_add-result-2 : goal.plain_atom-overflow_add-result-2
-plain_atom-overflow_add-result-2 m c = let h = inside c.args.source c.members.j (next_within c.members.invariant refl) in search rules
+pub enclosed-overflow_add-result-2 : goal.enclosed-overflow_add-result-2
+enclosed-overflow_add-result-2 m c = let h = inside c.args.source c.members.j (next_within c.members.invariant refl) in search rules
 
 pub cases-overflow_add-i : goal.cases-overflow_add-i
 cases-overflow_add-i m c = let h = inside c.args.source c.args.i (stands_due c.requires.can refl) in search rules

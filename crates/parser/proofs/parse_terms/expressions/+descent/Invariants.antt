@@ -46,6 +46,9 @@ decreases-arguments l = 8 * (length l.source.tokens.now - l.i) + 4
 abbrev pub decreases-plain_atom : goal.decreases-plain_atom
 decreases-plain_atom l = 8 * (length l.source.tokens.now - l.i) + 2
 
+abbrev pub decreases-enclosed : goal.decreases-enclosed
+decreases-enclosed l = 8 * (length l.source.tokens.now - l.i) + 1
+
 abbrev pub decreases-cases : goal.decreases-cases
 decreases-cases l = 8 * (length l.source.tokens.now - l.i) + 1
 
@@ -82,11 +85,11 @@ invariant-arguments-arguments l = Arguments (lexemes l.source) l.fn.i (map tree_
 abbrev pub decreases-arguments-arguments : goal.decreases-arguments-arguments
 decreases-arguments-arguments l = length l.source.tokens.now - l.j
 
-abbrev pub invariant-plain_atom-members : goal.invariant-plain_atom-members
-invariant-plain_atom-members l = Members (lexemes l.source) l.fn.i (map tree_of l.parts.items) l.j
+abbrev pub invariant-enclosed-members : goal.invariant-enclosed-members
+invariant-enclosed-members l = Members (lexemes l.source) l.fn.i (map tree_of l.parts.items) l.j
 
-abbrev pub decreases-plain_atom-members : goal.decreases-plain_atom-members
-decreases-plain_atom-members l = length l.source.tokens.now - l.j
+abbrev pub decreases-enclosed-members : goal.decreases-enclosed-members
+decreases-enclosed-members l = length l.source.tokens.now - l.j
 
 abbrev pub invariant-cases-scrutinees : goal.invariant-cases-scrutinees
 invariant-cases-scrutinees l = Matched (lexemes l.source) l.fn.i (map tree_of l.scrutinees.items) l.j

@@ -1,4 +1,4 @@
-use Rattle.surface.proofs.unparse.Common.{arith, ◌∙◌, common_steps, arm_of-fields, terms_of-fields, tree_is, tree_of_node-Apply, tree_of_node-Int, tree_of_node-True, tree_of_node-False, tree_of_node-Group, tree_of_node-Cast, tree_of_node-Match, tree_of_node-Prefix, tree_of_node-Not, tree_of_node-Binary, tree_of_node-If, tree_of_node-Let, tree_of_node-Quant}
+use Rattle.surface.proofs.unparse.Common.{arith, ◌∙◌, common_steps, arm_of-fields, terms_of-fields, tree_is, tree_of_node-Apply, tree_of_node-Int, tree_of_node-True, tree_of_node-False, tree_of_node-Group, tree_of_node-Cast, tree_of_node-Match, tree_of_node-Dot, tree_of_node-Prefix, tree_of_node-Not, tree_of_node-Binary, tree_of_node-If, tree_of_node-Let, tree_of_node-Quant}
 use Rattle.surface.proofs.unparse.expressions.+writing.Goals as goal
 
 pub push_arm-returns : goal.push_arm-returns
@@ -24,6 +24,9 @@ push_expr-returns-in-Cast t c = let is = tree_is c.args.e.now _ c.in-Cast.is ∙
 
 pub push_expr-returns-in-Match : goal.push_expr-returns-in-Match
 push_expr-returns-in-Match t c = let is = tree_is c.args.e.now _ c.in-Match.is ∙ tree_of_node-Match _ _ _ _ in grind (arith, common_steps)
+
+pub push_expr-returns-in-Dot : goal.push_expr-returns-in-Dot
+push_expr-returns-in-Dot t c = let is = tree_is c.args.e.now _ c.in-Dot.is ∙ tree_of_node-Dot _ _ _ in grind (arith, common_steps)
 
 pub push_expr-returns-in-Prefix : goal.push_expr-returns-in-Prefix
 push_expr-returns-in-Prefix t c = let is = tree_is c.args.e.now _ c.in-Prefix.is ∙ tree_of_node-Prefix _ _ _ in grind (arith, common_steps)
