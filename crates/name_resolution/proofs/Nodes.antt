@@ -21,8 +21,8 @@ use Rattle.surface.specs.declared.expressions.ExprNode.TheVariants as ev
 use Rattle.surface.specs.Lexeme.{Word}
 use Rattle.surface.specs.Surface as code
 use Rattle.surface.specs.Surface.{own_of, op_of, integer_word, pattern_step, pattern_whole, pattern_of_node}
-use Rattle.surface.proofs.TreeLemmas.{form_is, tree_is, pattern_is, pattern_of-node, terms_of-fields, arm_of-fields, form_of_node-Var, form_of_node-Named, form_of_node-Group, tree_of_node-Apply, tree_of_node-Int, tree_of_node-True, tree_of_node-False, tree_of_node-Group, tree_of_node-Cast, tree_of_node-Prefix, tree_of_node-Not, tree_of_node-Binary, tree_of_node-If, tree_of_node-Let, tree_of_node-Match, tree_of_node-Quant, pattern_of_node-Wild, pattern_of_node-Var, pattern_of_node-Con, pattern_of_node-Group, pattern_of_node-Alias}
-use Rattle.name_resolution.specs.Abstract.{variable_type, composed_type, more_types, BoundNames, Expressions, applied_expression, integer_expression, true_expression, false_expression, cast_expression, not_expression, if_expression, quantified_expression, no_expressions, more_expressions, text_of_own, prefix_name, spelled, operator_meaning, operated, grouped_forms, grouped, integer_value, binder, binders_of, let_by, let_name, type_expression, type_expressions, expression, expressions, type_expression_of, expression_of, forms_of, expressions_of, wildcard_pattern, variable_pattern, constructor_pattern, alias_pattern, more_patterns, grouped_patterns, pattern, pattern_list, abstract_pattern_of, patterns_of, triggers_of, match_expression, match_branches, first_tree, more_branches, branch_alternatives, alternatives_of, branches_of, form_place, first_form}
+use Rattle.surface.proofs.TreeLemmas.{form_is, tree_is, pattern_is, pattern_of-node, terms_of-fields, arm_of-fields, form_of_node-Var, form_of_node-Named, form_of_node-Group, tree_of_node-Apply, tree_of_node-Int, tree_of_node-True, tree_of_node-False, tree_of_node-Group, tree_of_node-Cast, tree_of_node-Dot, tree_of_node-Prefix, tree_of_node-Not, tree_of_node-Binary, tree_of_node-If, tree_of_node-Let, tree_of_node-Match, tree_of_node-Quant, pattern_of_node-Wild, pattern_of_node-Var, pattern_of_node-Con, pattern_of_node-Group, pattern_of_node-Alias}
+use Rattle.name_resolution.specs.Abstract.{variable_type, composed_type, more_types, BoundNames, Expressions, applied_expression, integer_expression, true_expression, false_expression, cast_expression, field_expression, not_expression, if_expression, quantified_expression, no_expressions, more_expressions, text_of_own, prefix_name, spelled, operator_meaning, operated, grouped_forms, grouped, integer_value, binder, binders_of, let_by, let_name, type_expression, type_expressions, expression, expressions, type_expression_of, expression_of, forms_of, expressions_of, wildcard_pattern, variable_pattern, constructor_pattern, alias_pattern, more_patterns, grouped_patterns, pattern, pattern_list, abstract_pattern_of, patterns_of, triggers_of, match_expression, match_branches, first_tree, more_branches, branch_alternatives, alternatives_of, branches_of, form_place, first_form}
 
 pub forms_are : (xs : List TypeTree) → type_expressions (code.forms (map code.form_of xs)) ≡ forms_of xs
 forms_are [] = refl
@@ -61,6 +61,9 @@ expression_at-Cast e a t is = ap expression (tree_is e (ev.Cast a t) is ∙ tree
 
 pub expression_at-Prefix : (e : Expr) (o : OpName) (a : Expr) → e.node ≡ ev.Prefix o a → expression_of e ≡ applied_expression e.at.main [] (prefix_name (spelled (op_of o).terminal (op_of o).text)) (more_expressions (expression_of a) no_expressions)
 expression_at-Prefix e o a is = ap expression (tree_is e (ev.Prefix o a) is ∙ tree_of_node-Prefix o a e.at)
+
+pub expression_at-Dot : (e : Expr) (a : Expr) (q : QName) → e.node ≡ ev.Dot a q → expression_of e ≡ field_expression e.at.main (expression_of a) q.at q.scopes (text_of_own (own_of q.style q.text))
+expression_at-Dot e a q is = ap expression (tree_is e (ev.Dot a q) is ∙ tree_of_node-Dot a q e.at)
 
 pub expression_at-Not : (e : Expr) (a : Expr) → e.node ≡ ev.Not a → expression_of e ≡ not_expression e.at.main (expression_of a)
 expression_at-Not e a is = ap expression (tree_is e (ev.Not a) is ∙ tree_of_node-Not a e.at)

@@ -1,14 +1,14 @@
 -- The first fault of names of small sources: by computation alone.
-use Rattle.std.proofs.Common.{◌≡◌, ℕ, Bool, true, false, cond, List, [], ◌∷◌, Option, Some, None, refl, codes}
+use Rattle.std.proofs.Common.{◌≡◌, ℕ, ◌+◌, Bool, true, false, cond, List, [], ◌∷◌, Option, Some, None, refl, codes}
 use Rattle.std.specs.Str.{bytes_eq}
 use Rattle.tasks.specs.trees.declared.Op.TheVariants.{And}
 use Rattle.tasks.specs.trees.Tree.{Tree}
 use Rattle.tasks.specs.trees.Sorts.{int_type}
 use Rattle.tasks.specs.declared.signature.SymbolKind.{SymbolKind}
-use Rattle.tasks.specs.declared.signature.SymbolKind.TheVariants.{Kind, Function, Predicate, Constructor}
+use Rattle.tasks.specs.declared.signature.SymbolKind.TheVariants.{Kind, Function, Predicate, Constructor, Projection}
 use Rattle.tasks.specs.Task.{SymbolTree, int_symbol}
 use Rattle.surface.specs.Lexeme.{Word}
-use Rattle.name_resolution.specs.Abstract.{variable_type, composed_type, no_types, Pattern, wildcard_pattern, variable_pattern, constructor_pattern, alias_pattern, no_patterns, more_patterns, Alternatives, no_alternatives, more_alternatives, Expression, applied_expression, true_expression, not_expression, connected_expression, equality_expression, let_expression, match_expression, quantified_expression, no_expressions, more_expressions, no_branches, more_branches}
+use Rattle.name_resolution.specs.Abstract.{variable_type, composed_type, no_types, Pattern, wildcard_pattern, variable_pattern, constructor_pattern, alias_pattern, no_patterns, more_patterns, Alternatives, no_alternatives, more_alternatives, Expression, applied_expression, true_expression, field_expression, not_expression, connected_expression, equality_expression, let_expression, match_expression, quantified_expression, no_expressions, more_expressions, no_branches, more_branches}
 use Rattle.name_resolution.specs.declared.NamingFault.{NamingFault}
 use Rattle.name_resolution.specs.declared.NamingFault.TheVariants.{Unknown, Duplicate, WrongKind, Arity}
 use Rattle.name_resolution.specs.Where.{Where}
@@ -23,13 +23,13 @@ called [] qs x = None
 called (p ∷ ps) [] x = cond (bytes_eq p.0 x) (Some p.1) (called ps [] x)
 called (p ∷ ps) (q ∷ qs) x = None
 
--- a type `t`, a constant `c`, predicates `p` of one argument and `q` of none, constructors `Nil` and `Cons`, an alias `rows`
+-- a type `t`, a constant `c`, predicates `p` of one argument and `q` of none, constructors `Nil` and `Cons`, a field `head`, an alias `rows`
 abbrev here : Where
 here = record {
   symbols = int_symbol ∷ entry (codes "t") Kind 0 [] ∷ entry (codes "c") Function 0 [] ∷ entry (codes "p") Predicate 0 (int_type ∷ []) ∷ entry (codes "q") Predicate 0 []
-      ∷ entry (codes "Nil") Constructor 0 [] ∷ entry (codes "Cons") Constructor 0 (int_type ∷ int_type ∷ []) ∷ [];
+      ∷ entry (codes "Nil") Constructor 0 [] ∷ entry (codes "Cons") Constructor 0 (int_type ∷ int_type ∷ []) ∷ entry (codes "head") Projection 0 (int_type ∷ []) ∷ [];
   types = called ((codes "rows", stands.Alias 1 int_type) ∷ (codes "t", stands.Entry 1) ∷ []);
-  names = called ((codes "c", 2) ∷ (codes "p", 3) ∷ (codes "q", 4) ∷ (codes "Nil", 5) ∷ (codes "Cons", 6) ∷ []);
+  names = called ((codes "c", 2) ∷ (codes "p", 3) ∷ (codes "q", 4) ∷ (codes "Nil", 5) ∷ (codes "Cons", 6) ∷ (codes "head", 7) ∷ []);
   tuples = λ n. None;
   vars = codes "'a" ∷ [];
 }
@@ -71,6 +71,32 @@ left_first = refl
 
 operator_first : formula_fault (call 0 (codes "p") (not_expression 2 (name 3 (codes "r")))) ≡ Some (WrongKind 2)
 operator_first = refl
+
+-- `c.head`: a field, one that isn't there, a name of another kind, a field for a formula, and `r.s`: a fault of the term before is first
+abbrev field : ℕ → Expression → Word → Expression
+field i e x = field_expression i e (i + 2) [] x
+
+abbrev field_of_c : Word → Option NamingFault
+field_of_c x = fault here true [] false (field 0 (name 0 (codes "c")) x)
+
+good_field : field_of_c (codes "head") ≡ None
+good_field = refl
+
+unknown_field : field_of_c (codes "r") ≡ Some (Unknown 2)
+unknown_field = refl
+
+no_field : field_of_c (codes "Nil") ≡ Some (WrongKind 2)
+no_field = refl
+
+field_for_formula : formula_fault (field 0 (name 0 (codes "c")) (codes "head")) ≡ Some (WrongKind 2)
+field_for_formula = refl
+
+term_before_field : fault here true [] false (field 0 (name 0 (codes "r")) (codes "s")) ≡ Some (Unknown 0)
+term_before_field = refl
+
+-- `let head = c in c.head`: a variable doesn't hide a field
+field_behind_variable : fault here true [] false (let_expression 0 (codes "head") (name 3 (codes "c")) (field 5 (name 5 (codes "c")) (codes "head"))) ≡ None
+field_behind_variable = refl
 
 -- `let q = c in q`: the variable hides the predicate
 hidden : formula_fault (let_expression 0 (codes "q") (name 3 (codes "c")) (name 5 (codes "q"))) ≡ Some (WrongKind 5)

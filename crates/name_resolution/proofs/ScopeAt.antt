@@ -1,5 +1,5 @@
 -- What a name means is the same in the scopes of code, whose types have numbers of a store, and in those of definitions, whose types are trees.
-use Rattle.std.proofs.Common.{◌≡◌, Bool, true, false, cond, List, [], ◌∷◌, ◌++◌, Option, Some, None, ℕ, refl, ap, ◌∙◌}
+use Rattle.std.proofs.Common.{◌≡◌, Bool, true, false, cond, List, [], ◌∷◌, ◌++◌, Option, Some, None, refl, ap, ◌∙◌}
 use Rattle.std.specs.Prelude.{codes}
 use Rattle.std.specs.Option.{option_map}
 use Rattle.std.specs.Str.{bytes_eq}
@@ -8,10 +8,9 @@ use Rattle.surface.specs.Lexeme.{Word}
 use Rattle.scopes.specs.declared.Referent.{Referent}
 use Rattle.scopes.specs.declared.Referent.TheVariants as stands
 use Rattle.scopes.specs.declared.Table.TheVariants.{Types, Symbols}
-use Rattle.scopes.specs.Names.{NamesOf, ScopeNames, TypeName, find_name, referent_with, names_with}
+use Rattle.scopes.specs.Names.{NamesOf, ScopeNames, find_name, referent_with, names_with}
 use Rattle.scopes.proofs.Mapped.{found_with, number_found_with}
 use Rattle.name_resolution.specs.Naming.{symbol_named, or_int, type_named, type_tree_at, meaning_at, scope_at}
-use Rattle.name_resolution.specs.Where.{MeaningTree}
 
 module _ {A B : Type 0} (f : A → B) where
   or_int_with : (qs : List Word) (x : Word) (m : Option (Referent A)) → or_int qs x (option_map (referent_with f) m) ≡ option_map (referent_with f) (or_int qs x m)

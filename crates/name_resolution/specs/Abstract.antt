@@ -67,6 +67,8 @@ mutual
     false_expression : ℕ → Expression
     tuple_expression : ℕ → Expressions → Expression
     cast_expression : ℕ → Expression → TypeExpression → Expression
+    -- a field of a term: its name after its scopes has its own token
+    field_expression : ℕ → Expression → ℕ → List Word → Word → Expression
     not_expression : ℕ → Expression → Expression
     connected_expression : ℕ → Expression → Op → Expression → Expression
     -- `=`, or with `false` its negation `<>`
@@ -236,6 +238,7 @@ tree_place (tree.negation a e) = a
 tree_place (tree.binary a e o f) = a
 tree_place (tree.choice a c e f) = a
 tree_place (tree.cases a es bar bs) = a
+tree_place (tree.access a e c) = a
 tree_place (tree.binding a ps e f) = a
 tree_place (tree.quantified a all bs g e) = a
 
@@ -273,6 +276,8 @@ abbrev mutual
       if_expression a.main (expression c) (expression e) (expression f)
   expression (tree.cases a es bar bs) =
       match_expression a.main false (grouped (first_tree es) (expressions es)) (match_branches bs)
+  expression (tree.access a e c) =
+      field_expression a.main (expression e) c.at c.scopes (text_of_own c.own)
   expression (tree.binding a ps e f) = let_by (let_name ps) a.main ps (expression e) (expression f)
   expression (tree.quantified a all bs g e) =
       quantified_expression a.main all (map binder bs) (triggers g) (expression e)

@@ -5,9 +5,9 @@ use Rattle.std.specs.Option.{is_some, is_none}
 use Rattle.tasks.specs.Task.{SymbolTree, symbol_or}
 use Rattle.tasks.specs.Vocabulary.{is_constructor_kind}
 use Rattle.tasks.specs.declared.signature.SymbolKind.{SymbolKind}
-use Rattle.tasks.specs.declared.signature.SymbolKind.TheVariants.{Predicate}
+use Rattle.tasks.specs.declared.signature.SymbolKind.TheVariants.{Predicate, Projection}
 use Rattle.surface.specs.Lexeme.{Word}
-use Rattle.name_resolution.specs.Abstract.{TypeExpression, TypeExpressions, variable_type, composed_type, product_type, no_types, more_types, Pattern, Patterns, wildcard_pattern, variable_pattern, constructor_pattern, tuple_pattern, alias_pattern, no_patterns, more_patterns, Alternatives, no_alternatives, more_alternatives, BoundNames, Expression, Expressions, MatchBranches, applied_expression, infix_expression, integer_expression, true_expression, false_expression, tuple_expression, cast_expression, not_expression, connected_expression, equality_expression, if_expression, let_expression, match_expression, quantified_expression, no_expressions, more_expressions, no_branches, more_branches, count_forms, count_patterns, count_expressions, OperatorMeaning, connective_operator, equality_operator, symbol_operator}
+use Rattle.name_resolution.specs.Abstract.{TypeExpression, TypeExpressions, variable_type, composed_type, product_type, no_types, more_types, Pattern, Patterns, wildcard_pattern, variable_pattern, constructor_pattern, tuple_pattern, alias_pattern, no_patterns, more_patterns, Alternatives, no_alternatives, more_alternatives, BoundNames, Expression, Expressions, MatchBranches, applied_expression, infix_expression, integer_expression, true_expression, false_expression, tuple_expression, cast_expression, field_expression, not_expression, connected_expression, equality_expression, if_expression, let_expression, match_expression, quantified_expression, no_expressions, more_expressions, no_branches, more_branches, count_forms, count_patterns, count_expressions, OperatorMeaning, connective_operator, equality_operator, symbol_operator}
 use Rattle.name_resolution.specs.declared.NamingFault.{NamingFault}
 use Rattle.name_resolution.specs.declared.NamingFault.TheVariants.{Unknown, Duplicate, WrongKind, Arity}
 use Rattle.name_resolution.specs.Where.{Where, MeaningTree, place_of}
@@ -26,7 +26,8 @@ fault_if false f = None
 -- so many arguments belong to the name of a type
 abbrev pub meaning_fault : Where → ℕ → ℕ → Option MeaningTree → Option NamingFault
 meaning_fault w i n None = Some (Unknown i)
-meaning_fault w i n (Some (stands.Entry k)) = fault_if (not ((symbol_or w.symbols k).vars == n)) (Arity i)
+meaning_fault w i n (Some (stands.Entry k)) =
+    fault_if (not ((symbol_or w.symbols k).vars == n)) (Arity i)
 meaning_fault w i n (Some (stands.Alias vars t)) = fault_if (not (vars == n)) (Arity i)
 
 -- in an open declaration a type variable is new where it isn't there
@@ -47,6 +48,10 @@ abbrev pub is_predicate : SymbolKind → Bool
 is_predicate Predicate = true
 is_predicate _ = false
 
+abbrev pub is_projection : SymbolKind → Bool
+is_projection Projection = true
+is_projection _ = false
+
 abbrev pub differ : Bool → Bool → Bool
 differ true b = not b
 differ false b = b
@@ -59,6 +64,14 @@ entry_fault due i n e = first_of (fault_if (differ due (is_predicate e.kind)) (W
 abbrev pub symbol_fault : Where → Bool → ℕ → ℕ → Option ℕ → Option NamingFault
 symbol_fault w due i n None = Some (Unknown i)
 symbol_fault w due i n (Some k) = entry_fault due i n (symbol_or w.symbols k)
+
+-- the name of a field behind a term, which is looked for in the scopes alone; the function of a
+-- field has one argument, so the number of its arguments is never at fault
+abbrev pub field_fault : Where → Bool → ℕ → Option ℕ → Option NamingFault
+field_fault w due i None = Some (Unknown i)
+field_fault w due i (Some k) =
+    first_of (fault_if (not (is_projection (symbol_or w.symbols k).kind)) (WrongKind i))
+    (entry_fault due i 1 (symbol_or w.symbols k))
 
 abbrev pub local_fault : Bool → ℕ → ℕ → Option NamingFault
 local_fault due i n = first_of (fault_if due (WrongKind i)) (fault_if (not (n == 0)) (Arity i))
@@ -189,6 +202,7 @@ token (true_expression i) = i
 token (false_expression i) = i
 token (tuple_expression i es) = i
 token (cast_expression i e f) = i
+token (field_expression i e k qs x) = i
 token (not_expression i e) = i
 token (connected_expression i a o b) = i
 token (equality_expression i same a b) = i
@@ -229,6 +243,8 @@ abbrev mutual
   fault w open_ ls due (cast_expression i e f) =
       first_of (fault_if due (WrongKind i))
       (first_of (fault w open_ ls false e) (form_fault w open_ f))
+  fault w open_ ls due (field_expression i e k qs x) =
+      first_of (fault w open_ ls false e) (field_fault w due k (w.names qs x))
   fault w open_ ls due (not_expression i e) =
       first_of (fault_if (not due) (WrongKind i)) (fault w open_ ls true e)
   fault w open_ ls due (connected_expression i a o b) =

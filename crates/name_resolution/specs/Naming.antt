@@ -5,7 +5,6 @@ use Rattle.std.specs.Str.{bytes_eq}
 use Rattle.tasks.specs.trees.Tree.{Tree}
 use Rattle.tasks.specs.trees.Node.{tree_at}
 use Rattle.tasks.specs.Meaning.{symbols_at}
-use Rattle.tasks.specs.Task.{SymbolTree}
 pub use Rattle.tasks.specs.Entries.{builtin, is_tuple, tuple_from, tuple_in}
 use Rattle.surface.specs.Lexeme.{Word}
 use Rattle.surface.specs.Surface.{own_of, op_of}

@@ -6,7 +6,7 @@ ghost use Rattle.tasks.specs.trees.Tree.{Tree};
 ghost use Rattle.tasks.specs.Meaning.{symbol_at};
 ghost use Rattle.tasks.specs.Task.{int_symbol};
 ghost use Rattle.name_resolution.specs.Abstract.{expression_of, expressions_of, grouped, triggers_of, let_name, more_alternatives, first_form, side_by_side, alternatives_of, branches_of};
-ghost use Rattle.name_resolution.specs.Faults.{first_of, fault_if, fault, faults, symbol_fault, name_fault, entry_fault, triggers_fault, branch_fault, branches_fault, has_alternative};
+ghost use Rattle.name_resolution.specs.Faults.{first_of, fault_if, fault, faults, symbol_fault, field_fault, name_fault, entry_fault, triggers_fault, branch_fault, branches_fault, has_alternative};
 ghost use Rattle.name_resolution.specs.declared.NamingFault.TheVariants.{WrongKind};
 ghost use Rattle.name_resolution.specs.Naming.{Tells, names_at, where_at, symbol_named};
 ghost use Rattle.surface.specs.Surface as code;
@@ -15,7 +15,7 @@ use crate::NamingFault;
 use crate::bound::{Names, is_variable};
 use crate::operators::{Operation, infix_operation, own_name, prefix_operator};
 use crate::patterns::{check_alternatives, check_patterns};
-use crate::triggers::{is_formula_head, is_predicate, trigger_of};
+use crate::triggers::{is_formula_head, is_predicate, is_projection, trigger_of};
 use crate::type_names::{check_binders, check_form, refuse_if};
 use crate::world::World;
 use std::alloc::Global;
@@ -58,6 +58,27 @@ fn check_use(
         Some(info) => check_entry(due, token, count, info),
         None => check_absent(due, token, count),
     }
+}
+
+// The name of a field behind a term.
+fn check_field(
+    world: &World<'_>,
+    due: bool,
+    token: usize,
+    scopes: &[Text],
+    name: &[u8],
+) -> Result<(), NamingFault>
+    ensures { (s : List Tree) → Tells result (field_fault (where_at s world.now) due token
+        (symbol_named world.now.scope.now scopes.now name.now)) }
+{
+    let Some(symbol) = world.symbol_named(scopes, name) else {
+        return Err(NamingFault::Unknown { token });
+    };
+    let Some(info) = world.symbols.get(symbol) else {
+        return Err(NamingFault::WrongKind { token });
+    };
+    refuse_if(!is_projection(info.kind), NamingFault::WrongKind { token })?;
+    check_entry(due, token, 1, info)
 }
 
 // A name that is before so many arguments.
@@ -144,6 +165,17 @@ pub fn check(
             refuse_if(due, NamingFault::WrongKind { token })?;
             check(alloc, inner.get(), world, names, false)?;
             check_form(alloc, ty, world)
+        }
+        ExprNode::Dot(inner, field) => {
+            let own = own_name(alloc, field.style, field.text.as_slice())?;
+            check(alloc, inner.get(), world, names, false)?;
+            check_field(
+                world,
+                due,
+                field.at,
+                field.scopes.as_slice(),
+                own.as_slice(),
+            )
         }
         ExprNode::Not(inner) => {
             refuse_if(!due, NamingFault::WrongKind { token })?;

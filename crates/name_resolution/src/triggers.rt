@@ -4,7 +4,7 @@ ghost use Rattle.std.specs.Prelude.{◌≡◌, List, IfOk};
 ghost use Rattle.tasks.specs.trees.Tree.{Tree};
 ghost use Rattle.name_resolution.specs.Abstract.{expression_of, expressions_of, grouped};
 ghost use Rattle.name_resolution.specs.Abstract.{operator_meaning};
-ghost use Rattle.name_resolution.specs.Faults.{is_predicate, trigger_head, trigger_named, trigger_other, operator_head, is_formula_head, makes_formulas};
+ghost use Rattle.name_resolution.specs.Faults.{is_predicate, is_projection, trigger_head, trigger_named, trigger_other, operator_head, is_formula_head, makes_formulas};
 ghost use Rattle.name_resolution.specs.Faults as faults;
 ghost use Rattle.name_resolution.specs.Naming.{names_at, where_at, head_at, symbol_named};
 ghost use Rattle.surface.specs.Surface.{op_of};
@@ -42,6 +42,17 @@ pub fn is_predicate(kind: SymbolKind) -> bool
         SymbolKind::Predicate => true,
         SymbolKind::Kind | SymbolKind::Function => false,
         SymbolKind::Constructor | SymbolKind::Projection => false,
+    }
+}
+
+/// Whether a kind is that of a field's function.
+pub fn is_projection(kind: SymbolKind) -> bool
+    ensures { result ≡ is_projection kind }
+{
+    match kind {
+        SymbolKind::Projection => true,
+        SymbolKind::Kind | SymbolKind::Function => false,
+        SymbolKind::Constructor | SymbolKind::Predicate => false,
     }
 }
 
@@ -94,6 +105,7 @@ pub fn trigger_of(e: &Expr) -> Trigger<'_>
         ExprNode::False => no_head(token),
         ExprNode::Cast(_, _) => no_head(token),
         ExprNode::Match(_, _, _) => no_head(token),
+        ExprNode::Dot(_, _) => no_head(token),
         ExprNode::Not(_) => no_head(token),
         ExprNode::If(_, _, _) => no_head(token),
         ExprNode::Let(_, _, _) => no_head(token),

@@ -5,12 +5,12 @@ use Rattle.trees.specs.Tree.{Tree, Leaf, Two, HCell, HEnd}
 use Rattle.trees.specs.Facts.{TyVarsBelow}
 use Rattle.tasks.specs.Equations.{type_variables}
 use Rattle.surface.specs.Lexeme.{Word}
-use Rattle.name_resolution.specs.Abstract.{Pattern, Patterns, wildcard_pattern, variable_pattern, constructor_pattern, tuple_pattern, alias_pattern, no_patterns, more_patterns, Alternatives, no_alternatives, more_alternatives, Expression, Expressions, MatchBranches, applied_expression, infix_expression, integer_expression, true_expression, false_expression, tuple_expression, cast_expression, not_expression, connected_expression, equality_expression, if_expression, let_expression, match_expression, quantified_expression, no_expressions, more_expressions, no_branches, more_branches, count_patterns, count_expressions}
+use Rattle.name_resolution.specs.Abstract.{Pattern, Patterns, wildcard_pattern, variable_pattern, constructor_pattern, tuple_pattern, alias_pattern, no_patterns, more_patterns, Alternatives, no_alternatives, more_alternatives, Expression, Expressions, MatchBranches, applied_expression, infix_expression, integer_expression, true_expression, false_expression, tuple_expression, cast_expression, field_expression, not_expression, connected_expression, equality_expression, if_expression, let_expression, match_expression, quantified_expression, no_expressions, more_expressions, no_branches, more_branches, count_patterns, count_expressions}
 use Rattle.name_resolution.specs.declared.NamingFault.TheVariants.{WrongKind}
-use Rattle.name_resolution.specs.Faults.{first_of, fault_if, form_fault, name_fault, binders_fault, bound_names, alternatives_fault, alternatives_names, fault, faults, triggers_fault, branches_fault}
+use Rattle.name_resolution.specs.Faults.{first_of, fault_if, form_fault, name_fault, field_fault, binders_fault, bound_names, alternatives_fault, alternatives_names, fault, faults, triggers_fault, branches_fault}
 use Rattle.name_resolution.specs.Where.{Where}
 use Rattle.open_types.specs.Patterns.{no_notes, follow, taken, LocalTree, local, first_or_int, rest_of, NumberedEntry, entry_of, Matched, part_types, constructed_by, pattern_piece, patterns_piece, later_pieces, alternatives_pieces, all_notes, first_variables, places_among, later_arms, arms}
-use Rattle.open_types.specs.Pieces.{type_at, NotedTree, unknown_after, unknown, noted_before, piece, pieces, triggers_notes, branches_arms, Arms, Use, Local', Symbol', use_of_name, tuple_use, used_piece, use_vars, parameters, equality, binders_vars, quantify, names}
+use Rattle.open_types.specs.Pieces.{type_at, NotedTree, unknown_after, unknown, noted_before, piece, pieces, triggers_notes, branches_arms, Arms, Use, Local', Symbol', use_of_name, tuple_use, field_use, used_piece, use_vars, parameters, equality, binders_vars, quantify, names}
 use Rattle.open_types.specs.Pieces as pieces_of
 use Rattle.open_types.specs.Scoped.{IsScoped}
 use Rattle.open_types.proofs.Below.{below_more, AreBelow, LocalsBelow, locals_more, wanted_more, list_more, both_all, reversed, reordered_below, variables_all, cells_below, first_below, rest_below, UseBelow, parameters_of, typed_use, quantified_below, symbol_scoped, use_below, form_below, bound_below}
@@ -174,6 +174,16 @@ module _ (w : Where) (sc : IsScoped w) where
         let p = none_both (fault_if due (WrongKind i)) (first_of (fault w false ns false e) (form_fault w false ty)) f in
         let q = none_both (fault w false ns false e) (form_fault w false ty) p.1 in
         bounded e ls n (Some (type_at w ty)) ns false h (below_more (type_at w ty) (length w.vars) n o (form_below w sc ty q.1)) o q.0
+    bounded (field_expression i e at qs x) ls n t ns due h k o f =
+        let p = none_both (fault w false ns false e) (field_fault w due at (w.names qs x)) f in
+        let u = field_use w qs x in
+        let ub = symbol_scoped w sc (w.names qs x) in
+        let m = n + use_vars u in
+        let ts = parameters n u in
+        let only = piece w ls m (Some (first_or_int ts)) e in
+        let b = bounded e ls m (Some (first_or_int ts)) ns false (locals_more ls n m (omega arith) h) (first_below m ts (parameters_of n u ub)) (omega (arith, o)) p.0 in
+        let z = m + length (only.notes.takers ++ []) in
+        used_below n t i u (record { tree = Two HCell only.tree (Leaf HEnd); notes = follow only.notes no_notes }) ub k (below_more only.tree (unknown_after m only) z (omega (arith, length-append only.notes.takers [])) b, tt)
     bounded (not_expression i e) ls n t ns due h k o f =
         let p = none_both (fault_if (not due) (WrongKind i)) (fault w false ns true e) f in
         bounded e ls n None ns true h tt o p.1

@@ -20,6 +20,7 @@ place_step ex.False a = refl
 place_step (ex.Group xs) a = refl
 place_step (ex.Cast e t) a = refl
 place_step (ex.Match es bar bs) a = refl
+place_step (ex.Dot e q) a = refl
 place_step (ex.Prefix o e) a = refl
 place_step (ex.Not e) a = refl
 place_step (ex.Binary e o f) a = refl

@@ -1,18 +1,17 @@
 -- The definitions on small sources: by computation alone.
-use Rattle.std.proofs.Common.{◌≡◌, ℕ, zero, suc, pos, true, false, cond, List, [], ◌∷◌, Option, Some, None, refl, codes}
-use Rattle.std.specs.Str.{bytes_eq}
-use Rattle.trees.specs.Tree.{Tree, Leaf, One, Two, HTyVar, HTyApp, HEnd, HBound, HEq, HForall, HLet, HPatVar}
+use Rattle.std.proofs.Common.{◌≡◌, ℕ, zero, suc, pos, true, false, List, [], ◌∷◌, Option, Some, None, refl, codes}
+use Rattle.trees.specs.Tree.{Tree, Leaf, One, Two, Three, HTyVar, HTyApp, HEnd, HBound, HFun, HEq, HForall, HLet, HPatVar}
 use Rattle.trees.specs.Sorts.{int_type}
 use Rattle.tasks.specs.declared.signature.SymbolKind.{SymbolKind}
-use Rattle.tasks.specs.declared.signature.SymbolKind.TheVariants.{Kind, Function, Predicate, Constructor}
+use Rattle.tasks.specs.declared.signature.SymbolKind.TheVariants.{Kind, Function, Predicate, Constructor, Projection}
 use Rattle.tasks.specs.Task.{SymbolTree, int_symbol}
 use Rattle.tasks.specs.Equations.{cells}
 use Rattle.surface.specs.Lexeme.{Word}
-use Rattle.name_resolution.specs.Abstract.{composed_type, no_types, more_types, Pattern, variable_pattern, tuple_pattern, no_patterns, more_patterns, no_alternatives, more_alternatives, Expression, applied_expression, infix_expression, integer_expression, true_expression, tuple_expression, equality_expression, let_expression, match_expression, quantified_expression, no_expressions, more_expressions, no_branches, more_branches}
+use Rattle.name_resolution.specs.Abstract.{composed_type, no_types, more_types, Pattern, variable_pattern, tuple_pattern, no_patterns, more_patterns, no_alternatives, more_alternatives, Expression, applied_expression, infix_expression, integer_expression, true_expression, tuple_expression, field_expression, equality_expression, let_expression, match_expression, quantified_expression, no_expressions, more_expressions, no_branches, more_branches}
 use Rattle.name_resolution.specs.Where.{Where}
 use Rattle.scopes.specs.declared.Referent.TheVariants as stands
 use Rattle.open_types.specs.Patterns.{local, alternatives_pieces, all_notes, reordered}
-use Rattle.open_types.specs.Pieces.{piece, type_at}
+use Rattle.open_types.specs.Pieces.{NotedTree, piece, type_at}
 use Rattle.name_resolution.proofs.Rows.{called}
 
 abbrev entry : Word → SymbolKind → ℕ → List Tree → Option Tree → SymbolTree
@@ -34,15 +33,16 @@ abbrev pair_at : ℕ → Option ℕ
 pair_at (suc (suc zero)) = Some 9
 pair_at n = None
 
--- `int`, a type `t`, constants `c` and `d` of it, `+`, a type `list` with `Nil`, a predicate `p` of one argument, and pairs
+-- `int`, a type `t`, constants `c` and `d` of it, `+`, a type `list` with `Nil`, a predicate `p` of one argument, pairs, and a field `head` of a list
 abbrev here : Where
 here = record {
   symbols = int_symbol ∷ entry (codes "t") Kind 0 [] None ∷ entry (codes "c") Function 0 [] (Some t_type) ∷ entry (codes "d") Function 0 [] (Some t_type)
       ∷ entry (codes "+") Function 0 (int_type ∷ int_type ∷ []) (Some int_type) ∷ entry (codes "list") Kind 1 [] None
       ∷ entry (codes "Nil") Constructor 1 [] (Some (list_of (unknown 0))) ∷ entry (codes "p") Predicate 0 (t_type ∷ []) None
-      ∷ entry (codes "tuple2") Kind 2 [] None ∷ entry (codes "Tuple2") Constructor 2 (unknown 0 ∷ unknown 1 ∷ []) (Some (pair_of (unknown 0) (unknown 1))) ∷ [];
+      ∷ entry (codes "tuple2") Kind 2 [] None ∷ entry (codes "Tuple2") Constructor 2 (unknown 0 ∷ unknown 1 ∷ []) (Some (pair_of (unknown 0) (unknown 1)))
+      ∷ entry (codes "head") Projection 1 (list_of (unknown 0) ∷ []) (Some (unknown 0)) ∷ [];
   types = called ((codes "pair", stands.Alias 1 (list_of (list_of (unknown 0)))) ∷ (codes "t", stands.Entry 1) ∷ []);
-  names = called ((codes "c", 2) ∷ (codes "d", 3) ∷ (codes "+", 4) ∷ (codes "Nil", 6) ∷ (codes "p", 7) ∷ []);
+  names = called ((codes "c", 2) ∷ (codes "d", 3) ∷ (codes "+", 4) ∷ (codes "Nil", 6) ∷ (codes "p", 7) ∷ (codes "head", 10) ∷ []);
   tuples = pair_at;
   vars = [];
 }
@@ -77,6 +77,16 @@ trigger_notes = refl
 pair_equations : (piece here [] 1 (Some (unknown 0)) (tuple_expression 3 (more_expressions (name 4 (codes "c")) (more_expressions (integer_expression 6 (pos 1)) no_expressions)))).notes.equations
     ≡ (pair_of (unknown 1) (unknown 2), unknown 0) ∷ (t_type, unknown 1) ∷ (int_type, unknown 2) ∷ []
 pair_equations = refl
+
+-- `Nil.head`, of which a type is wanted, under a variable `head`, which doesn't hide the field: its function takes an unknown before its term does
+abbrev head_of_nil : NotedTree
+head_of_nil = piece here (local (codes "head") t_type ∷ []) 1 (Some (unknown 0)) (field_expression 3 (name 3 (codes "Nil")) 5 [] (codes "head"))
+
+field_tree : head_of_nil.tree ≡ Three (HFun 10) (cells (unknown 1 ∷ [])) (cells (Three (HFun 6) (cells (unknown 2 ∷ [])) (Leaf HEnd) (list_of (unknown 1)) ∷ [])) (unknown 0)
+field_tree = refl
+
+field_equations : head_of_nil.notes.equations ≡ (unknown 1, unknown 0) ∷ (list_of (unknown 2), list_of (unknown 1)) ∷ []
+field_equations = refl
 
 -- an alias's type at its argument
 alias_type : type_at here (composed_type 0 [] (codes "pair") (more_types (composed_type 1 [] (codes "t") no_types) no_types)) ≡ list_of (list_of t_type)

@@ -10,8 +10,8 @@ use Rattle.surface.specs.declared.expressions.Expr.{Expr}
 use Rattle.surface.specs.declared.expressions.TriggerTree.{TriggerTree, out-TriggerTree}
 use Rattle.surface.specs.declared.expressions.ExprNode.TheVariants as ev
 use Rattle.surface.specs.Surface as code
-use Rattle.surface.specs.Trees.{SyntaxTree, apply, literal, truth, falsity, group, cast, prefixed, negation, binary, choice, cases, binding, quantified}
-use Rattle.surface.proofs.TreeLemmas.{tree_is, tree_of_node-Apply, tree_of_node-Group, tree_of_node-Cast, tree_of_node-Prefix, tree_of_node-Not, tree_of_node-Binary, tree_of_node-If, tree_of_node-Let, tree_of_node-Match, tree_of_node-Quant, arm_of-fields, terms_of-fields}
+use Rattle.surface.specs.Trees.{SyntaxTree, apply, literal, truth, falsity, group, cast, access, prefixed, negation, binary, choice, cases, binding, quantified}
+use Rattle.surface.proofs.TreeLemmas.{tree_is, tree_of_node-Apply, tree_of_node-Group, tree_of_node-Cast, tree_of_node-Dot, tree_of_node-Prefix, tree_of_node-Not, tree_of_node-Binary, tree_of_node-If, tree_of_node-Let, tree_of_node-Match, tree_of_node-Quant, arm_of-fields, terms_of-fields}
 use Rattle.open_types.specs.Sizes.{source_size, sizes, branch_sizes, size_of, sizes_of, branches_size, triggers_size}
 
 -- each expression counts
@@ -22,6 +22,7 @@ some_size (truth a) = omega arith
 some_size (falsity a) = omega arith
 some_size (group a es) = omega arith
 some_size (cast a e f) = omega arith
+some_size (access a e c) = omega arith
 some_size (prefixed a o e) = omega arith
 some_size (negation a e) = omega arith
 some_size (binary a e o f) = omega arith
@@ -45,6 +46,9 @@ size_at-Cast e a t is = ap source_size (tree_is e (ev.Cast a t) is ∙ tree_of_n
 
 pub size_at-Prefix : (e : Expr) (o : OpName) (a : Expr) → e.node ≡ ev.Prefix o a → size_of e ≡ suc (size_of a)
 size_at-Prefix e o a is = ap source_size (tree_is e (ev.Prefix o a) is ∙ tree_of_node-Prefix o a e.at)
+
+pub size_at-Dot : (e : Expr) (a : Expr) (q : QName) → e.node ≡ ev.Dot a q → size_of e ≡ suc (size_of a)
+size_at-Dot e a q is = ap source_size (tree_is e (ev.Dot a q) is ∙ tree_of_node-Dot a q e.at)
 
 pub size_at-Not : (e : Expr) (a : Expr) → e.node ≡ ev.Not a → size_of e ≡ suc (size_of a)
 size_at-Not e a is = ap source_size (tree_is e (ev.Not a) is ∙ tree_of_node-Not a e.at)

@@ -12,7 +12,7 @@ use Rattle.trees.specs.Node.{tree_at, Holds, Grows}
 use Rattle.trees.specs.Sorts.{Fits, sort_of, yield, top_sort, IsExpression}
 use Rattle.trees.proofs.Nodes.{tree_at-grows, Grows_trans}
 use Rattle.surface.specs.Lexeme.{Word}
-use Rattle.name_resolution.specs.Abstract.{TypeExpression, Expression, Expressions, applied_expression, infix_expression, cast_expression, not_expression, connected_expression, equality_expression, if_expression, let_expression, tuple_expression, no_expressions, more_expressions}
+use Rattle.name_resolution.specs.Abstract.{TypeExpression, Expression, Expressions, applied_expression, infix_expression, cast_expression, field_expression, not_expression, connected_expression, equality_expression, if_expression, let_expression, tuple_expression, no_expressions, more_expressions}
 use Rattle.name_resolution.specs.declared.NamingFault.{NamingFault}
 use Rattle.name_resolution.specs.declared.NamingFault.TheVariants.{WrongKind}
 use Rattle.name_resolution.specs.declared.world.World.{World}
@@ -178,6 +178,10 @@ module _ (w : Where) (o : Bool) (ls : List Word) (b : Bool) (i : ℕ) where
 
   pub in_tuple : (es : Expressions) → fault w o ls b (tuple_expression i es) ≡ None → (b ≡ false) × (faults w o ls es ≡ None)
   in_tuple es h = let p = none_both (fault_if b (WrongKind i)) _ h in (not_if b _ p.0, p.1)
+
+  -- a field's term is the one operand of its function
+  pub in_field : (e : Expression) (k : ℕ) (qs : List Word) (v : Word) → fault w o ls b (field_expression i e k qs v) ≡ None → faults w o ls (more_expressions e no_expressions) ≡ None
+  in_field e k qs v h = both_none _ _ (none_both (fault w o ls false e) _ h).0 refl
 
   -- an operator between two is a name before them
   pub in_infixed : (v : Word) (x y : Expression) → fault w o ls b (infix_expression i v x y) ≡ None → fault w o ls b (applied_expression i [] v (more_expressions x (more_expressions y no_expressions))) ≡ None

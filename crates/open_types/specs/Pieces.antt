@@ -10,7 +10,7 @@ use Rattle.trees.specs.Sorts.{int_type}
 use Rattle.trees.specs.Binding.{inst_types}
 use Rattle.tasks.specs.Equations.{cells, type_variables}
 use Rattle.surface.specs.Lexeme.{Word}
-use Rattle.name_resolution.specs.Abstract.{TypeExpression, TypeExpressions, variable_type, composed_type, product_type, no_types, more_types, BoundNames, Expression, Expressions, MatchBranches, applied_expression, infix_expression, integer_expression, true_expression, false_expression, tuple_expression, cast_expression, not_expression, connected_expression, equality_expression, if_expression, let_expression, match_expression, quantified_expression, no_expressions, more_expressions, no_branches, more_branches, count_forms, count_expressions}
+use Rattle.name_resolution.specs.Abstract.{TypeExpression, TypeExpressions, variable_type, composed_type, product_type, no_types, more_types, BoundNames, Expression, Expressions, MatchBranches, applied_expression, infix_expression, integer_expression, true_expression, false_expression, tuple_expression, cast_expression, field_expression, not_expression, connected_expression, equality_expression, if_expression, let_expression, match_expression, quantified_expression, no_expressions, more_expressions, no_branches, more_branches, count_forms, count_expressions}
 use Rattle.name_resolution.specs.Faults.{is_formula_trigger, token}
 use Rattle.name_resolution.specs.Where.{Where, MeaningTree, place_of}
 use Rattle.scopes.specs.declared.Referent.TheVariants as stands
@@ -101,6 +101,10 @@ use_or (Some p) u = Local' p.0 p.1
 
 abbrev pub use_of_name : Where → List LocalTree → List Word → Word → Use
 use_of_name w ls qs x = use_or (found_local qs x ls) (Symbol' (entry_of w.symbols (w.names qs x)))
+
+-- a field is no local variable
+abbrev pub field_use : Where → List Word → Word → Use
+field_use w qs x = Symbol' (entry_of w.symbols (w.names qs x))
 
 abbrev pub tuple_use : Where → ℕ → Use
 tuple_use w n = Symbol' (entry_of w.symbols (w.tuples n))
@@ -225,6 +229,11 @@ abbrev mutual
       used_piece n t i u (pieces w ls (n + use_vars u) (parameters n u) es)
   piece w ls n t (cast_expression i e f) =
       noted_before (noted (wanting (type_at w f) t) []) (piece w ls n (Some (type_at w f)) e)
+  piece w ls n t (field_expression i e k qs x) =
+      let u = field_use w qs x in
+      used_piece n t i u (both_pieces (Two HCell)
+      (piece w ls (n + use_vars u) (Some (first_or_int (parameters n u))) e)
+      (bare_piece (Leaf HEnd)))
   piece w ls n t (not_expression i e) = piece_under (One HNot) (piece w ls n None e)
   piece w ls n t (connected_expression i a o b) =
       let left = piece w ls n None a in

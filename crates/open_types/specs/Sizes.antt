@@ -1,6 +1,6 @@
 -- The number of expressions in a surface tree, itself counted, also those in parentheses.
 use Rattle.std.specs.Prelude.{ℕ, suc, ◌+◌, List, [], ◌∷◌, Option, option_map}
-use Rattle.surface.specs.Trees.{SyntaxTree, SyntaxTrees, Branches, SyntaxTrigger, apply, literal, truth, falsity, group, cast, prefixed, negation, binary, choice, cases, binding, quantified, none, more, no_branch, branch, untriggered, triggered}
+use Rattle.surface.specs.Trees.{SyntaxTree, SyntaxTrees, Branches, SyntaxTrigger, apply, literal, truth, falsity, group, cast, access, prefixed, negation, binary, choice, cases, binding, quantified, none, more, no_branch, branch, untriggered, triggered}
 use Rattle.surface.specs.Surface as code
 use Rattle.surface.specs.declared.expressions.BranchTree.{BranchTree}
 use Rattle.surface.specs.declared.expressions.Expr.{Expr}
@@ -13,6 +13,7 @@ abbrev mutual
   source_size (truth a) = 1
   source_size (falsity a) = 1
   source_size (group a es) = suc (sizes es)
+  source_size (access a e c) = suc (source_size e)
   source_size (cast a e f) = suc (source_size e)
   source_size (prefixed a o e) = suc (source_size e)
   source_size (negation a e) = suc (source_size e)

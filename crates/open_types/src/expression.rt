@@ -155,6 +155,14 @@ pub fn walk(
                 wanted,
             )
         }
+        ExprNode::Dot(inner, field) => {
+            let own = own_name(alloc, field.style, field.text.as_slice())?;
+            let symbol = world.symbol_named(field.scopes.as_slice(), own.as_slice());
+            let operands = Operands::One(inner.get());
+            walk_symbol(
+                alloc, store, draft, token, symbol, operands, world, locals, wanted,
+            )
+        }
         ExprNode::Not(inner) => {
             let a = walk(alloc, store, draft, inner.get(), world, locals, None)?;
             make(store, draft, Node::Not(a))

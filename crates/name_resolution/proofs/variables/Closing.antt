@@ -2,14 +2,13 @@
 use Rattle.std.proofs.Common.{◌≡◌, ℕ, suc, Bool, true, false, not, cond, List, [], ◌∷◌, ◌++◌, reverse, Option, Some, None, option_map, refl, sym, ap, ◌∙◌}
 use Rattle.std.specs.Option.{is_some, is_none}
 use Rattle.std.specs.Str.{bytes_eq}
-use Rattle.std.proofs.lemmas.Slice.Eq.{bytes_eq-Decides}
 use Rattle.surface.specs.Lexeme.{Word}
-use Rattle.name_resolution.specs.Abstract.{TypeExpression, TypeExpressions, variable_type, composed_type, product_type, no_types, more_types, Pattern, Patterns, wildcard_pattern, variable_pattern, constructor_pattern, tuple_pattern, alias_pattern, no_patterns, more_patterns, Alternatives, no_alternatives, more_alternatives, BoundNames, Expression, Expressions, MatchBranches, applied_expression, infix_expression, integer_expression, true_expression, false_expression, tuple_expression, cast_expression, not_expression, connected_expression, equality_expression, if_expression, let_expression, match_expression, quantified_expression, no_expressions, more_expressions, no_branches, more_branches, count_forms, count_patterns, count_expressions}
+use Rattle.name_resolution.specs.Abstract.{TypeExpression, TypeExpressions, variable_type, composed_type, product_type, no_types, more_types, Pattern, Patterns, wildcard_pattern, variable_pattern, constructor_pattern, tuple_pattern, alias_pattern, no_patterns, more_patterns, Alternatives, no_alternatives, more_alternatives, BoundNames, Expression, Expressions, MatchBranches, applied_expression, infix_expression, integer_expression, true_expression, false_expression, tuple_expression, cast_expression, field_expression, not_expression, connected_expression, equality_expression, if_expression, let_expression, match_expression, quantified_expression, no_expressions, more_expressions, no_branches, more_branches, count_forms, count_patterns, count_expressions}
 use Rattle.name_resolution.specs.declared.NamingFault.{NamingFault}
 use Rattle.name_resolution.specs.declared.NamingFault.TheVariants.{Unknown, WrongKind}
 use Rattle.name_resolution.specs.Where.{Where, MeaningTree, place_of}
 use Rattle.scopes.specs.declared.Referent.TheVariants as stands
-use Rattle.name_resolution.specs.Faults.{first_of, fault_if, meaning_fault, form_fault, forms_fault, symbol_fault, local_fault, is_variable, name_fault, type_fault, binders_fault, bound_names, constructor_fault, pattern_fault, patterns_fault, pattern_names, later_fault, alternatives_fault, alternatives_names, TriggerHeadTree, trigger_named, trigger_equality, trigger_other, trigger_head, makes_formulas, is_formula_head, is_formula_trigger, fault, faults, triggers_fault, branches_fault, first_pattern_fault, has_alternative}
+use Rattle.name_resolution.specs.Faults.{first_of, fault_if, meaning_fault, form_fault, forms_fault, symbol_fault, field_fault, local_fault, is_variable, name_fault, type_fault, binders_fault, bound_names, constructor_fault, pattern_fault, patterns_fault, pattern_names, later_fault, alternatives_fault, alternatives_names, TriggerHeadTree, trigger_named, trigger_equality, trigger_other, trigger_head, makes_formulas, is_formula_head, is_formula_trigger, fault, faults, triggers_fault, branches_fault, first_pattern_fault, has_alternative}
 use Rattle.name_resolution.specs.variables.Seen.{SeenTree, with_variable, with_width, form_seen, forms_seen, type_seen, binders_seen, pattern_seen, patterns_seen, alternatives_seen, seen, all_seen, branches_seen}
 use Rattle.name_resolution.proofs.Placed.{one_more}
 use Rattle.tasks.proofs.plain_laws.Lists.{bytes_same}
@@ -114,6 +113,7 @@ mutual
   some_more (false_expression i) s u h = h
   some_more (tuple_expression i es) s u h = all_more es (with_width (count_expressions es) s) u h
   some_more (cast_expression i e f) s u h = form_more f (seen s e) u (some_more e s u h)
+  some_more (field_expression i e k qs x) s u h = some_more e s u h
   some_more (not_expression i e) s u h = some_more e s u h
   some_more (connected_expression i a o b) s u h = some_more b (seen s a) u (some_more a s u h)
   some_more (equality_expression i same a b) s u h = some_more b (seen s a) u (some_more a s u h)
@@ -147,6 +147,10 @@ module _ (w : Where) (vs : List Word) where
   symbol_same : (due : Bool) (i n : ℕ) (m : Option ℕ) → symbol_fault with_vars due i n m ≡ symbol_fault w due i n m
   symbol_same due i n None = refl
   symbol_same due i n (Some k) = refl
+
+  field_same : (due : Bool) (i : ℕ) (m : Option ℕ) → field_fault with_vars due i m ≡ field_fault w due i m
+  field_same due i None = refl
+  field_same due i (Some k) = refl
 
   constructor_same : (i n : ℕ) (m : Option ℕ) → constructor_fault with_vars i n m ≡ constructor_fault w i n m
   constructor_same i n None = refl
@@ -232,6 +236,9 @@ module _ (w : Where) (vs : List Word) where
         let p = none_both (fault_if due (WrongKind i)) (first_of (fault w true ls false e) (form_fault w true f)) h in
         let q = none_both (fault w true ls false e) (form_fault w true f) p.1 in
         both_none _ _ p.0 (both_none _ _ (closed e s ls false q.0 (λ v m. k v (form_more f (seen s e) v m))) (form_closed f (seen s e) q.1 k))
+    closed (field_expression i e f qs x) s ls due h k =
+        let p = none_both (fault w true ls false e) (field_fault w due f (w.names qs x)) h in
+        both_none _ _ (closed e s ls false p.0 k) (field_same due f (w.names qs x) ∙ p.1)
     closed (not_expression i e) s ls due h k =
         let p = none_both (fault_if (not due) (WrongKind i)) (fault w true ls true e) h in
         both_none _ _ p.0 (closed e s ls true p.1 k)

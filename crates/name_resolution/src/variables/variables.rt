@@ -178,6 +178,7 @@ pub fn enter_variables(alloc: Global, seen: &mut Seen, e: &Expr) -> Result<(), A
             enter_form(alloc, seen, ty)
         }
         ExprNode::Prefix(_, inner) => enter_variables(alloc, seen, inner.get()),
+        ExprNode::Dot(inner, _) => enter_variables(alloc, seen, inner.get()),
         ExprNode::Not(inner) => enter_variables(alloc, seen, inner.get()),
         ExprNode::Binary(left, _, right) => {
             enter_variables(alloc, seen, left.get())?;

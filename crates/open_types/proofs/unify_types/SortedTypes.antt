@@ -1,5 +1,5 @@
 -- A well-sorted tree of the sort of types is a type by its shape, and the other way round.
-use Rattle.std.proofs.Common.{◌≡◌, ◌⊎◌, true, false, inl, inr, Option, Some, None, refl, sym, ap, subst, ◌∙◌}
+use Rattle.std.proofs.Common.{◌≡◌, true, false, inl, inr, Some, refl, sym, ap, subst, ◌∙◌}
 use Rattle.trees.specs.Tree.{Tree, Leaf, One, Two, Three, Head, HTyVar, HTyRigid, HTyApp, HEnd, HCell, HNum, HTrue, HFalse}
 use Rattle.trees.specs.declared.Sort.{Sort}
 use Rattle.trees.specs.declared.Sort.TheVariants.{Kind}

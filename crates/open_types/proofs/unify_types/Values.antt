@@ -1,5 +1,5 @@
 -- Which unknowns are determined, and two solutions that differ where one isn't.
-use Rattle.std.proofs.Common.{◌≡◌, ℕ, zero, suc, ◌+◌, ◌<◌, ◌≤◌, Bool, true, false, cond, nat_eq, nat_lt, nat_le, ◌||◌, ◌⊎◌, inl, inr, List, [], ◌∷◌, Option, Some, None, length, get_or, sym, refl, ap, ◌∙◌, subst, arith}
+use Rattle.std.proofs.Common.{◌≡◌, ℕ, zero, suc, ◌+◌, ◌<◌, ◌≤◌, Bool, true, false, cond, nat_eq, nat_lt, nat_le, ◌||◌, inl, inr, List, [], ◌∷◌, Option, Some, None, length, get_or, sym, refl, ap, ◌∙◌, subst, arith}
 use Rattle.std.specs.HashMap.{HashMap, get}
 use Rattle.trees.specs.declared.TermId.{TermId}
 use Rattle.trees.specs.Tree.{Tree, Leaf, One, Two, Three, HTyVar, HTyApp, HCell, HEnd, size}
@@ -8,7 +8,7 @@ use Rattle.open_types.specs.declared.unify_types.bindings.Bound.{Bound}
 use Rattle.open_types.specs.unify_types.Assigned.{Variable, assign, Has, IsType}
 use Rattle.open_types.specs.unify_types.Bound.{Binding, replacing, resolve, IsTriangular, Agrees, type_bound, bound_over, AreUnderSubstitution, has_sought}
 use Rattle.open_types.specs.unify_types.Valued.{AreValues, IsTreated, AreValued}
-use Rattle.open_types.proofs.unify_types.Assigning.{assign-unknown, resolve-agrees, resolve-types, typed-assign, size-Has, assign-assign, agrees-after}
+use Rattle.open_types.proofs.unify_types.Assigning.{assign-unknown, resolve-agrees, resolve-types, typed-assign, size-Has, agrees-after}
 use Rattle.open_types.proofs.unify_types.Resolved.{over_grown, are_held_grown, resolve-free, some_is}
 use Rattle.std.proofs.lemmas.Bool.{or_parts as or_false}
 use Rattle.open_types.proofs.unify_types.Unified.{or_true, either}

@@ -3,7 +3,7 @@ use Rattle.surface.specs.Lexeme.{Word}
 use Rattle.surface.specs.Surface.{own_of}
 use Rattle.name_resolution.specs.Abstract.{expressions_of, connective_operator, equality_operator, symbol_operator, text_of_own}
 use Rattle.name_resolution.specs.Naming.{Tells, where_at, names_at, operation_at}
-use Rattle.name_resolution.proofs.Nodes.{triggers_at-Some, expression_at-Match, expression_at-Apply, expression_at-Int, expression_at-True, expression_at-False, expression_at-Cast, expression_at-Not, expression_at-If, expression_at-Group, expression_at-Prefix, expression_at-Quant}
+use Rattle.name_resolution.proofs.Nodes.{triggers_at-Some, expression_at-Match, expression_at-Apply, expression_at-Int, expression_at-True, expression_at-False, expression_at-Cast, expression_at-Dot, expression_at-Not, expression_at-If, expression_at-Group, expression_at-Prefix, expression_at-Quant}
 use Rattle.name_resolution.proofs.Operated.{operated_as, bound_as}
 use Rattle.name_resolution.proofs.Told.{of_first, of_rest, passed, counted, group_many, first_alone, name_same, due_group, let_as, whole_fault, whole_names, tells}
 use Rattle.name_resolution.proofs.names.+naming.Goals as goal
@@ -39,6 +39,16 @@ pub check-returns-in_ok-check-in-Cast : goal.check-returns-in_ok-check-in-Cast
 check-returns-in_ok-check-in-Cast t c s =
     let is = expression_at-Cast c.args.e.now c.in-Cast.inner c.in-Cast.ty c.in-Cast.is in
     rw is (of_rest c.check_form.result _ _ (tells _ _ c.in_ok-refuse_if-in-Cast.ensures) (of_rest c.check_form.result _ _ (rw c.get.ensures at c.in_ok-check-in-Cast.ensures s) (c.check_form.ensures s)))
+
+pub check-returns-in_err-check-in-Dot : goal.check-returns-in_err-check-in-Dot
+check-returns-in_err-check-in-Dot t c s =
+    let is = expression_at-Dot c.args.e.now c.in-Dot.inner c.in-Dot.field c.in-Dot.is in
+    passed c.from_residual-in_err-check-in-Dot.result c.in_err-check-in-Dot.field-0.0 _ c.from_residual-in_err-check-in-Dot.ensures.1 (rw is (of_first c.in_err-check-in-Dot.field-0.0 _ _ (rw c.get-in-Dot.ensures at c.in_err-check-in-Dot.ensures s)))
+
+pub check-returns-in_ok-check-in-Dot : goal.check-returns-in_ok-check-in-Dot
+check-returns-in_ok-check-in-Dot t c s =
+    let is = expression_at-Dot c.args.e.now c.in-Dot.inner c.in-Dot.field c.in-Dot.is in
+    rw is (of_rest c.check_field.result _ _ (rw c.get-in-Dot.ensures at c.in_ok-check-in-Dot.ensures s) (rw (c.as_slice-in-Dot-2.ensures, c.as_slice-in-Dot-3.ensures, c.in_ok-own-in-Dot.ensures, c.as_slice-in-Dot.ensures) at c.check_field.ensures s))
 
 pub check-returns-in_err-refuse_if-in-Not : goal.check-returns-in_err-refuse_if-in-Not
 check-returns-in_err-refuse_if-in-Not t c s =

@@ -2,7 +2,7 @@ use Rattle.std.proofs.Common.{refl, sym}
 use Rattle.surface.specs.Surface as code
 use Rattle.surface.specs.Surface.{op_of}
 use Rattle.name_resolution.specs.Abstract.{operator_meaning, expression_of, let_name}
-use Rattle.name_resolution.proofs.Nodes.{expression_at-Apply, expression_at-Int, expression_at-True, expression_at-False, expression_at-Group, expression_at-Cast, expression_at-Prefix, expression_at-Not, expression_at-Binary, expression_at-If, expression_at-Let, expression_at-Match, expression_at-Quant}
+use Rattle.name_resolution.proofs.Nodes.{expression_at-Apply, expression_at-Int, expression_at-True, expression_at-False, expression_at-Group, expression_at-Cast, expression_at-Prefix, expression_at-Dot, expression_at-Not, expression_at-Binary, expression_at-If, expression_at-Let, expression_at-Match, expression_at-Quant}
 use Rattle.name_resolution.proofs.Told.{group_many, operated_head, operated_token, let_head, let_token}
 use Rattle.name_resolution.proofs.triggers.+heads.Goals as goal
 
@@ -53,6 +53,12 @@ trigger_of-returns-in-Match-clause-head t c = let is = expression_at-Match c.arg
 
 pub trigger_of-returns-in-Match-clause-token : goal.trigger_of-returns-in-Match-clause-token
 trigger_of-returns-in-Match-clause-token t c = let is = expression_at-Match c.args.e.now c.in-Match.field-0 c.in-Match.field-1 c.in-Match.field-2 c.in-Match.is in rw is c.no_head-in-Match.ensures.token
+
+pub trigger_of-returns-in-Dot-clause-head : goal.trigger_of-returns-in-Dot-clause-head
+trigger_of-returns-in-Dot-clause-head t c = let is = expression_at-Dot c.args.e.now c.in-Dot.field-0 c.in-Dot.field-1 c.in-Dot.is in rw is c.no_head-in-Dot.ensures.head
+
+pub trigger_of-returns-in-Dot-clause-token : goal.trigger_of-returns-in-Dot-clause-token
+trigger_of-returns-in-Dot-clause-token t c = let is = expression_at-Dot c.args.e.now c.in-Dot.field-0 c.in-Dot.field-1 c.in-Dot.is in rw is c.no_head-in-Dot.ensures.token
 
 pub trigger_of-returns-in-Not-clause-head : goal.trigger_of-returns-in-Not-clause-head
 trigger_of-returns-in-Not-clause-head t c = let is = expression_at-Not c.args.e.now c.in-Not.field-0 c.in-Not.is in rw is c.no_head-in-Not.ensures.head

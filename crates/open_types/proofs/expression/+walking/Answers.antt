@@ -17,7 +17,7 @@ use Rattle.name_resolution.specs.declared.NamingFault.TheVariants.{WrongKind}
 use Rattle.name_resolution.specs.Abstract.{Expression, MatchBranches, match_expression, text_of_own, applied_expression, grouped, connective_operator, equality_operator, symbol_operator, more_expressions, no_expressions, type_expression_of, expression_of, expressions_of, binders_of, triggers_of, branches_of, no_alternatives, more_alternatives, more_branches, no_branches, first_tree, first_form, side_by_side, alternatives_of}
 use Rattle.name_resolution.specs.Faults.{fault}
 use Rattle.name_resolution.specs.Naming.{where_at, operation_at}
-use Rattle.name_resolution.proofs.Nodes.{triggers_at-Some, expression_at-Apply, expression_at-Int, expression_at-True, expression_at-False, expression_at-Cast, expression_at-Not, expression_at-If, expression_at-Group, expression_at-Prefix, expression_at-Quant, expression_at-Match}
+use Rattle.name_resolution.proofs.Nodes.{triggers_at-Some, expression_at-Apply, expression_at-Int, expression_at-True, expression_at-False, expression_at-Cast, expression_at-Dot, expression_at-Not, expression_at-If, expression_at-Group, expression_at-Prefix, expression_at-Quant, expression_at-Match}
 use Rattle.name_resolution.proofs.Operated.{operated_as, bound_as, matched_as}
 use Rattle.name_resolution.proofs.Told.{counted, group_one, group_many}
 use Rattle.open_types.specs.Patterns.{noted, taken, local, first_or_int, alternatives_pieces, all_notes, first_variables}
@@ -28,11 +28,11 @@ use Rattle.open_types.specs.Drafts.{SymbolTyped, symbol_got, IsWalked, AreArms, 
 use Rattle.open_types.proofs.Growing.{ready_grows, type_stays, types_stay, types_grow, wanted_stays, wanted_grows, type_grows, world_stays, locals_stay, locals_grow, each_stays, each_grows}
 use Rattle.open_types.proofs.Noting.{next, matches_more, no_elements, nothing_noted, noted_after, noted_as}
 use Rattle.open_types.proofs.Walking.{must_be, not_if, set_on, set_inside, go_on, go_inside, as_begun, as_inside, one_held, one_inside, walked_bare, walked_under, walked_both, walked_choice, walked_after, formula_due, term_due, in_cast, in_negation, in_joined, in_equated, in_choice, in_binding, choice_fits, choice_sort, let_fits, let_sort, grown_sort, yields_due, is_expression}
-use Rattle.open_types.proofs.Applying.{can_as, apply_same, can_infix, can_use, can_tuple, first_size, quantified_due, can_quantify, equality_sort, ifok_both, ifok_three}
+use Rattle.open_types.proofs.Applying.{can_as, apply_same, can_infix, can_use, can_tuple, can_field, first_size, quantified_due, can_quantify, equality_sort, ifok_both, ifok_three}
 use Rattle.open_types.proofs.Arguments.{term_of_local, local_walked, symbol_walked, entry_got, got_one, go_all, go_first, go_rest, as_rest, walked_end, walked_cell, cell_fits, used_walked}
 use Rattle.open_types.proofs.Quantified.{in_quantified, inside_names, inside_held, inside_locals, next_unknown, triggers_as, quantified_walked, in_triggers, trigger_walked}
 use Rattle.open_types.proofs.Branching.{in_cases, has_arm, case_fits, in_branches, as_arms, branch_names, branch_held, branch_locals, branch_walked, branch_dropped, no_arms, match_walked, numbers_held, ids_grow, patterns_grow}
-use Rattle.open_types.proofs.Sizing.{some_size, branches_split, size_at-Apply, size_at-Group, size_at-Cast, size_at-Prefix, size_at-Not, size_at-Binary, size_at-If, size_at-Let, size_at-Quant, size_at-Match, triggers_size-Some}
+use Rattle.open_types.proofs.Sizing.{some_size, branches_split, size_at-Apply, size_at-Group, size_at-Cast, size_at-Dot, size_at-Prefix, size_at-Not, size_at-Binary, size_at-If, size_at-Let, size_at-Quant, size_at-Match, triggers_size-Some}
 use Rattle.open_types.proofs.expression.+walking.Goals as goal
 
 -- ---- uses
@@ -78,6 +78,19 @@ pub walk-returns-in-Symbol-clause-walked : goal.walk-returns-in-Symbol-clause-wa
 walk-returns-in-Symbol-clause-walked t c =
     let is = operated_as c.args.e.now c.in-Binary.left c.in-Binary.op c.in-Binary.right c.in-Binary.is (symbol_operator c.in-Symbol.name.now) (sym c.infix_operation.ensures ∙ ap operation_at c.in-Symbol.is) in
     rw is (rw (c.get-in-Symbol.ensures, c.get-in-Symbol-2.ensures) at c.walk_use-in-Symbol.ensures.walked)
+
+-- ---- a field
+pub walk-walk_symbol-requires : goal.walk-walk_symbol-requires
+walk-walk_symbol-requires t c =
+    let is = expression_at-Dot c.args.e.now c.in-Dot.inner c.in-Dot.field c.in-Dot.is in
+    let can = can_field c.args.e.now.at.main (expression_of c.in-Dot.inner) c.in-Dot.field.at c.in-Dot.field.scopes (text_of_own (own_of c.in-Dot.field.style c.in-Dot.field.text)) (can_as is c.requires) in
+    (omega (arith, size_at-Dot c.args.e.now c.in-Dot.inner c.in-Dot.field c.in-Dot.is, ap size_of c.get-in-Dot.ensures), rw c.get-in-Dot.ensures can)
+
+pub walk-returns-in_ok-own-in-Dot-clause-walked : goal.walk-returns-in_ok-own-in-Dot-clause-walked
+walk-returns-in_ok-own-in-Dot-clause-walked t c =
+    let is = expression_at-Dot c.args.e.now c.in-Dot.inner c.in-Dot.field c.in-Dot.is in
+    let own = c.as_slice-in-Dot-3.ensures ∙ c.in_ok-own-in-Dot.ensures ∙ ap (λ (x : Word). text_of_own (own_of c.in-Dot.field.style x)) c.as_slice-in-Dot.ensures in
+    rw is (rw (c.symbol_named-symbol.ensures, c.as_slice-in-Dot-2.ensures, own, c.get-in-Dot.ensures) at c.walk_symbol.ensures.walked)
 
 -- ---- constants
 pub walk-walk_literal-requires-clause-term : goal.walk-walk_literal-requires-clause-term

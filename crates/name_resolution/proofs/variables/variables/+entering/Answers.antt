@@ -3,7 +3,7 @@ use Rattle.surface.specs.Surface as code
 use Rattle.surface.specs.Surface.{op_of}
 use Rattle.name_resolution.specs.Abstract.{first_tree, operator_meaning, expression_of}
 use Rattle.name_resolution.specs.variables.Entered.{seen_at}
-use Rattle.name_resolution.proofs.Nodes.{triggers_at-Some, expression_at-Apply, expression_at-Int, expression_at-True, expression_at-False, expression_at-Group, expression_at-Cast, expression_at-Prefix, expression_at-Not, expression_at-Binary, expression_at-If, expression_at-Quant, expression_at-Match}
+use Rattle.name_resolution.proofs.Nodes.{triggers_at-Some, expression_at-Apply, expression_at-Int, expression_at-True, expression_at-False, expression_at-Group, expression_at-Cast, expression_at-Prefix, expression_at-Dot, expression_at-Not, expression_at-Binary, expression_at-If, expression_at-Quant, expression_at-Match}
 use Rattle.name_resolution.proofs.variables.Widened.{expressions_widened, operated_seen}
 use Rattle.name_resolution.proofs.Operated.{bound_as, matched_as}
 use Rattle.name_resolution.proofs.variables.variables.+entering.Goals as goal
@@ -37,6 +37,9 @@ enter_variables-returns-in_ok-enter_variables-in-Cast t c =
 
 pub enter_variables-returns-in-Prefix : goal.enter_variables-returns-in-Prefix
 enter_variables-returns-in-Prefix t c = let is = expression_at-Prefix c.args.e.now c.in-Prefix.field-0 c.in-Prefix.inner c.in-Prefix.is in rw is (rw c.get-in-Prefix.ensures at c.enter_variables-in-Prefix.ensures)
+
+pub enter_variables-returns-in-Dot : goal.enter_variables-returns-in-Dot
+enter_variables-returns-in-Dot t c = let is = expression_at-Dot c.args.e.now c.in-Dot.inner c.in-Dot.field-1 c.in-Dot.is in rw is (rw c.get-in-Dot.ensures at c.enter_variables-in-Dot.ensures)
 
 pub enter_variables-returns-in-Not : goal.enter_variables-returns-in-Not
 enter_variables-returns-in-Not t c = let is = expression_at-Not c.args.e.now c.in-Not.inner c.in-Not.is in rw is (rw c.get-in-Not.ensures at c.enter_variables-in-Not.ensures)
