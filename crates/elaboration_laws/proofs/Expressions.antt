@@ -12,11 +12,11 @@ use Rattle.elab_groups.specs.open_types.unify_types.Assigned.{assign}
 use Rattle.elab_groups.specs.open_types.unify_types.Pairs.{SolvesAll}
 use Rattle.elab_groups.specs.surface.Lexeme.{Word}
 use Rattle.elab_groups.specs.tasks.Vocabulary.{Vocabulary}
-use Rattle.elab_groups.specs.name_resolution.Abstract.{TypeExpression, BoundNames, Expression, Expressions, MatchBranches, applied_expression, infix_expression, integer_expression, true_expression, false_expression, tuple_expression, cast_expression, not_expression, connected_expression, equality_expression, if_expression, let_expression, match_expression, quantified_expression, no_expressions, more_expressions, no_branches, more_branches, count_expressions, no_alternatives, more_alternatives}
-use Rattle.elab_groups.specs.name_resolution.Faults.{first_of, name_fault, type_fault, binders_fault, bound_names, is_formula_trigger, token, fault, faults, triggers_fault, branches_fault, alternatives_fault, alternatives_names, has_alternative}
+use Rattle.elab_groups.specs.name_resolution.Abstract.{TypeExpression, BoundNames, Expression, Expressions, MatchBranches, applied_expression, infix_expression, integer_expression, true_expression, false_expression, tuple_expression, cast_expression, field_expression, not_expression, connected_expression, equality_expression, if_expression, let_expression, match_expression, quantified_expression, no_expressions, more_expressions, no_branches, more_branches, count_expressions, no_alternatives, more_alternatives}
+use Rattle.elab_groups.specs.name_resolution.Faults.{first_of, name_fault, field_fault, type_fault, binders_fault, bound_names, is_formula_trigger, token, fault, faults, triggers_fault, branches_fault, alternatives_fault, alternatives_names, has_alternative}
 use Rattle.elab_groups.specs.name_resolution.Where.{Where}
 use Rattle.elab_groups.specs.open_types.Patterns.{LocalTree, local, noted, taken, first_or_int, rest_of, alternatives_pieces, follow, no_notes, all_notes, pattern_trees, first_variables, arms}
-use Rattle.elab_groups.specs.open_types.Pieces.{type_at, NotedTree, unknown_after, unknown, noted_before, piece, pieces, triggers_notes, branches_arms, Arms, use_of_name, tuple_use, use_vars, parameters, equality, binder_locals, binder_vars, binders_vars, bound, untyped, locals_of_type, quantify, names}
+use Rattle.elab_groups.specs.open_types.Pieces.{type_at, NotedTree, unknown_after, unknown, noted_before, piece, pieces, triggers_notes, branches_arms, Arms, use_of_name, field_use, tuple_use, use_vars, parameters, equality, binder_locals, binder_vars, binders_vars, bound, untyped, locals_of_type, quantify, names}
 use Rattle.elab_groups.proofs.open_types.Walking.{none_both, in_cast, in_negation, in_joined, in_equated, in_choice, in_binding}
 use Rattle.elab_groups.proofs.open_types.Below.{both_all}
 use Rattle.elab_groups.proofs.open_types.Branching.{in_cases, first_names}
@@ -29,7 +29,7 @@ use Rattle.elaboration_laws.proofs.Instances.{cells_assigned}
 use Rattle.elaboration_laws.proofs.Arms.{IsArm, AreArms, match_typed}
 use Rattle.elaboration_laws.proofs.Alternatives.{names_reverse, alternatives_sound}
 use Rattle.elaboration_laws.proofs.Signed.{int_over, form_over}
-use Rattle.elaboration_laws.proofs.Sound.{IsPatternAt, AreNoted, noted_sound, both_noted, none_noted, suc_same, more_over, first_solved, rest_solved, LocalsOver, both_locals, WantedOver, first_over, rest_over, parameters_count, usable_over, sig, named_usable, tuple_usable, IsSound, AreSound, no_arguments, more_arguments, two_arguments, used_sound}
+use Rattle.elaboration_laws.proofs.Sound.{IsPatternAt, AreNoted, noted_sound, both_noted, none_noted, suc_same, more_over, first_solved, rest_solved, LocalsOver, both_locals, WantedOver, first_over, rest_over, parameters_count, usable_over, sig, named_usable, field_usable, tuple_usable, IsSound, AreSound, no_arguments, more_arguments, one_argument, two_arguments, used_sound}
 use Rattle.elab_groups.proofs.open_types.Arguments.{names_both}
 
 pub names_inside : (vs ls : List LocalTree) (ns : List Word) → names vs ≡ ns → names (reverse vs ++ ls) ≡ reverse ns ++ names ls
@@ -163,6 +163,13 @@ module _ (base : Vocabulary) (w : Where) (good : IsWellFormed base w) (rigid : �
           notes = both_noted base w rigid (noted ((type_at w ty, t) ∷ []) []) e'.notes (noted_sound base w rigid ((type_at w ty, t) ∷ []) [] ((o, k), tt)) x.notes;
           typed = λ f g s j. subst (λ (c : Tree). TypedAs (sig base w) (assigned_types rigid f ls) (Some c) (at f g e'.tree)) s.0 (x.typed f g s.1 j);
         }
+    sound (field_expression i e c qs x) ls n t h k u q =
+        let p = none_both (fault w false (names ls) false e) (field_fault w (is_none t) c (w.names qs x)) q in
+        let d = field_use w qs x in
+        let z = field_usable base w good rigid ls (is_none t) c qs x p.1 in
+        let ts = parameters n d in
+        used_sound base w good rigid ls n t i 1 d _ k z (one_argument base w good rigid ls ts (piece w ls (n + use_vars d) (Some (first_or_int ts)) e) (parameters_count (sig base w) ls (is_none t) 1 n d z)
+        (sound e ls (n + use_vars d) (Some (first_or_int ts)) h (first_over (sig base w) ts (int_over base w good) (usable_over (sig base w) ls (is_none t) 1 n d z)) u p.0))
     sound (not_expression i e) ls n None h k u q =
         let p = in_negation w false (names ls) true i e q in
         let x = sound e ls n None h tt u p.1 in

@@ -7,12 +7,12 @@ use Rattle.elab_groups.specs.surface.declared.names.At.{At}
 use Rattle.elab_groups.specs.tokens_why.declared.terminal.Terminal.TheVariants as t
 use Rattle.elab_groups.specs.surface.Lexeme.{Word, Lexeme, mark}
 use Rattle.elab_groups.specs.surface.Forms.{SyntaxForm, SyntaxForms, wild, variable, type_variable, composed, enclosed, aliased, no_forms, more_forms, type_forms, pattern_forms, IsForm, AreForms, AreParts, IsPlaced, PlacedRow, PlacedList, past, write_called, write_form, form_row, form_list, form_tail}
-use Rattle.elab_groups.specs.surface.Trees.{SyntaxTree, SyntaxTrees, Branches, SyntaxTrigger, TypedBinder, binds, apply, literal, truth, falsity, group, cast, prefixed, negation, binary, choice, cases, binding, quantified, no_branch, branch, untriggered, triggered, write, write_row, write_list, write_tail, write_branches, write_others, write_trigger, write_terms, terms_tail, write_op, alternative_list, alternative_tail, type_part, write_binder, binder_list, binder_tail, name_row, bar_before, IsLevel, AreAtoms, AreLevel, AreBranches, AreAlternatives, AreBinders, IsTypePart, IsTrigger, AreTerms, HasSome, HasForm, HasBranch, PlacedNames, PlacedPart, PlacedBinder, PlacedBinders, PlacedAlternatives, IsPlacedTree, PlacedTrees, PlacedCommas, PlacedBranches, PlacedTrigger}
+use Rattle.elab_groups.specs.surface.Trees.{SyntaxTree, SyntaxTrees, Branches, SyntaxTrigger, TypedBinder, binds, apply, literal, truth, falsity, group, cast, prefixed, negation, binary, choice, cases, access, binding, quantified, no_branch, branch, untriggered, triggered, write, write_row, write_list, write_tail, write_branches, write_others, write_trigger, write_terms, terms_tail, write_op, alternative_list, alternative_tail, type_part, write_binder, binder_list, binder_tail, name_row, bar_before, IsLevel, AreAtoms, AreLevel, AreBranches, AreAlternatives, AreBinders, IsTypePart, IsTrigger, AreTerms, HasSome, HasForm, HasBranch, PlacedNames, PlacedPart, PlacedBinder, PlacedBinders, PlacedAlternatives, IsPlacedTree, PlacedTrees, PlacedCommas, PlacedBranches, PlacedTrigger}
 use Rattle.elab_groups.specs.surface.Trees as tree
 use Rattle.elab_groups.specs.name_resolution.Abstract.{TypeExpression, TypeExpressions, no_types, more_types, Pattern, Patterns, no_patterns, more_patterns, BoundNames, Expression, Expressions, MatchBranches, more_expressions, count_forms, count_patterns, count_expressions, type_expression, type_expressions, grouped_forms, pattern, pattern_list, grouped_patterns, form_place, first_form, side_by_side, branch_alternatives, expression, expressions, grouped, match_branches, triggers, tree_place, first_tree, let_name, let_by, binder, operated, operator_meaning, OperatorMeaning, connective_operator, equality_operator, symbol_operator, text_of_own}
 use Rattle.elab_groups.specs.name_resolution.declared.NamingFault.{NamingFault}
 use Rattle.elab_groups.specs.name_resolution.declared.NamingFault.TheVariants.{Unknown, Duplicate, WrongKind, Arity}
-use Rattle.elab_groups.specs.name_resolution.Faults.{first_of, fault_if, meaning_fault, form_fault, forms_fault, type_fault, differ, is_predicate, is_variable, symbol_fault, local_fault, name_fault, binders_fault, bound_names, pattern_names, pattern_fault, patterns_fault, constructor_fault, same_names, later_fault, alternatives_fault, alternatives_names, has_alternative, is_formula_trigger, fault, faults, triggers_fault, branches_fault}
+use Rattle.elab_groups.specs.name_resolution.Faults.{first_of, fault_if, meaning_fault, form_fault, forms_fault, type_fault, differ, is_predicate, is_projection, is_variable, symbol_fault, entry_fault, field_fault, local_fault, name_fault, binders_fault, bound_names, pattern_names, pattern_fault, patterns_fault, constructor_fault, same_names, later_fault, alternatives_fault, alternatives_names, has_alternative, is_formula_trigger, fault, faults, triggers_fault, branches_fault}
 use Rattle.elab_groups.specs.name_resolution.Where.{Where, MeaningTree, place_of}
 use Rattle.elab_groups.specs.scopes.declared.Referent.TheVariants as stands
 use Rattle.elaboration_laws.specs.Checked.{token_of_fault, IsLeastFailing, FormFails, FormsFail, TypeFails, BindersFail, PatternFails, PatternsFail, LaterFail, AlternativesFail, NamesFail, AllNamesFail, TriggersFail, BranchesFail}
@@ -123,6 +123,14 @@ name_token w ls due i qs x n g q = of (is_variable qs x ls) (w.names qs x) q
     of false (Some k) z =
         let e = symbol_or w.symbols k in
         first_token i (fault_if (differ due (is_predicate e.kind)) (WrongKind i)) (fault_if (not (length e.args == n)) (Arity i)) (if_token i (differ due (is_predicate e.kind)) (WrongKind i) refl) (if_token i (not (length e.args == n)) (Arity i) refl) g z
+
+field_token : (w : Where) (due : Bool) (i : ℕ) (m : Option ℕ) (g : NamingFault) → field_fault w due i m ≡ Some g → token_of_fault g ≡ i
+field_token w due i None g q = ap token_of_fault (sym (same_fault (Unknown i) g q))
+field_token w due i (Some k) g q =
+    let e = symbol_or w.symbols k in
+    let differs = differ due (is_predicate e.kind) in
+    first_token i (fault_if (not (is_projection e.kind)) (WrongKind i)) (entry_fault due i 1 e) (if_token i (not (is_projection e.kind)) (WrongKind i) refl)
+    (first_token i (fault_if differs (WrongKind i)) (fault_if (not (length e.args == 1)) (Arity i)) (if_token i differs (WrongKind i) refl) (if_token i (not (length e.args == 1)) (Arity i) refl)) g q
 
 constructor_token : (w : Where) (i n : ℕ) (m : Option ℕ) (g : NamingFault) → constructor_fault w i n m ≡ Some g → token_of_fault g ≡ i
 constructor_token w i n None g q = ap token_of_fault (sym (same_fault (Unknown i) g q))
@@ -462,6 +470,7 @@ module _ (w : Where) (open_ : Bool) where
   tree_first (binary a e o f) i p = p.0
   tree_first (choice a c e f) i p = ap (λ (z : At). z.first) p.0
   tree_first (cases a es bar bs) i p = ap (λ (z : At). z.first) p.0
+  tree_first (access a e c) i p = ap (λ (z : At). z.first) p.0
   tree_first (binding a ps e f) i p = ap (λ (z : At). z.first) p.0
   tree_first (quantified a all bs g e) i p = ap (λ (z : At). z.first) p.0
 
@@ -537,6 +546,13 @@ module _ (w : Where) (open_ : Bool) where
         let u = past_more k (write_branches bs) (mark t.EndWord ∷ []) in
         both_at (i + 1) j k h i (past i (write (cases a es bar bs))) _ _ _ _ (omega arith) (omega (arith, m)) (omega (arith, l)) (omega (arith, n)) (omega (arith, s, r, u)) (subject_at es (i + 1) ls o.0 o.1 p.1)
         (both_at k k k h k h _ _ _ _ (omega arith) (omega arith) (omega arith) (omega (arith, n)) (omega arith) (never_at k (has_alternative (match_branches bs)) (WrongKind a.main) (has_one bs o.2 o.3)) (branches_at bs k ls due o.3 p.2))
+    tree_at (access a e c) i ls due o p =
+        let j = past i (write e) in
+        let l = past_up i (write e) in
+        let m = past_up (j + 1) (write_called c) in
+        let n : past i (write (access a e c)) ≡ past (past i (write e) + 1) (write_called c) = past_both i (write e) (mark t.Dot ∷ write_called c) in
+        both_at i j (j + 1) (j + 1) i (past i (write (access a e c))) _ _ _ _ (omega arith) (omega arith) (omega (arith, l)) (omega arith) (omega (arith, n, m)) (tree_at e i ls false o.1 p.1)
+        (own_at (j + 1) (field_fault w due c.at (w.names c.scopes (text_of_own c.own))) (λ g z. field_token w due c.at (w.names c.scopes (text_of_own c.own)) g z ∙ p.2))
     tree_at (binding a ps e f) i ls due o p =
         let j = past (i + 1) (form_list ps) in
         let k = past (j + 1) (write e) in

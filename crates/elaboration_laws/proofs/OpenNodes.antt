@@ -2,18 +2,18 @@
 use Rattle.std.proofs.Common.{◌≡◌, ℕ, ◌+◌, ◌-◌, ◌<◌, ◌≤◌, zero, suc, Bool, true, false, cond, nat_lt, List, [], ◌∷◌, ◌++◌, reverse, replicate, length, slice_get, Option, Some, None, IfSome, inl, inr, refl, sym, ap, subst, ◌∙◌, arith, append_assoc, append-nil, length-append}
 use Rattle.std.specs.Option.{is_none}
 use Rattle.std.specs.List.{AllByRecursion}
-use Rattle.elab_groups.specs.trees.Tree.{Tree, Leaf, One, Two, Three, Head, HTyVar}
+use Rattle.elab_groups.specs.trees.Tree.{Tree, Leaf, One, Two, Three, Head, HTyVar, HCell, HEnd}
 use Rattle.elab_groups.specs.trees.Facts.{TyVarsBelow, leaf_below}
 use Rattle.elab_groups.specs.tasks.Equations.{type_variables}
 use Rattle.elab_groups.specs.open_types.unify_types.Assigned.{Variable, assign, leaf_assigned}
 use Rattle.elab_groups.specs.open_types.unify_types.Pairs.{IsSolution, IsLeftOpen}
 use Rattle.elab_groups.proofs.open_types.unify_types.Assigning.{assign-unknown}
 use Rattle.elab_groups.specs.surface.Lexeme.{Word}
-use Rattle.elab_groups.specs.name_resolution.Abstract.{Pattern, Patterns, wildcard_pattern, variable_pattern, constructor_pattern, tuple_pattern, alias_pattern, no_patterns, more_patterns, Alternatives, no_alternatives, more_alternatives, Expression, Expressions, MatchBranches, applied_expression, infix_expression, integer_expression, true_expression, false_expression, tuple_expression, cast_expression, not_expression, connected_expression, equality_expression, if_expression, let_expression, match_expression, quantified_expression, no_expressions, more_expressions, no_branches, more_branches, count_patterns, count_expressions}
-use Rattle.elab_groups.specs.name_resolution.Faults.{first_of, name_fault, bound_names, alternatives_names, is_formula_trigger, token, fault, faults, triggers_fault, branches_fault}
+use Rattle.elab_groups.specs.name_resolution.Abstract.{Pattern, Patterns, wildcard_pattern, variable_pattern, constructor_pattern, tuple_pattern, alias_pattern, no_patterns, more_patterns, Alternatives, no_alternatives, more_alternatives, Expression, Expressions, MatchBranches, applied_expression, infix_expression, integer_expression, true_expression, false_expression, tuple_expression, cast_expression, field_expression, not_expression, connected_expression, equality_expression, if_expression, let_expression, match_expression, quantified_expression, no_expressions, more_expressions, no_branches, more_branches, count_patterns, count_expressions}
+use Rattle.elab_groups.specs.name_resolution.Faults.{first_of, name_fault, field_fault, bound_names, alternatives_names, is_formula_trigger, token, fault, faults, triggers_fault, branches_fault}
 use Rattle.elab_groups.specs.name_resolution.Where.{Where}
 use Rattle.elab_groups.specs.open_types.Patterns.{Notes, noted, LocalTree, local, taken, first_or_int, rest_of, entry_of, part_types, pattern_piece, patterns_piece, later_pieces, alternatives_pieces, all_notes, first_variables}
-use Rattle.elab_groups.specs.open_types.Pieces.{type_at, NotedTree, unknown, unknown_after, noted_before, piece, pieces, triggers_notes, branches_arms, Use, Local', Symbol', use_of_name, tuple_use, use_vars, used_piece, parameters, binders_vars, bound, names}
+use Rattle.elab_groups.specs.open_types.Pieces.{type_at, NotedTree, unknown, unknown_after, noted_before, bare_piece, both_pieces, piece, pieces, triggers_notes, branches_arms, Use, Local', Symbol', use_of_name, field_use, tuple_use, use_vars, used_piece, parameters, binders_vars, bound, names}
 use Rattle.elab_groups.specs.open_types.Scoped.{IsScoped}
 use Rattle.elab_groups.proofs.open_types.Below.{below_more, AreBelow, LocalsBelow, locals_more, wanted_more, list_more, both_all, reversed, first_below, rest_below, parameters_of, symbol_scoped, use_below, form_below, bound_below}
 use Rattle.elab_groups.proofs.open_types.Bounded.{alternatives_below}
@@ -157,6 +157,15 @@ module _ (w : Where) (sc : IsScoped w) where
     covered (cast_expression i e ty) ls n t ns due h k o f =
         let p = in_cast w false ns due i e ty f in
         plain_covered i n t (nodes_of w ls n (Some (type_at w ty)) e) (piece w ls n (Some (type_at w ty)) e).notes.takers k (covered e ls n (Some (type_at w ty)) ns false h (below_more (type_at w ty) (length w.vars) n o (form_below w sc ty p.2)) o p.1)
+    covered (field_expression i e c qs x) ls n t ns due h k o f =
+        let p = none_both (fault w false ns false e) (field_fault w due c (w.names qs x)) f in
+        let u = field_use w qs x in
+        let m = n + use_vars u in
+        let ts = parameters n u in
+        let inner = piece w ls m (Some (first_or_int ts)) e in
+        used_covered n i t u (both_pieces (Two HCell) inner (bare_piece (Leaf HEnd))) (nodes_of w ls m (Some (first_or_int ts)) e) k
+        (none_more m (nodes_of w ls m (Some (first_or_int ts)) e) inner.notes.takers
+        (covered e ls m (Some (first_or_int ts)) ns false (locals_more ls n m (omega arith) h) (first_below m ts (parameters_of n u (symbol_scoped w sc (w.names qs x)))) (omega (arith, o)) p.0))
     covered (not_expression i e) ls n t ns due h k o f =
         let p = in_negation w false ns due i e f in
         plain_covered i n None (nodes_of w ls n None e) (piece w ls n None e).notes.takers tt (covered e ls n None ns true h tt o p.1)

@@ -11,12 +11,12 @@ use Rattle.elab_groups.specs.trees.Facts.{TyVarsBelow, leaf_below}
 use Rattle.elab_groups.specs.tasks.Task.{SymbolTree}
 use Rattle.elab_groups.specs.tasks.Equations.{cells, type_variables}
 use Rattle.elab_groups.specs.surface.Lexeme.{Word}
-use Rattle.elab_groups.specs.name_resolution.Abstract.{TypeExpression, Pattern, Patterns, wildcard_pattern, variable_pattern, constructor_pattern, tuple_pattern, alias_pattern, no_patterns, more_patterns, Alternatives, no_alternatives, more_alternatives, BoundNames, Expression, Expressions, MatchBranches, applied_expression, infix_expression, integer_expression, true_expression, false_expression, tuple_expression, cast_expression, not_expression, connected_expression, equality_expression, if_expression, let_expression, match_expression, quantified_expression, no_expressions, more_expressions, no_branches, more_branches, count_patterns, count_expressions}
+use Rattle.elab_groups.specs.name_resolution.Abstract.{TypeExpression, Pattern, Patterns, wildcard_pattern, variable_pattern, constructor_pattern, tuple_pattern, alias_pattern, no_patterns, more_patterns, Alternatives, no_alternatives, more_alternatives, BoundNames, Expression, Expressions, MatchBranches, applied_expression, infix_expression, integer_expression, true_expression, false_expression, tuple_expression, cast_expression, field_expression, not_expression, connected_expression, equality_expression, if_expression, let_expression, match_expression, quantified_expression, no_expressions, more_expressions, no_branches, more_branches, count_patterns, count_expressions}
 use Rattle.elab_groups.specs.name_resolution.declared.NamingFault.TheVariants.{WrongKind}
-use Rattle.elab_groups.specs.name_resolution.Faults.{first_of, fault_if, form_fault, type_fault, name_fault, binders_fault, bound_names, alternatives_fault, alternatives_names, is_formula_trigger, token, fault, faults, triggers_fault, branches_fault}
+use Rattle.elab_groups.specs.name_resolution.Faults.{first_of, fault_if, form_fault, type_fault, name_fault, field_fault, binders_fault, bound_names, alternatives_fault, alternatives_names, is_formula_trigger, token, fault, faults, triggers_fault, branches_fault}
 use Rattle.elab_groups.specs.name_resolution.Where.{Where}
 use Rattle.elab_groups.specs.open_types.Patterns.{noted, no_notes, follow, taken, LocalTree, local, local_type, variable_equations, at_unknowns, result_or_int, first_or_int, rest_of, NumberedEntry, entry_of, Matched, part_types, constructed_by, pattern_piece, patterns_piece, later_pieces, alternatives_pieces, all_notes, first_variables, reordering, places_among, later_arms, arms}
-use Rattle.elab_groups.specs.open_types.Pieces.{type_at, NotedTree, unknown_after, unknown, noted_before, wanting, piece, pieces, triggers_notes, branches_arms, Arms, Use, Local', Symbol', variable_named, found_local, use_or, use_of_name, tuple_use, symbol_at_types, used_piece, use_vars, parameters, equality, untyped, locals_of_type, binder_locals, binder_vars, binders_vars, quantify, names}
+use Rattle.elab_groups.specs.open_types.Pieces.{type_at, NotedTree, unknown_after, unknown, noted_before, wanting, piece, pieces, triggers_notes, branches_arms, Arms, Use, Local', Symbol', variable_named, found_local, use_or, use_of_name, field_use, tuple_use, symbol_at_types, used_piece, use_vars, parameters, equality, untyped, locals_of_type, binder_locals, binder_vars, binders_vars, quantify, names}
 use Rattle.elab_groups.specs.open_types.Pieces as pieces_of
 use Rattle.elab_groups.specs.open_types.Scoped.{IsScoped, IsScopedEntry}
 use Rattle.elab_groups.proofs.open_types.Below.{both_all, symbol_scoped, form_below}
@@ -408,6 +408,17 @@ module _ (P : ℕ → Type 0) where
           let o = form_in ty r.1 in
           let x = owned e ls n (Some (type_at w ty)) ns false h o r.0 f in
           record { tree = x.tree; equations = both_equations (wanting (type_at w ty) t) (piece w ls n (Some (type_at w ty)) e).notes.equations (wanting_in (type_at w ty) t o k) x.equations }
+      owned (field_expression i e c qs x) ls n t ns due h k q f =
+          let p = none_both (fault w false ns false e) (field_fault w due c (w.names qs x)) q in
+          let u = field_use w qs x in
+          let z = symbol_scoped w sc (w.names qs x) in
+          let m = n + use_vars u in
+          let ts = parameters n u in
+          let inner = piece w ls m (Some (first_or_int ts)) e in
+          let args : NotedTree = record { tree = Two HCell inner.tree (Leaf HEnd); notes = follow inner.notes no_notes } in
+          used_in n t i u args z k f (λ a b.
+          let r = owned e ls m (Some (first_or_int ts)) ns false h (first_in ts (parameters_in n u z a)) p.0 (no_more m inner.notes.takers b) in
+          record { tree = (r.tree, tt); equations = both_equations inner.notes.equations [] r.equations tt })
       owned (not_expression i e) ls n t ns due h k q f =
           let p = none_both (fault_if (not due) (WrongKind i)) (fault w false ns true e) q in
           let x = owned e ls n None ns true h tt p.1 f in

@@ -19,12 +19,12 @@ use Rattle.elab_groups.specs.open_types.unify_types.Assigned.{assign}
 use Rattle.elab_groups.specs.open_types.unify_types.Pairs.{IsKind, SolvesAll}
 use Rattle.elab_groups.proofs.open_types.unify_types.Assigning.{assign-unknown}
 use Rattle.elab_groups.specs.surface.Lexeme.{Word}
-use Rattle.elab_groups.specs.name_resolution.Abstract.{TypeExpression, Pattern, Patterns, wildcard_pattern, variable_pattern, constructor_pattern, tuple_pattern, alias_pattern, no_patterns, more_patterns, Alternatives, no_alternatives, more_alternatives, BoundNames, Expression, Expressions, MatchBranches, applied_expression, infix_expression, integer_expression, true_expression, false_expression, tuple_expression, cast_expression, not_expression, connected_expression, equality_expression, if_expression, let_expression, match_expression, quantified_expression, no_expressions, more_expressions, no_branches, more_branches, count_patterns, count_expressions}
+use Rattle.elab_groups.specs.name_resolution.Abstract.{TypeExpression, Pattern, Patterns, wildcard_pattern, variable_pattern, constructor_pattern, tuple_pattern, alias_pattern, no_patterns, more_patterns, Alternatives, no_alternatives, more_alternatives, BoundNames, Expression, Expressions, MatchBranches, applied_expression, infix_expression, integer_expression, true_expression, false_expression, tuple_expression, cast_expression, field_expression, not_expression, connected_expression, equality_expression, if_expression, let_expression, match_expression, quantified_expression, no_expressions, more_expressions, no_branches, more_branches, count_patterns, count_expressions}
 use Rattle.elab_groups.specs.name_resolution.declared.NamingFault.TheVariants.{WrongKind, Arity, Duplicate}
 use Rattle.elab_groups.specs.name_resolution.Where.{Where, place_of}
-use Rattle.elab_groups.specs.name_resolution.Faults.{first_of, fault_if, is_predicate, differ, symbol_fault, local_fault, name_fault, constructor_fault, pattern_fault, patterns_fault, later_fault, same_names, pattern_names, alternatives_fault, alternatives_names, bound_names, type_fault, binders_fault, is_formula_trigger, token, fault, faults, triggers_fault, branches_fault}
+use Rattle.elab_groups.specs.name_resolution.Faults.{first_of, fault_if, is_predicate, differ, symbol_fault, local_fault, name_fault, field_fault, constructor_fault, pattern_fault, patterns_fault, later_fault, same_names, pattern_names, alternatives_fault, alternatives_names, bound_names, type_fault, binders_fault, is_formula_trigger, token, fault, faults, triggers_fault, branches_fault}
 use Rattle.elab_groups.specs.open_types.Patterns.{noted, taken, LocalTree, local, at_unknowns, result_or_int, first_or_int, rest_of, NumberedEntry, entry_of, Matched, part_types, constructed_by, local_type, variable_equations, pattern_piece, patterns_piece, later_pieces, alternatives_pieces, all_notes, first_variables, arms}
-use Rattle.elab_groups.specs.open_types.Pieces.{type_at, NotedTree, unknown_after, unknown, wanting, noted_before, both_pieces, bare_piece, piece, pieces, triggers_notes, branches_arms, Use, Local', Symbol', found_local, use_or, use_of_name, tuple_use, used_piece, use_vars, parameters, equality, binder_locals, binder_vars, binders_vars, bound, untyped, names}
+use Rattle.elab_groups.specs.open_types.Pieces.{type_at, NotedTree, unknown_after, unknown, wanting, noted_before, both_pieces, bare_piece, piece, pieces, triggers_notes, branches_arms, Use, Local', Symbol', found_local, use_or, use_of_name, field_use, tuple_use, used_piece, use_vars, parameters, equality, binder_locals, binder_vars, binders_vars, bound, untyped, names}
 use Rattle.elab_groups.specs.open_types.Scoped.{IsScoped, IsScopedEntry}
 use Rattle.elab_groups.proofs.open_types.Below.{symbol_scoped, both_all}
 use Rattle.elab_groups.proofs.open_types.Noting.{count_replicate, replicate_both}
@@ -34,9 +34,10 @@ use Rattle.elab_groups.proofs.open_types.Branching.{in_cases, first_names}
 use Rattle.elab_groups.proofs.open_types.Quantified.{in_quantified, names_bound}
 use Rattle.elaboration_laws.proofs.Instances.{cells_assigned}
 use Rattle.elaboration_laws.specs.Signature.{with_entries, IsWellFormed, IsSymbol, IsTuple, HasTuple, PatternTuples, PatternsTuples, AlternativesTuples, HasTuples, HaveTuples, BranchesTuples}
-use Rattle.elaboration_laws.specs.Typings.{IsDueResult, choices_from, Choice, choices_at, Both, Choosing, IsUseTyping, pair_cells, IsPair, PatternTree, pattern_tree, beside, Constructed, IsPatternTyping, ArePatternTypings, AgreeWith, AreLaterTypings, AreAlternativeTypings, first_bound, IsBinderTyping, AreBinderTypings, IsTriggerTyping, if_tree, case_tree, both_trees, IsTyping, AreTypings, AreTriggerTypings, AreBranchTypings, ElaboratesTo, HasOwnTypes}
+use Rattle.elaboration_laws.specs.Typings.{IsDueResult, choices_from, Choice, choices_at, Both, Choosing, IsUseTyping, IsSingle, pair_cells, IsPair, PatternTree, pattern_tree, beside, Constructed, IsPatternTyping, ArePatternTypings, AgreeWith, AreLaterTypings, AreAlternativeTypings, first_bound, IsBinderTyping, AreBinderTypings, IsTriggerTyping, if_tree, case_tree, both_trees, IsTyping, AreTypings, AreTriggerTypings, AreBranchTypings, ElaboratesTo, HasOwnTypes}
 use Rattle.elab_groups.specs.Groups.{typed_locals}
 use Rattle.elaboration_laws.proofs.TypingSolutions.{at_local, at_locals, at_use, use_same, UseScoped, use_scoped, names_at, inside_at, type_same, one_at, parameters_at, types_tree, count_variables, AreMatchedAt, first_at, arms_at, typed_at, form_at, quantify_at, equality_at, locals_own, wanted_own}
+use Rattle.elaboration_laws.proofs.Sound.{field_applied}
 use Rattle.elaboration_laws.proofs.Expressions.{names_inside}
 use Rattle.elaboration_laws.proofs.Patterns.{constructor_is as is_constructor}
 use Rattle.elaboration_laws.proofs.Signed.{is_predicate_kind}
@@ -118,6 +119,9 @@ module _ (base : Vocabulary) (w : Where) (good : IsWellFormed base w) (sc : IsSc
       of (Some p) z =
           let l = none_both (fault_if due (WrongKind i)) (fault_if (not (n == 0)) (Arity i)) z in
           (not_if due (WrongKind i) l.0, eqb-true n 0 (must_be (n == 0) (Arity i) l.1))
+
+  field_can : (due : Bool) (i : ℕ) (m : Option ℕ) → IfSome m (IsSymbol (with_entries base w.symbols)) → field_fault w due i m ≡ None → CanUse due 1 (Symbol' (entry_of w.symbols m))
+  field_can due i m s h = symbol_can due i 1 m s (field_applied w due i m h)
 
   constructor_term : (e : SymbolTree) → e.kind ≡ Constructor → is_predicate e.kind ≡ false
   constructor_term e h = ap is_predicate h
@@ -317,6 +321,12 @@ module _ (base : Vocabulary) (w : Where) (good : IsWellFormed base w) (sc : IsSc
       (binder_typed n i b.names b.of_type l h.0) (subst (λ (j : ℕ). AreBinderTypings w i bs (ats us) (from_ (n + j) (replicate (binders_vars bs) i))) (sym (count_replicate k i)) x) in
       subst (λ (is : List ℕ). Both (λ y c. IsBinderTyping w i b.names b.of_type y c) (λ y c. AreBinderTypings w i bs y c) (λ y z. y ++ z) (ats (vs ++ us)) (from_ n is)) (sym (replicate_both k (binders_vars bs) i)) both
 
+  single_typed : (n : ℕ) (ts : List Tree) (p : NotedTree) (Is : Option Tree → Tree → List Choice → Type 0) → length ts ≡ 1 → Is (Some (at (first_or_int ts))) (at p.tree) (from_ n p.notes.takers)
+      → IsSingle Is (map at ts) (at (both_pieces (Two HCell) p (bare_piece (Leaf HEnd))).tree) (from_ n (p.notes.takers ++ []))
+  single_typed n [] p Is e x = absurd (omega (arith, e))
+  single_typed n (t ∷ u ∷ ts) p Is e x = absurd (omega (arith, e))
+  single_typed n (t ∷ []) p Is e x = (at p.tree, subst (λ (is : List ℕ). Is (Some (at t)) (at p.tree) (from_ n is)) (sym (append-nil p.notes.takers)) x, refl)
+
   two_typed : (n : ℕ) (ts : List Tree) (p q : NotedTree) (Left Right : Option Tree → Tree → List Choice → Type 0) → length ts ≡ 2 → Left (Some (at (first_or_int ts))) (at p.tree) (from_ n p.notes.takers)
       → Right (Some (at (first_or_int (rest_of ts)))) (at q.tree) (from_ (unknown_after n p) q.notes.takers)
       → IsPair Left Right (map at ts) (at (both_pieces (Two HCell) p (both_pieces (Two HCell) q (bare_piece (Leaf HEnd)))).tree) (from_ n (p.notes.takers ++ (q.notes.takers ++ [])))
@@ -384,6 +394,14 @@ module _ (base : Vocabulary) (w : Where) (good : IsWellFormed base w) (sc : IsSc
         let o = (form_at w sc r own f kinds) g h.2 in
         let y = typed a ls n (Some (type_at w g)) l u.0 h.1 s.1 in
         (ap (λ (z : Tree). Some z) (sym s.0 ∙ o), subst (λ (z : Tree). IsTyping w (ats ls) (Some z) a (at (piece w ls n (Some (type_at w g)) a).tree) (from_ n (piece w ls n (Some (type_at w g)) a).notes.takers)) o y)
+    typed (field_expression i a k qs x) ls n t l u q s =
+        let h = none_both (fault w false (names ls) false a) (field_fault w (is_none t) k (w.names qs x)) q in
+        let c = field_use w qs x in
+        let ts = parameters n c in
+        let m = n + use_vars c in
+        let inner = piece w ls m (Some (first_or_int ts)) a in
+        used_typed n i 1 t c (IsSingle (λ v y d. IsTyping w (ats ls) v a y d)) (both_pieces (Two HCell) inner (bare_piece (Leaf HEnd))) l (symbol_scoped w sc (w.names qs x)) (field_can (is_none t) k (w.names qs x) (good.names qs x) h.1) s (λ e. absurd (omega (arith, e)))
+        (λ j z. single_typed m ts inner (λ v y d. IsTyping w (ats ls) v a y d) j (typed a ls m (Some (first_or_int ts)) (omega arith) u h.0 (parts_solved r f inner.notes.equations [] z).0))
     typed (not_expression i a) ls n (Some t) l u q s = absurd (cc (q))
     typed (not_expression i a) ls n None l u q s = let h = in_negation w false (names ls) true i a q in (refl, (at (piece w ls n None a).tree, typed a ls n None l u h.1 s, refl))
     typed (connected_expression i a op b) ls n t l u q s =

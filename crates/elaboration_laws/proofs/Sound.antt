@@ -21,10 +21,10 @@ use Rattle.elab_groups.specs.open_types.unify_types.Assigned.{assign}
 use Rattle.elab_groups.specs.open_types.unify_types.Pairs.{SolvesAll}
 use Rattle.elab_groups.specs.surface.Lexeme.{Word}
 use Rattle.elab_groups.specs.name_resolution.declared.NamingFault.TheVariants.{WrongKind, Arity}
-use Rattle.elab_groups.specs.name_resolution.Faults.{fault_if, name_fault, local_fault, symbol_fault, is_predicate, differ}
+use Rattle.elab_groups.specs.name_resolution.Faults.{fault_if, name_fault, field_fault, local_fault, symbol_fault, is_predicate, is_projection, differ, entry_fault}
 use Rattle.elab_groups.specs.name_resolution.Where.{Where}
 use Rattle.elab_groups.specs.open_types.Patterns.{Notes, noted, no_notes, follow, LocalTree, at_unknowns, result_or_int, first_or_int, rest_of, NumberedEntry, entry_of}
-use Rattle.elab_groups.specs.open_types.Pieces.{NotedTree, bare_piece, both_pieces, Use, Local', Symbol', variable_named, found_local, use_or, use_of_name, tuple_use, parameters, used_piece, names}
+use Rattle.elab_groups.specs.open_types.Pieces.{NotedTree, bare_piece, both_pieces, Use, Local', Symbol', variable_named, found_local, use_or, use_of_name, field_use, tuple_use, parameters, used_piece, names}
 use Rattle.elab_groups.proofs.open_types.Below.{both_all}
 use Rattle.elab_groups.proofs.open_types.Walking.{none_both, not_if, must_be}
 use Rattle.elaboration_laws.specs.Signature.{with_entries, IsSymbol, IsTuple, IsWellFormed, HasTuple}
@@ -122,6 +122,11 @@ usable_over v ls due n m (Symbol' e) h = parameters_over v e.symbol h.0.types m
 abbrev pub sig : Vocabulary → Where → Vocabulary
 sig base w = with_entries base w.symbols
 
+-- a field's name without a fault is that of a symbol of one argument
+pub field_applied : (w : Where) (due : Bool) (i : ℕ) (m : Option ℕ) → field_fault w due i m ≡ None → symbol_fault w due i 1 m ≡ None
+field_applied w due i None h = absurd (cc (h))
+field_applied w due i (Some k) h = let e = symbol_or w.symbols k in (none_both (fault_if (not (is_projection e.kind)) (WrongKind i)) (entry_fault due i 1 e) h).1
+
 -- ---- notes
 module _ (base : Vocabulary) (w : Where) (rigid : ℕ) where
   -- a pattern of a type
@@ -167,6 +172,9 @@ module _ (base : Vocabulary) (w : Where) (good : IsWellFormed base w) (rigid : �
           let l = none_both (fault_if due (WrongKind i)) (fault_if (not (n == 0)) (Arity i)) z in
           (not_if due (WrongKind i) l.0, eqb-true n 0 (must_be (n == 0) (Arity i) l.1), k.0, k.1)
 
+  pub field_usable : (ls : List LocalTree) (due : Bool) (i : ℕ) (qs : List Word) (x : Word) → field_fault w due i (w.names qs x) ≡ None → IsUsable (sig base w) ls due 1 (field_use w qs x)
+  field_usable ls due i qs x h = symbol_usable ls due i 1 (w.names qs x) (good.names qs x) (field_applied w due i (w.names qs x) h)
+
   pub tuple_usable : (ls : List LocalTree) (n : ℕ) → HasTuple base w n → IsUsable (sig base w) ls false n (tuple_use w n)
   tuple_usable ls n h = of (w.tuples n) h
     where
@@ -197,6 +205,11 @@ module _ (base : Vocabulary) (w : Where) (good : IsWellFormed base w) (rigid : �
         let b = y.typed f o (rest_solved rigid f p.notes.equations q.notes.equations s) i.1 in
         cell_typed (sig base w) (assigned_types rigid f ls) Term (assign rigid f t) (map (assign rigid f) ts) (assign rigid f p.tree) (assign rigid f q.tree) (λ e. cc) a.0 a.1.0 a.1.1 b;
   }
+
+  pub one_argument : (ls : List LocalTree) (ts : List Tree) (p : NotedTree) → length ts ≡ 1 → IsSound ls (Some (first_or_int ts)) p → AreSound ls ts (both_pieces (Two HCell) p (bare_piece (Leaf HEnd)))
+  one_argument ls [] p n x = absurd (cc)
+  one_argument ls (t ∷ []) p n x = more_arguments ls t [] p _ x (no_arguments ls)
+  one_argument ls (t ∷ u ∷ ts) p n x = absurd (cc)
 
   -- two operands
   pub two_arguments : (ls : List LocalTree) (ts : List Tree) (p q : NotedTree) → length ts ≡ 2 → IsSound ls (Some (first_or_int ts)) p → IsSound ls (Some (first_or_int (rest_of ts))) q → AreSound ls ts (both_pieces (Two HCell) p (both_pieces (Two HCell) q (bare_piece (Leaf HEnd))))

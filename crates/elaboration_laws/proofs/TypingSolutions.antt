@@ -17,13 +17,13 @@ use Rattle.elab_groups.specs.open_types.unify_types.Assigned.{assign, leaf_assig
 use Rattle.elab_groups.specs.open_types.unify_types.Pairs.{IsKind, SolvesAll}
 use Rattle.elab_groups.proofs.open_types.unify_types.Assigning.{assign-unknown, assign-rigid}
 use Rattle.elab_groups.specs.surface.Lexeme.{Word}
-use Rattle.elab_groups.specs.name_resolution.Abstract.{TypeExpression, Pattern, Patterns, wildcard_pattern, variable_pattern, constructor_pattern, tuple_pattern, alias_pattern, no_patterns, more_patterns, Alternatives, no_alternatives, more_alternatives, BoundNames, Expression, Expressions, MatchBranches, applied_expression, infix_expression, integer_expression, true_expression, false_expression, tuple_expression, cast_expression, not_expression, connected_expression, equality_expression, if_expression, let_expression, match_expression, quantified_expression, no_expressions, more_expressions, no_branches, more_branches, count_patterns, count_expressions}
-use Rattle.elab_groups.specs.name_resolution.Faults.{first_of, name_fault, form_fault, type_fault, binders_fault, bound_names, is_formula_trigger, token, fault, faults, triggers_fault, branches_fault, alternatives_names}
+use Rattle.elab_groups.specs.name_resolution.Abstract.{TypeExpression, Pattern, Patterns, wildcard_pattern, variable_pattern, constructor_pattern, tuple_pattern, alias_pattern, no_patterns, more_patterns, Alternatives, no_alternatives, more_alternatives, BoundNames, Expression, Expressions, MatchBranches, applied_expression, infix_expression, integer_expression, true_expression, false_expression, tuple_expression, cast_expression, field_expression, not_expression, connected_expression, equality_expression, if_expression, let_expression, match_expression, quantified_expression, no_expressions, more_expressions, no_branches, more_branches, count_patterns, count_expressions}
+use Rattle.elab_groups.specs.name_resolution.Faults.{first_of, name_fault, field_fault, form_fault, type_fault, binders_fault, bound_names, is_formula_trigger, token, fault, faults, triggers_fault, branches_fault, alternatives_names}
 use Rattle.elab_groups.specs.name_resolution.Where.{Where}
 use Rattle.elab_groups.specs.open_types.Patterns.{Notes, noted, no_notes, follow, taken, LocalTree, local, at_unknowns, result_or_int, first_or_int, rest_of, NumberedEntry, entry_of, Matched, part_types, constructed_by, local_type, variable_equations, pattern_piece, patterns_piece, later_pieces, alternatives_pieces, all_notes, first_variables, place_among, places_among, reordered, later_arms, arms}
-use Rattle.elab_groups.specs.open_types.Pieces.{type_at, NotedTree, unknown_after, unknown, wanting, noted_before, both_pieces, bare_piece, piece, pieces, triggers_notes, branches_arms, Arms, Use, Local', Symbol', variable_named, found_local, use_or, use_of_name, tuple_use, used_piece, local_piece, use_vars, parameters, symbol_at_types, equality, binder_locals, binder_vars, binders_vars, bound, untyped, locals_of_type, quantify, names}
+use Rattle.elab_groups.specs.open_types.Pieces.{type_at, NotedTree, unknown_after, unknown, wanting, noted_before, both_pieces, bare_piece, piece, pieces, triggers_notes, branches_arms, Arms, Use, Local', Symbol', variable_named, found_local, use_or, use_of_name, field_use, tuple_use, used_piece, local_piece, use_vars, parameters, symbol_at_types, equality, binder_locals, binder_vars, binders_vars, bound, untyped, locals_of_type, quantify, names}
 use Rattle.elab_groups.specs.open_types.Scoped.{IsScoped, IsScopedEntry}
-use Rattle.elaboration_laws.specs.Typings.{IsDueResult, Choice, choices_at, tokens, Both, Choosing, SymbolUsed, IsUseTyping, pair_cells, IsPair, PatternTree, Constructed, IsPatternTyping, ArePatternTypings, AgreeWith, AreLaterTypings, AreAlternativeTypings, first_bound, arms_after, arms_of_patterns, IsBinderTyping, AreBinderTypings, IsTriggerTyping, if_tree, case_tree, IsTyping, AreTypings, AreTriggerTypings, AreBranchTypings, IsPieceAt, HasOwnTypes}
+use Rattle.elaboration_laws.specs.Typings.{IsDueResult, Choice, choices_at, tokens, Both, Choosing, SymbolUsed, IsUseTyping, IsSingle, pair_cells, IsPair, PatternTree, Constructed, IsPatternTyping, ArePatternTypings, AgreeWith, AreLaterTypings, AreAlternativeTypings, first_bound, arms_after, arms_of_patterns, IsBinderTyping, AreBinderTypings, IsTriggerTyping, if_tree, case_tree, IsTyping, AreTypings, AreTriggerTypings, AreBranchTypings, IsPieceAt, HasOwnTypes}
 use Rattle.elab_groups.specs.Groups.{typed_locals}
 use Rattle.elab_groups.proofs.open_types.Below.{below_more, form_below, symbol_scoped}
 use Rattle.elab_groups.proofs.open_types.Noting.{count_replicate, replicate_both}
@@ -462,7 +462,19 @@ module _ (w : Where) (sc : IsScoped w) (r : ℕ) (own : length w.vars ≤ r) (f 
   equality_at true a b = refl
   equality_at false a b = refl
 
-  -- ---- two arguments
+  -- ---- one argument, and two
+  single_at : (n : ℕ) (ts : List Tree) (p : NotedTree) (Is : Option Tree → Tree → List Choice → Type 0) (e : Tree) (cs : List Choice) → IsSingle Is (map at ts) e cs → Meets n cs
+      → ((y : Tree) (c : List Choice) → Is (Some (at (first_or_int ts))) y c → Meets n c → At p y c) → At (both_pieces (Two HCell) p (bare_piece (Leaf HEnd))) e cs
+  single_at n [] p Is e cs d m g = absurd d
+  single_at n (t ∷ u ∷ ts) p Is e cs d m g = absurd d
+  single_at n (t ∷ []) p Is e cs d m g =
+      let x = g d.0 cs d.1 m in
+      record {
+        solves = subst (SolvesAll r f) (sym (append-nil p.notes.equations)) x.solves;
+        tree = ap (λ (y : Tree). Two HCell y (Leaf HEnd)) x.tree ∙ sym d.2;
+        takers = append-nil p.notes.takers ∙ x.takers;
+      }
+
   two_at : (n : ℕ) (ts : List Tree) (p q : NotedTree) (Left Right : Option Tree → Tree → List Choice → Type 0) (e : Tree) (cs : List Choice) → IsPair Left Right (map at ts) e cs → Meets n cs
       → ((y : Tree) (c : List Choice) → Left (Some (at (first_or_int ts))) y c → Meets n c → At p y c) → ((y : Tree) (c : List Choice) → Right (Some (at (first_or_int (rest_of ts)))) y c → Meets (unknown_after n p) c → At q y c)
       → At (both_pieces (Two HCell) p (both_pieces (Two HCell) q (bare_piece (Leaf HEnd)))) e cs
@@ -534,6 +546,14 @@ module _ (w : Where) (sc : IsScoped w) (r : ℕ) (own : length w.vars ≤ r) (f 
         cast_at : (t : Option Tree) (u : Tree) → at u ≡ u → option_map at t ≡ Some u → SolvesAll r f (wanting u t)
         cast_at None u o h = tt
         cast_at (Some t) u o h = (o ∙ sym (some_same (at t) u h), tt)
+    meets (field_expression i a k qs x) ls n t ns due e cs l q d m =
+        let h = none_both (fault w false ns false a) (field_fault w due k (w.names qs x)) q in
+        let u = field_use w qs x in
+        let ts = parameters n u in
+        let o = n + use_vars u in
+        let inner = piece w ls o (Some (first_or_int ts)) a in
+        used_at n i t u (IsSingle (λ v y c. IsTyping w (at_locals ls) v a y c)) (both_pieces (Two HCell) inner (bare_piece (Leaf HEnd))) e cs l (symbol_scoped w sc (w.names qs x)) d m
+        (λ y c p g. single_at o ts inner (λ v z f'. IsTyping w (at_locals ls) v a z f') y c p g (λ z f' v s. meets a ls o (Some (first_or_int ts)) ns false z f' (omega arith) h.0 v s))
     meets (not_expression i a) ls n t ns due e cs l q d m =
         let h = in_negation w false ns due i a q in
         let x = meets a ls n None ns true d.1.0 cs l h.1 d.1.1 m in

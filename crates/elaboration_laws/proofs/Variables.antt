@@ -162,6 +162,7 @@ module _ (P : Word → Type 0) where
         let r = tail_at (mark t.MatchWord) (write_list es ++ (mark t.WithWord ∷ inner)) q in
         let u = back_at (bar_before bar) (write_branches bs ++ end) (tail_at (mark t.WithWord) inner (back_at (write_list es) (mark t.WithWord ∷ inner) r)) in
         branches_told bs (seen s (grouped (first_tree es) (expressions es))) (front_at (write_branches bs) end u) (grouped_told es (first_tree es) s (front_at (write_list es) (mark t.WithWord ∷ inner) r) h)
+    tree_told (tree.access a e c) s q h = tree_told e s (front_at (write e) (mark t.Dot ∷ write_called c) q) h
     tree_told (tree.binding a ps e f) s q h =
         let last = mark t.InWord ∷ write f in
         let mid = mark t.Equal ∷ (write e ++ last) in

@@ -1,7 +1,7 @@
 -- Each tuple of an expression has a constructor where each width that is seen in it has one.
 use Rattle.std.proofs.Common.{◌≡◌, ℕ, ◌==◌, ◌||◌, Bool, true, false, cond, List, [], ◌∷◌, ◌++◌, Option, Some, None, IfSome, eq-eqb, refl, ap}
 use Rattle.elab_groups.specs.tasks.Vocabulary.{Vocabulary}
-use Rattle.elab_groups.specs.name_resolution.Abstract.{TypeExpression, TypeExpressions, variable_type, composed_type, product_type, no_types, more_types, Pattern, Patterns, wildcard_pattern, variable_pattern, constructor_pattern, tuple_pattern, alias_pattern, no_patterns, more_patterns, Alternatives, no_alternatives, more_alternatives, BoundNames, Expression, Expressions, MatchBranches, applied_expression, infix_expression, integer_expression, true_expression, false_expression, tuple_expression, cast_expression, not_expression, connected_expression, equality_expression, if_expression, let_expression, match_expression, quantified_expression, no_expressions, more_expressions, no_branches, more_branches, count_forms, count_patterns, count_expressions}
+use Rattle.elab_groups.specs.name_resolution.Abstract.{TypeExpression, TypeExpressions, variable_type, composed_type, product_type, no_types, more_types, Pattern, Patterns, wildcard_pattern, variable_pattern, constructor_pattern, tuple_pattern, alias_pattern, no_patterns, more_patterns, Alternatives, no_alternatives, more_alternatives, BoundNames, Expression, Expressions, MatchBranches, applied_expression, infix_expression, integer_expression, true_expression, false_expression, tuple_expression, cast_expression, field_expression, not_expression, connected_expression, equality_expression, if_expression, let_expression, match_expression, quantified_expression, no_expressions, more_expressions, no_branches, more_branches, count_forms, count_patterns, count_expressions}
 use Rattle.elab_groups.specs.name_resolution.Where.{Where}
 use Rattle.elab_groups.specs.name_resolution.variables.Seen.{SeenTree, has_width, with_width, form_seen, forms_seen, type_seen, binders_seen, pattern_seen, patterns_seen, alternatives_seen, seen, all_seen, branches_seen}
 use Rattle.elaboration_laws.specs.Signature.{HasTuple, FormTuples, FormsTuples, BindersTuples, PatternTuples, PatternsTuples, AlternativesTuples, HasTuples, HaveTuples, BranchesTuples}
@@ -87,6 +87,7 @@ mutual
   grows (false_expression i) s = λ n h. h
   grows (tuple_expression i es) s = λ n h. all_grow es (with_width (count_expressions es) s) n (width_grows (count_expressions es) s n h)
   grows (cast_expression i e f) s = λ n h. form_grows f (seen s e) n (grows e s n h)
+  grows (field_expression i e k qs x) s = grows e s
   grows (not_expression i e) s = grows e s
   grows (connected_expression i a o b) s = λ n h. grows b (seen s a) n (grows a s n h)
   grows (equality_expression i same a b) s = λ n h. grows b (seen s a) n (grows a s n h)
@@ -160,6 +161,7 @@ module _ (base : Vocabulary) (w : Where) where
         let m = count_expressions es in
         (g m (all_grow es (with_width m s) m (width_there m s)), all_tuples es (with_width m s) g)
     tuples_seen (cast_expression i e f) s g = (tuples_seen e s (λ n h. g n (form_grows f (seen s e) n h)), form_tuples f (seen s e) g)
+    tuples_seen (field_expression i e k qs x) s g = tuples_seen e s g
     tuples_seen (not_expression i e) s g = tuples_seen e s g
     tuples_seen (connected_expression i a o b) s g = two_tuples a b s (λ h. tuples_seen a s h) (λ h. tuples_seen b (seen s a) h) g
     tuples_seen (equality_expression i same a b) s g = two_tuples a b s (λ h. tuples_seen a s h) (λ h. tuples_seen b (seen s a) h) g

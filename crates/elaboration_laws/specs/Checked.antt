@@ -3,10 +3,10 @@
 use Rattle.std.specs.Prelude.{◌≡◌, ℕ, ◌≤◌, Bool, true, false, cond, not, List, [], ◌∷◌, ◌++◌, reverse, Option, Some, None, ◌⊎◌}
 use Rattle.std.specs.Option.{is_some, is_none}
 use Rattle.elab_groups.specs.surface.Lexeme.{Word}
-use Rattle.elab_groups.specs.name_resolution.Abstract.{TypeExpression, TypeExpressions, variable_type, composed_type, product_type, no_types, more_types, Pattern, Patterns, wildcard_pattern, variable_pattern, constructor_pattern, tuple_pattern, alias_pattern, no_patterns, more_patterns, Alternatives, no_alternatives, more_alternatives, BoundNames, Expression, Expressions, MatchBranches, applied_expression, infix_expression, integer_expression, true_expression, false_expression, tuple_expression, cast_expression, not_expression, connected_expression, equality_expression, if_expression, let_expression, match_expression, quantified_expression, no_expressions, more_expressions, no_branches, more_branches, count_forms, count_patterns, count_expressions}
+use Rattle.elab_groups.specs.name_resolution.Abstract.{TypeExpression, TypeExpressions, variable_type, composed_type, product_type, no_types, more_types, Pattern, Patterns, wildcard_pattern, variable_pattern, constructor_pattern, tuple_pattern, alias_pattern, no_patterns, more_patterns, Alternatives, no_alternatives, more_alternatives, BoundNames, Expression, Expressions, MatchBranches, applied_expression, infix_expression, integer_expression, true_expression, false_expression, tuple_expression, cast_expression, field_expression, not_expression, connected_expression, equality_expression, if_expression, let_expression, match_expression, quantified_expression, no_expressions, more_expressions, no_branches, more_branches, count_forms, count_patterns, count_expressions}
 use Rattle.elab_groups.specs.name_resolution.declared.NamingFault.{NamingFault}
 use Rattle.elab_groups.specs.name_resolution.declared.NamingFault.TheVariants.{Memory, Unknown, Duplicate, WrongKind, Arity}
-use Rattle.elab_groups.specs.name_resolution.Faults.{fault_if, meaning_fault, name_fault, bound_names, pattern_names, constructor_fault, same_names, alternatives_names, has_alternative, is_formula_trigger}
+use Rattle.elab_groups.specs.name_resolution.Faults.{fault_if, meaning_fault, name_fault, field_fault, bound_names, pattern_names, constructor_fault, same_names, alternatives_names, has_alternative, is_formula_trigger}
 use Rattle.elab_groups.specs.name_resolution.Where.{Where, place_of}
 
 -- the token of a fault
@@ -89,6 +89,8 @@ abbrev mutual
   NamesFail w open_ ls due (cast_expression i e f) g =
       (fault_if due (WrongKind i) ≡ Some g)
       ⊎ (NamesFail w open_ ls false e g ⊎ FormFails w open_ f g)
+  NamesFail w open_ ls due (field_expression i e k qs x) g =
+      NamesFail w open_ ls false e g ⊎ (field_fault w due k (w.names qs x) ≡ Some g)
   NamesFail w open_ ls due (not_expression i e) g =
       (fault_if (not due) (WrongKind i) ≡ Some g) ⊎ NamesFail w open_ ls true e g
   NamesFail w open_ ls due (connected_expression i a o b) g =

@@ -6,11 +6,11 @@ use Rattle.elab_groups.specs.trees.Tree.{Tree}
 use Rattle.elab_groups.specs.tasks.Equations.{type_variables}
 use Rattle.elab_groups.specs.open_types.unify_types.Assigned.{assign}
 use Rattle.elab_groups.specs.open_types.unify_types.Pairs.{IsSolution}
-use Rattle.elab_groups.specs.name_resolution.Abstract.{Pattern, Patterns, wildcard_pattern, variable_pattern, constructor_pattern, tuple_pattern, alias_pattern, no_patterns, more_patterns, Alternatives, no_alternatives, more_alternatives, Expression, Expressions, MatchBranches, applied_expression, infix_expression, integer_expression, true_expression, false_expression, tuple_expression, cast_expression, not_expression, connected_expression, equality_expression, if_expression, let_expression, match_expression, quantified_expression, no_expressions, more_expressions, no_branches, more_branches, count_patterns, count_expressions}
+use Rattle.elab_groups.specs.name_resolution.Abstract.{Pattern, Patterns, wildcard_pattern, variable_pattern, constructor_pattern, tuple_pattern, alias_pattern, no_patterns, more_patterns, Alternatives, no_alternatives, more_alternatives, Expression, Expressions, MatchBranches, applied_expression, infix_expression, integer_expression, true_expression, false_expression, tuple_expression, cast_expression, field_expression, not_expression, connected_expression, equality_expression, if_expression, let_expression, match_expression, quantified_expression, no_expressions, more_expressions, no_branches, more_branches, count_patterns, count_expressions}
 use Rattle.elab_groups.specs.name_resolution.Faults.{is_formula_trigger, token}
 use Rattle.elab_groups.specs.name_resolution.Where.{Where}
 use Rattle.elab_groups.specs.open_types.Patterns.{LocalTree, local, noted, taken, first_or_int, rest_of, entry_of, part_types, pattern_piece, alternatives_pieces, all_notes, first_variables}
-use Rattle.elab_groups.specs.open_types.Pieces.{type_at, unknown, unknown_after, piece, noted_before, triggers_notes, Use, Local', Symbol', use_of_name, tuple_use, use_vars, parameters, binders_vars, bound, names}
+use Rattle.elab_groups.specs.open_types.Pieces.{type_at, unknown, unknown_after, piece, noted_before, triggers_notes, Use, Local', Symbol', use_of_name, field_use, tuple_use, use_vars, parameters, binders_vars, bound, names}
 use Rattle.elab_groups.specs.parts.Declarations.{GroupMember, with_vars}
 use Rattle.elab_groups.specs.members.Members.{SignatureTree}
 use Rattle.elab_groups.specs.Groups.{member_piece}
@@ -90,6 +90,10 @@ abbrev mutual
       ∷ of_symbol u (all_nodes w ls (n + use_vars u) (parameters n u) es)
   nodes_of w ls n t (cast_expression i e f) =
       typed_node i t n 0 ∷ nodes_of w ls n (Some (type_at w f)) e
+  nodes_of w ls n t (field_expression i e k qs x) =
+      let u = field_use w qs x in
+      typed_node i t n (use_vars u)
+      ∷ nodes_of w ls (n + use_vars u) (Some (first_or_int (parameters n u))) e
   nodes_of w ls n t (not_expression i e) = typed_node i None n 0 ∷ nodes_of w ls n None e
   nodes_of w ls n t (connected_expression i a o b) =
       typed_node i None n 0 ∷ (nodes_of w ls n None a

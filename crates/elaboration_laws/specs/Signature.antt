@@ -7,7 +7,7 @@ use Rattle.elab_groups.specs.tasks.Task.{SymbolTree, int_symbol, symbol_or}
 use Rattle.elab_groups.specs.tasks.Vocabulary.{Vocabulary}
 use Rattle.elab_groups.specs.tasks.Typing.{MakesTerms}
 use Rattle.elab_groups.specs.tasks.Valid.{IsTypeIn, IsTypeEntry, IsSignatureOf}
-use Rattle.elab_groups.specs.name_resolution.Abstract.{TypeExpression, TypeExpressions, variable_type, composed_type, product_type, no_types, more_types, Pattern, Patterns, wildcard_pattern, variable_pattern, constructor_pattern, tuple_pattern, alias_pattern, no_patterns, more_patterns, Alternatives, no_alternatives, more_alternatives, BoundNames, Expression, Expressions, MatchBranches, applied_expression, infix_expression, integer_expression, true_expression, false_expression, tuple_expression, cast_expression, not_expression, connected_expression, equality_expression, if_expression, let_expression, match_expression, quantified_expression, no_expressions, more_expressions, no_branches, more_branches, count_forms, count_patterns, count_expressions}
+use Rattle.elab_groups.specs.name_resolution.Abstract.{TypeExpression, TypeExpressions, variable_type, composed_type, product_type, no_types, more_types, Pattern, Patterns, wildcard_pattern, variable_pattern, constructor_pattern, tuple_pattern, alias_pattern, no_patterns, more_patterns, Alternatives, no_alternatives, more_alternatives, BoundNames, Expression, Expressions, MatchBranches, applied_expression, infix_expression, integer_expression, true_expression, false_expression, tuple_expression, cast_expression, field_expression, not_expression, connected_expression, equality_expression, if_expression, let_expression, match_expression, quantified_expression, no_expressions, more_expressions, no_branches, more_branches, count_forms, count_patterns, count_expressions}
 use Rattle.elab_groups.specs.name_resolution.Where.{Where, MeaningTree}
 use Rattle.elab_groups.specs.scopes.declared.Referent.TheVariants as stands
 
@@ -92,6 +92,7 @@ abbrev mutual
   HasTuples base w (tuple_expression i es) =
       HasTuple base w (count_expressions es) × HaveTuples base w es
   HasTuples base w (cast_expression i e f) = HasTuples base w e × FormTuples base w f
+  HasTuples base w (field_expression i e k qs x) = HasTuples base w e
   HasTuples base w (not_expression i e) = HasTuples base w e
   HasTuples base w (connected_expression i a o b) = HasTuples base w a × HasTuples base w b
   HasTuples base w (equality_expression i same a b) = HasTuples base w a × HasTuples base w b

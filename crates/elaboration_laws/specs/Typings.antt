@@ -12,11 +12,11 @@ use Rattle.elab_groups.specs.tasks.Equations.{cells}
 use Rattle.elab_groups.specs.open_types.unify_types.Assigned.{assign}
 use Rattle.elab_groups.specs.open_types.unify_types.Pairs.{IsKind, IsSolution}
 use Rattle.elab_groups.specs.surface.Lexeme.{Word}
-use Rattle.elab_groups.specs.name_resolution.Abstract.{TypeExpression, Pattern, Patterns, wildcard_pattern, variable_pattern, constructor_pattern, tuple_pattern, alias_pattern, no_patterns, more_patterns, Alternatives, no_alternatives, more_alternatives, BoundNames, Expression, Expressions, MatchBranches, applied_expression, infix_expression, integer_expression, true_expression, false_expression, tuple_expression, cast_expression, not_expression, connected_expression, equality_expression, if_expression, let_expression, match_expression, quantified_expression, no_expressions, more_expressions, no_branches, more_branches, count_patterns, count_expressions}
+use Rattle.elab_groups.specs.name_resolution.Abstract.{TypeExpression, Pattern, Patterns, wildcard_pattern, variable_pattern, constructor_pattern, tuple_pattern, alias_pattern, no_patterns, more_patterns, Alternatives, no_alternatives, more_alternatives, BoundNames, Expression, Expressions, MatchBranches, applied_expression, infix_expression, integer_expression, true_expression, false_expression, tuple_expression, cast_expression, field_expression, not_expression, connected_expression, equality_expression, if_expression, let_expression, match_expression, quantified_expression, no_expressions, more_expressions, no_branches, more_branches, count_patterns, count_expressions}
 use Rattle.elab_groups.specs.name_resolution.Faults.{is_predicate, is_formula_trigger, token}
 use Rattle.elab_groups.specs.name_resolution.Where.{Where}
 use Rattle.elab_groups.specs.open_types.Patterns.{LocalTree, local, NumberedEntry, entry_of, local_type, reordered}
-use Rattle.elab_groups.specs.open_types.Pieces.{NotedTree, type_at, Use, Local', Symbol', use_of_name, tuple_use, symbol_at_types, locals_of_type, quantify, equality, names}
+use Rattle.elab_groups.specs.open_types.Pieces.{NotedTree, type_at, Use, Local', Symbol', use_of_name, field_use, tuple_use, symbol_at_types, locals_of_type, quantify, equality, names}
 use Rattle.elab_groups.specs.open_types.Scoped.{IsScoped}
 use Rattle.elab_groups.specs.Groups.{typed_locals}
 
@@ -79,6 +79,13 @@ IsUseTyping (Symbol' u) i Args t e cs = SymbolUsed u i Args t e cs
 
 abbrev pub pair_cells : Tree → Tree → Tree
 pair_cells a b = Two HCell a (Two HCell b (Leaf HEnd))
+
+-- one argument
+abbrev pub IsSingle : (Option Tree → Tree → List Choice → Type 0) → List Tree → Tree → List Choice
+    → Type 0
+IsSingle Is (t ∷ []) e cs =
+    (y : Tree) × Is (Some t) y cs × (e ≡ Two HCell y (Leaf HEnd))
+IsSingle Is _ e cs = ⊥
 
 -- two arguments
 abbrev pub IsPair : (Option Tree → Tree → List Choice → Type 0)
@@ -258,6 +265,8 @@ abbrev mutual
       (λ ts a c. AreTypings w ls ts es a c) t e cs
   IsTyping w ls t (cast_expression i a f) e cs =
       (t ≡ Some (type_at w f)) × IsTyping w ls (Some (type_at w f)) a e cs
+  IsTyping w ls t (field_expression i a k qs x) e cs =
+      IsUseTyping (field_use w qs x) i (IsSingle (λ u y c. IsTyping w ls u a y c)) t e cs
   IsTyping w ls t (not_expression i a) e cs =
       (t ≡ None) × ((y : Tree) × IsTyping w ls None a y cs × (e ≡ One HNot y))
   IsTyping w ls t (connected_expression i a o b) e cs =

@@ -4,10 +4,10 @@ use Rattle.std.specs.Prelude.{◌==◌}
 use Rattle.std.specs.Option.{is_some, is_none}
 use Rattle.tasks.specs.Vocabulary.{is_constructor_kind}
 use Rattle.surface.specs.Lexeme.{Word}
-use Rattle.name_resolution.specs.Abstract.{TypeExpression, TypeExpressions, variable_type, composed_type, product_type, no_types, more_types, Pattern, Patterns, wildcard_pattern, variable_pattern, constructor_pattern, tuple_pattern, alias_pattern, no_patterns, more_patterns, Alternatives, no_alternatives, more_alternatives, BoundNames, Expression, Expressions, MatchBranches, applied_expression, infix_expression, integer_expression, true_expression, false_expression, tuple_expression, cast_expression, not_expression, connected_expression, equality_expression, if_expression, let_expression, match_expression, quantified_expression, no_expressions, more_expressions, no_branches, more_branches, count_forms, count_patterns, count_expressions}
+use Rattle.name_resolution.specs.Abstract.{TypeExpression, TypeExpressions, variable_type, composed_type, product_type, no_types, more_types, Pattern, Patterns, wildcard_pattern, variable_pattern, constructor_pattern, tuple_pattern, alias_pattern, no_patterns, more_patterns, Alternatives, no_alternatives, more_alternatives, BoundNames, Expression, Expressions, MatchBranches, applied_expression, infix_expression, integer_expression, true_expression, false_expression, tuple_expression, cast_expression, field_expression, not_expression, connected_expression, equality_expression, if_expression, let_expression, match_expression, quantified_expression, no_expressions, more_expressions, no_branches, more_branches, count_forms, count_patterns, count_expressions}
 use Rattle.name_resolution.specs.declared.NamingFault.{NamingFault}
 use Rattle.name_resolution.specs.declared.NamingFault.TheVariants.{Unknown, Duplicate, WrongKind, Arity}
-use Rattle.name_resolution.specs.Faults.{first_of, fault_if, meaning_fault, form_fault, forms_fault, differ, is_predicate, symbol_fault, local_fault, is_variable, name_fault, type_fault, binders_fault, bound_names, constructor_fault, pattern_names, pattern_fault, patterns_fault, same_names, later_fault, alternatives_fault, alternatives_names, first_pattern_fault, has_alternative, TriggerHeadTree, trigger_named, trigger_equality, trigger_other, trigger_head, makes_formulas, is_formula_head, is_formula_trigger, fault, faults, triggers_fault, branches_fault}
+use Rattle.name_resolution.specs.Faults.{first_of, fault_if, meaning_fault, form_fault, forms_fault, differ, is_predicate, is_projection, symbol_fault, field_fault, local_fault, is_variable, name_fault, type_fault, binders_fault, bound_names, constructor_fault, pattern_names, pattern_fault, patterns_fault, same_names, later_fault, alternatives_fault, alternatives_names, first_pattern_fault, has_alternative, TriggerHeadTree, trigger_named, trigger_equality, trigger_other, trigger_head, makes_formulas, is_formula_head, is_formula_trigger, fault, faults, triggers_fault, branches_fault}
 use Rattle.name_resolution.specs.Where.{Where, MeaningTree, place_of}
 use Rattle.scopes.specs.declared.Referent.TheVariants as stands
 use Rattle.elab_groups.specs.parts.Alike.{meaning_arity, EntryShape, shape, TypesAlike, AreScopesAlike}
@@ -41,6 +41,15 @@ symbol_told : (w : Where) (due : Bool) (i n : ℕ) (m : Option ℕ) → symbol_f
 unfolding use_fault
 symbol_told w due i n None = refl
 symbol_told w due i n (Some k) = refl
+
+of_field : Bool → ℕ → Option EntryShape → Option NamingFault
+of_field due i None = Some (Unknown i)
+of_field due i (Some e) = first_of (fault_if (not (is_projection e.kind)) (WrongKind i)) (use_fault due i 1 (Some e))
+
+field_told : (w : Where) (due : Bool) (i : ℕ) (m : Option ℕ) → field_fault w due i m ≡ of_field due i (option_map (shape w.symbols) m)
+unfolding of_field use_fault
+field_told w due i None = refl
+field_told w due i (Some k) = refl
 
 part_fault : ℕ → ℕ → Option EntryShape → Option NamingFault
 part_fault i n None = Some (Unknown i)
@@ -86,6 +95,9 @@ module _ (w v : Where) (a : TypesAlike w v) where
 module _ (w v : Where) (a : AreScopesAlike w v) where
   symbol_alike : (due : Bool) (i n : ℕ) (qs : List Word) (x : Word) → symbol_fault w due i n (w.names qs x) ≡ symbol_fault v due i n (v.names qs x)
   symbol_alike due i n qs x = symbol_told w due i n (w.names qs x) ∙ ap (use_fault due i n) (a.names qs x) ∙ sym (symbol_told v due i n (v.names qs x))
+
+  field_alike : (due : Bool) (i : ℕ) (qs : List Word) (x : Word) → field_fault w due i (w.names qs x) ≡ field_fault v due i (v.names qs x)
+  field_alike due i qs x = field_told w due i (w.names qs x) ∙ ap (of_field due i) (a.names qs x) ∙ sym (field_told v due i (v.names qs x))
 
   constructor_alike : (i n : ℕ) (qs : List Word) (x : Word) → constructor_fault w i n (w.names qs x) ≡ constructor_fault v i n (v.names qs x)
   constructor_alike i n qs x = constructor_told w i n (w.names qs x) ∙ ap (part_fault i n) (a.names qs x) ∙ sym (constructor_told v i n (v.names qs x))
@@ -137,6 +149,7 @@ module _ (w v : Where) (a : AreScopesAlike w v) where
     alike (false_expression i) o ls due = refl
     alike (tuple_expression i es) o ls due = later (fault_if due (WrongKind i)) (all_alike es o ls)
     alike (cast_expression i e f) o ls due = later (fault_if due (WrongKind i)) (both (alike e o ls false) (form_alike w v a.forms o f))
+    alike (field_expression i e k qs x) o ls due = both (alike e o ls false) (field_alike due k qs x)
     alike (not_expression i e) o ls due = later (fault_if (not due) (WrongKind i)) (alike e o ls true)
     alike (connected_expression i a op b) o ls due = both (alike a o ls true) (later (fault_if (not due) (WrongKind i)) (alike b o ls true))
     alike (equality_expression i same a b) o ls due = both (alike a o ls false) (later (fault_if (not due) (WrongKind i)) (alike b o ls false))

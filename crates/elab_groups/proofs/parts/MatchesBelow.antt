@@ -3,11 +3,11 @@ use Rattle.std.proofs.Common.{◌≡◌, ℕ, ◌+◌, ◌<◌, ◌≤◌, Bool,
 use Rattle.std.specs.List.{AllByRecursion}
 use Rattle.tasks.specs.trees.Tree.{Tree, Two, Leaf, HCell, HEnd}
 use Rattle.tasks.specs.trees.Facts.{TyVarsBelow}
-use Rattle.name_resolution.specs.Abstract.{Pattern, Patterns, wildcard_pattern, variable_pattern, constructor_pattern, tuple_pattern, alias_pattern, no_patterns, more_patterns, Alternatives, no_alternatives, more_alternatives, Expression, Expressions, MatchBranches, applied_expression, infix_expression, integer_expression, true_expression, false_expression, tuple_expression, cast_expression, not_expression, connected_expression, equality_expression, if_expression, let_expression, match_expression, quantified_expression, no_expressions, more_expressions, no_branches, more_branches, count_patterns, count_expressions}
+use Rattle.name_resolution.specs.Abstract.{Pattern, Patterns, wildcard_pattern, variable_pattern, constructor_pattern, tuple_pattern, alias_pattern, no_patterns, more_patterns, Alternatives, no_alternatives, more_alternatives, Expression, Expressions, MatchBranches, applied_expression, infix_expression, integer_expression, true_expression, false_expression, tuple_expression, cast_expression, field_expression, not_expression, connected_expression, equality_expression, if_expression, let_expression, match_expression, quantified_expression, no_expressions, more_expressions, no_branches, more_branches, count_patterns, count_expressions}
 use Rattle.name_resolution.specs.Faults.{is_formula_trigger, token}
 use Rattle.name_resolution.specs.Where.{Where}
 use Rattle.open_types.specs.Patterns.{Notes, noted, no_notes, follow, taken, LocalTree, local, at_unknowns, result_or_int, first_or_int, rest_of, entry_of, Matched, part_types, pattern_piece, patterns_piece, later_pieces, alternatives_pieces, all_notes, first_variables, pattern_trees}
-use Rattle.open_types.specs.Pieces.{type_at, wanting, NotedTree, unknown_after, unknown, noted_before, bare_piece, both_pieces, piece, pieces, triggers_notes, branches_arms, Arms, Use, Local', Symbol', use_of_name, tuple_use, used_piece, use_vars, parameters, binders_vars, names}
+use Rattle.open_types.specs.Pieces.{type_at, wanting, NotedTree, unknown_after, unknown, noted_before, bare_piece, both_pieces, piece, pieces, triggers_notes, branches_arms, Arms, Use, Local', Symbol', use_of_name, field_use, tuple_use, used_piece, use_vars, parameters, binders_vars, names}
 use Rattle.open_types.specs.Pieces as pieces_of
 use Rattle.open_types.specs.Scoped.{IsScoped}
 use Rattle.open_types.proofs.Below.{below_more, AreBelow, list_more, both_all}
@@ -106,6 +106,11 @@ module _ (w : Where) (sc : IsScoped w) where
         let u = tuple_use w (count_expressions es) in
         used_matches n t i u (pieces w ls (n + use_vars u) (parameters n u) es) (all_matches es ls (n + use_vars u) (parameters n u))
     matches_bounded (cast_expression i e f) ls n t = led n n (wanting (type_at w f) t) [] (piece w ls n (Some (type_at w f)) e).notes (let l : n ≡ n + 0 = omega arith in l) (matches_bounded e ls n (Some (type_at w f)))
+    matches_bounded (field_expression i e k qs x) ls n t =
+        let u = field_use w qs x in
+        let m = n + use_vars u in
+        let inner = piece w ls m (Some (first_or_int (parameters n u))) e in
+        used_matches n t i u (both_pieces (Two HCell) inner (bare_piece (Leaf HEnd))) (followed m inner.notes no_notes (matches_bounded e ls m (Some (first_or_int (parameters n u)))) tt)
     matches_bounded (not_expression i e) ls n t = matches_bounded e ls n None
     matches_bounded (connected_expression i a o b) ls n t =
         let left = piece w ls n None a in
