@@ -26,6 +26,9 @@ CONNECTIVES = {"/\\": "A", "&&": "B", "\\/": "O", "||": "P", "->": "I", "<->": "
 
 
 # ---- writing: tokens are counted as they are written, and each node becomes a tuple whose token is behind its kind
+FIELD = "'."  # the dot before a field, which is written without blanks
+
+
 class Writer:
     def __init__(self):
         self.out = []
@@ -36,7 +39,7 @@ class Writer:
         return first
 
     def text(self):
-        text = " ".join(self.out)
+        text = " ".join(self.out).replace(f" {FIELD} ", ".")
         for old, new in (("( ", "("), (" )", ")"), (" ,", ","), (" :", ":")):
             text = text.replace(old, new)
         return text
@@ -93,7 +96,16 @@ class Writer:
         return ("k", i, p[1], self.row(p[2], lambda q: self.pattern(q, True)))
 
     def atom(self, e):
-        if e[0] in ("int", "true", "false", "tup", "cast") or e[0] == "app" and not e[2]:
+        if e[0] in ("int", "true", "false", "tup", "cast", "dot") or e[0] == "app" and not e[2]:
+            return self.expression(e)
+        self.put("(")
+        made = self.expression(e)
+        self.put(")")
+        return made
+
+    def plain(self, e):
+        """What a field may be taken of."""
+        if e[0] in ("tup", "cast", "dot", "match") or e[0] == "app" and not e[2] and e[1][:1].islower():
             return self.expression(e)
         self.put("(")
         made = self.expression(e)
@@ -153,6 +165,13 @@ class Writer:
         f = self.form(e[2])
         self.put(")")
         return ("cast", i, a, f)
+
+    def write_dot(self, e):
+        """The token of a field is that of its term's beginning; its name has one of its own."""
+        i = len(self.out)
+        a = self.plain(e[1])
+        self.put(FIELD)
+        return ("dot", i, a, self.put(e[2]), e[2])
 
     def write_not(self, e):
         i = self.put("not")
@@ -511,6 +530,14 @@ class Elaborator:
         self.check(e[2], names, False)
         self.check_form(e[3])
 
+    def check_dot(self, e, names, due):
+        self.check(e[2], names, False)
+        k = self.t.symbols.get(e[4])
+        if k is None:
+            self.at(e[3], 0, "Unknown")
+        elif due or self.t.entries[k][2] != "projection":
+            self.at(e[3], 1, "WrongKind")
+
     def check_not(self, e, names, due):
         self.check(e[2], names, True)
 
@@ -681,6 +708,9 @@ class Elaborator:
         self.node(e[1], w)
         self.equal(t, w)
         return self.term(e[2], env, t)
+
+    def type_dot(self, e, env, w):
+        return self.use(e[1], self.t.symbols[e[4]], [e[2]], env, w)
 
     def type_not(self, e, env, w):
         return ("not", self.term(e[2], env, None))
@@ -1077,6 +1107,21 @@ class Generator:
                     made.append((name, e, found))
         return made
 
+    def functions_for(self, t, env):
+        """A variable hides a function of its name, but not a field."""
+        known = self.symbols_for(t, ("function", "constructor", "projection"))
+        return [s for s in known if s[0] not in dict(env) or s[1][2] == "projection"]
+
+    def fields_of(self, env):
+        """The fields of variables, with their types."""
+        made = []
+        for name, e, _ in self.symbols_for(None, ("projection",)):
+            for x, s in self.visible(env):
+                found = {}
+                if x and self.match(e[4][0], s, found):
+                    made.append((["dot", ["app", x, []], name], instance(e[5], found)))
+        return made
+
     # ---- terms and formulas: `env` has the names and types of the variables, the innermost last
     def visible(self, env):
         seen = {}
@@ -1089,6 +1134,8 @@ class Generator:
         args = [self.term(instance(s, types), env, depth - 1) for s in e[4]]
         if name in OPERATORS:
             return ["op" if OPERATORS[name] == 2 else "pre", name, *args]
+        if e[2] == "projection" and (name in dict(env) or self.chance(0.5)):
+            return ["dot", args[0], name]
         return ["app", name, args]
 
     def smallest(self, t, env):
@@ -1097,7 +1144,7 @@ class Generator:
             return ["app", self.r.choice(own), []]
         if t == INT:
             return ["int", self.r.randint(0, 9)]
-        known = [s for s in self.symbols_for(t, ("function", "constructor", "projection")) if s[0] not in dict(env)]
+        known = self.functions_for(t, env)
         flat = [s for s in known if not s[1][4]]
         if flat or known:
             return self.apply(*self.r.choice(flat or known), env, 0)
@@ -1110,9 +1157,12 @@ class Generator:
     def term(self, t, env, depth):
         if depth <= 0 or self.chance(0.15):
             return self.smallest(t, env)
+        fields = [e for e, s in self.fields_of(env) if s == t]
+        if fields and self.chance(0.4):
+            return self.r.choice(fields)
         k = self.r.random()
         if k < 0.55:
-            known = [s for s in self.symbols_for(t, ("function", "constructor", "projection")) if s[0] not in dict(env)]
+            known = self.functions_for(t, env)
             if t[0] == "a" and self.t.entries[t[1]][1].startswith("tuple") and self.chance(0.6):
                 return ["tup", [self.term(s, env, depth - 1) for s in t[2]]]
             if known:
@@ -1162,6 +1212,12 @@ class Generator:
         p = self.pattern(t, 2, bound)
         return ["beside", p[1]] if p[0] == "t" and len(p[1]) > 1 and self.chance(0.5) else p
 
+    def with_fields(self):
+        """A type that has a field with a name, if there is one."""
+        known = [e[4][0] for _, e, _ in self.symbols_for(None, ("projection",))]
+        t = self.r.choice(known) if known else self.type(1)
+        return instance(t, [self.type(1) for _ in t[2]]) if known else t
+
     def subject(self):
         known = [e[5] for e in self.t.entries if e[2] == "constructor"]
         if not known:
@@ -1199,8 +1255,9 @@ class Generator:
             if known and self.chance(0.6):
                 return self.apply(*self.r.choice(known), env, 1)
             return [self.r.choice(["true", "false"])]
-        if k < 0.35:
-            t = self.type(1)
+        fields = [s for _, s in self.fields_of(env)]
+        if k < 0.35 or fields and self.chance(0.3):
+            t = self.r.choice(fields) if fields and self.chance(0.5) else self.type(1)
             return ["eq", self.chance(0.8), self.term(t, env, depth - 1), self.term(t, env, depth - 1)]
         if k < 0.5:
             op = self.r.choice(list(CONNECTIVES))
@@ -1218,14 +1275,14 @@ class Generator:
         binders = []
         inner = env[:]
         for _ in range(self.r.randint(1, 2)):
-            t = self.type(1)
+            t = self.with_fields() if self.chance(0.5) else self.type(1)
             xs = [self.name() for _ in range(self.r.randint(1, 2))]
             binders.append([xs, self.form_of(t) if self.chance(0.7) else None])
             inner += [(x, t) for x in xs]
         triggers = []
         if self.chance(0.15):
             triggers = [self.formula(inner, 0) if self.chance(0.3) else self.term(self.type(0), inner, 1)]
-        triggers = [g for g in triggers if g[0] in ("app", "op", "eq")]
+        triggers = [g for g in triggers if g[0] in ("app", "op", "eq", "dot")]
         return [self.r.choice(["all", "ex"]), binders, triggers, self.formula(inner, depth - 1)]
 
     # ---- declarations
@@ -1234,6 +1291,10 @@ class Generator:
         taken = []
         for _ in range(self.r.randint(0, 2)):
             f = self.form(1, variables)
+            known = [k[1] for _, e, _ in self.symbols_for(None, ("projection",)) for k in [self.t.entries[e[4][0][1]]]]
+            if known and self.chance(0.4):
+                x = self.r.choice(known)
+                f = ["c", x, [self.form(0, variables) for _ in range(self.t.types[x][2])]]
             names = []
             if not self.chance(0.15):
                 free = [x for x in ("xyzw" if self.chance(0.85) else "cdfp") if x not in taken]
@@ -1360,13 +1421,15 @@ def is_applied(x):
 
 def is_head(x):
     """Whether it is an algebraic type, a member of a group or an inductive predicate."""
-    expressions = ("all", "ex", "cast", "not", "if", "match", "letp", "as", "let")
+    expressions = ("all", "ex", "cast", "dot", "not", "if", "match", "letp", "as", "let")
     return len(x) > 2 and isinstance(x[1], list) and x[0] not in expressions
 
 
 def change_name(rng, x, words):
     if is_applied(x):
         x[1] = rng.choice([w for w in words if w[0].isupper() == (x[0] == "k")])
+    elif len(x) == 3 and x[0] == "dot":
+        x[2] = rng.choice([w for w in words if w[0].islower()])
     elif is_head(x) and x[0][0].islower() and rng.random() < 0.7:
         x[0] = rng.choice([w for w in words if w[0].islower()])
     elif len(x) == 2 and x[0] == "v" and isinstance(x[1], str):
@@ -1421,6 +1484,17 @@ def change_arity(rng, x, words):
     return True
 
 
+def change_field(rng, x, words):
+    """A function on its argument as a field of it, or a field as a function."""
+    if is_applied(x) and x[0] == "app" and len(x[2]) == 1 and x[1][0].islower():
+        x[:] = ["dot", x[2][0], x[1]]
+    elif len(x) == 3 and x[0] == "dot":
+        x[:] = ["app", x[2], [x[1]]]
+    else:
+        return False
+    return True
+
+
 def strings_of(x):
     return {x} if isinstance(x, str) else set().union(*map(strings_of, x)) if isinstance(x, list) else set()
 
@@ -1433,7 +1507,7 @@ def change(rng, declarations, part=None):
     found = []
     lists_of(part or declarations[-1], found)
     for _ in range(200):
-        kind = rng.choice([change_name, change_type, change_arity])
+        kind = rng.choice([change_name, change_type, change_arity, change_field])
         if any(kind(rng, x, words) for x in rng.sample(found, min(8, len(found))) if x and isinstance(x[0], str)):
             return
 
@@ -1480,10 +1554,11 @@ def let_of_pattern(rng, declarations):
     t, bound = inner.subject(), []
     pattern = inner.pattern(t, 2, bound)
     try:
-        body = ["letp", pattern, inner.term(t, [], 2), inner.formula(bound, 1)]
+        goal = ["prop", "goal", name, ["letp", pattern, inner.term(t, [], 2), inner.formula(bound, 1)]]
+        is_long = len(source_of([goal])[0]) > 190
     except (LookupError, RecursionError, ValueError):
         return None
-    return declarations + [["prop", "goal", name, body]] if pattern[-1] and pattern[0] in "kt" else None
+    return declarations + [goal] if pattern[-1] and pattern[0] in "kt" and not is_long else None
 
 
 def changed_let(rng, declarations):
@@ -1522,8 +1597,16 @@ def source_of(declarations):
     return writer.text(), made
 
 
-def well_typed(rng):
-    """Declarations of a theory, each of which is well typed."""
+def names_field(d):
+    return d[0] == "alg" and any(names for _, _, cons in d[1] for con in cons for names, _ in con[1])
+
+
+def takes_field(x):
+    return isinstance(x, list) and (len(x) == 3 and x[0] == "dot" or any(map(takes_field, x)))
+
+
+def well_typed(rng, of_fields):
+    """Declarations of a theory, each of which is well typed; the first names a field and the last takes one, if asked for."""
     theory = Theory()
     made = []
     for _ in range(200):
@@ -1537,6 +1620,8 @@ def well_typed(rng):
         if None in d[:3] and d[0] != "type" and d[0] != "const" or d[0] in ("type", "const") and d[1] is None:
             continue
         if len(source_of([d])[0]) > 190:
+            continue
+        if of_fields and (len(made) == 0 and not names_field(d) or len(made) == 3 and not takes_field(d)):
             continue
         answer = answer_of(state, source_of(made + [d])[1][-1:])
         if answer.startswith("Made"):
@@ -1643,7 +1728,7 @@ def declaration_rows(seed, count):
     # A declaration that nests without end draws numbers up to this limit, so that the rows depend on it.
     sys.setrecursionlimit(998 + len(inspect.stack()))
     rng = random.Random(seed)
-    rows = [well_typed(rng) for _ in range(count)]
+    rows = [well_typed(rng, k % 2 == 1) for k in range(count)]
     rows += [changed(rng, declarations[: k + 1]) for declarations in rows[:] for k in range(len(declarations))]
     made = [source_of(declarations) for declarations in rows]
     pairs = [(text, answer_of(Theory(), annotated)) for text, annotated in made]

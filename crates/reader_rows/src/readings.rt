@@ -95,6 +95,7 @@ fn form(e: &Expr) -> &'static str {
         ExprNode::Group(_) => "group",
         ExprNode::Cast(_, _) => "cast",
         ExprNode::Match(_, _, _) => "match",
+        ExprNode::Dot(_, _) => "field",
         ExprNode::Prefix(_, _) => "prefix",
         ExprNode::Not(_) => "not",
         ExprNode::Binary(_, _, _) => "binary",
