@@ -11,7 +11,7 @@ past (a ∷ text) (suc i) le = past text i (omega arith)
 pub within : (text : List ℕ) (i x : ℕ) → x < 256 → nat_eq (byte_in text i) x ≡ true → i < length text
 within text i x lt e = let p = λ (le : length text ≤ i). let q = past text i le in let r : 256 ≡ x = grind (arith, nat_tests) in let n : ⊥ = omega arith in n in omega arith
 
--- the same of a place in the rest of a text
+-- a byte of the rest of a text is one of the text
 pub byte-drop : (text : List ℕ) (i k : ℕ) → byte_in (drop i text) k ≡ byte_in text (i + k)
 byte-drop text i k = get_or-drop i text k 256
 

@@ -6,6 +6,7 @@ pub mod Gap
 pub mod Literal
 pub mod Longest
 pub mod Operators
+pub mod OwnNames
 pub mod Reserved
 pub mod Strings
 pub mod Terminals

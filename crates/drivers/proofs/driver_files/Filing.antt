@@ -10,7 +10,7 @@ use Rattle.drivers.specs.driver_tokens.File.{driver_lines, line_in}
 use Rattle.drivers.specs.driver_items.Symbols.{NamedTheories}
 use Rattle.drivers.specs.declared.driver_parts.fault.DriverFault.{DriverFault}
 use Rattle.drivers.specs.driver_parts.Items.{item_of}
-use Rattle.drivers.specs.driver_parts.Steps.{block_behind}
+use Rattle.drivers.specs.driver_parts.Steps.{block_after}
 use Rattle.drivers.specs.declared.driver_files.reading.Progress.{Progress}
 use Rattle.drivers.specs.driver_files.Reading.{DriverOutcome, ◌then◌, ReadingPlace, CallMeaning, or_syntax, short_file, take_lines, finished, reading_place, one_file_more, importer, read_from, ReadsAs}
 use Rattle.drivers.specs.driver_files.Calls.{next_of, both_meanings, OneLineMeaning, LinesMeaning, WholeMeaning, BytesMeaning, FileMeaning}
@@ -60,7 +60,7 @@ module _ (symbols : List SymbolInfo) (theories : NamedTheories) where
 
   -- ---- its lines, one after another
   abbrev Left : ReadingPlace → Option (List ℕ) → List DriverLexeme → List (List DriverLexeme) → Progress → CallMeaning Progress
-  Left at path l ls = λ q. LinesMeaning symbols theories at (block_behind path (item_of l)) ls q
+  Left at path l ls = λ q. LinesMeaning symbols theories at (block_after path (item_of l)) ls q
 
   one-ends : (whole : CallMeaning Progress) (at : ReadingPlace) (path : Option (List ℕ)) (l : List DriverLexeme) (ls : List (List DriverLexeme)) (start : ℕ) (p : Progress) (old mid new : LibraryState) (e : DriverFault) → Goes whole (LinesMeaning symbols theories at path (l ∷ ls) p) start p.next old mid → ReadsAs (OneLineMeaning symbols theories at path l p) p.next next_of mid new (Err e) → ReadsAs whole start next_of old new (Err e)
   one-ends whole at path l ls start p old mid new e g h =

@@ -49,9 +49,9 @@ escaped-high b h =
     ∙ ap (λ v. cond v (b ∷ []) (cond (nat_eq b 110) (10 ∷ []) (92 ∷ b ∷ []))) (other b 92 (omega arith) h)
     ∙ ap (λ v. cond v (10 ∷ []) (92 ∷ b ∷ [])) (other b 110 (omega arith) h)
 
-said-behind : (bs r : List ℕ) → High bs → 0 < length bs → bytes_said true (bs ++ r) ≡ 92 ∷ (bs ++ bytes_said false r)
-said-behind [] r h lt = absurd (omega arith)
-said-behind (b ∷ bs) r h lt = ap (λ v. v ++ bytes_said false (bs ++ r)) (escaped-high b h.0) ∙ ap (λ v. 92 ∷ b ∷ v) (said-high bs r h.1)
+said-following : (bs r : List ℕ) → High bs → 0 < length bs → bytes_said true (bs ++ r) ≡ 92 ∷ (bs ++ bytes_said false r)
+said-following [] r h lt = absurd (omega arith)
+said-following (b ∷ bs) r h lt = ap (λ v. v ++ bytes_said false (bs ++ r)) (escaped-high b h.0) ∙ ap (λ v. 92 ∷ b ∷ v) (said-high bs r h.1)
 
 one : (c : ℕ) → c < 128 → IsUtf8 (c ∷ [])
 one c lt = subst IsUtf8 (encode_ascii c lt) (IsUtf8-encode c (low_scalar c (omega arith)))
@@ -76,7 +76,7 @@ some-encode c = grind arith
 high : (c : ℕ) (r : List ℕ) → scalar c ≡ true → 128 ≤ c → Says r → Says (encode c ++ r)
 high c r s ge h =
     let e = IsUtf8-append (encode c) (bytes_said false r) (IsUtf8-encode c s) h.0 in
-    (subst IsUtf8 (sym (said-high (encode c) r (high-encode c ge))) e, subst IsUtf8 (sym (said-behind (encode c) r (high-encode c ge) (some-encode c))) (IsUtf8-append (92 ∷ []) (encode c ++ bytes_said false r) (one 92 (omega arith)) e))
+    (subst IsUtf8 (sym (said-high (encode c) r (high-encode c ge))) e, subst IsUtf8 (sym (said-following (encode c) r (high-encode c ge) (some-encode c))) (IsUtf8-append (92 ∷ []) (encode c ++ bytes_said false r) (one 92 (omega arith)) e))
 
 says : (cs : List ℕ) → scalars cs ≡ true → Says (encodes cs)
 says [] e = (IsUtf8-nil, one 92 (omega arith))

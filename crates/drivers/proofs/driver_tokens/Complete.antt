@@ -101,7 +101,7 @@ first_taken b (value_argument number_value) xs c h = ap (within t.Number) h
 first_taken b (kind_argument k n) xs c h = ap (within (t.Word (w.Kind k))) (name_taken (o.Meta b) n xs c h)
 first_taken b (proposition_argument n) xs c h = ap (within (t.Word w.Prop)) (name_taken (o.Meta b) n xs c h)
 
--- the same of a list of terminals that is written in two parts
+-- where terminals are written in two parts, they are taken as one list
 moved_on : (s : DriverState) (xs ys zs : List DriverTerminal) (c : Cut) → Taken s (xs ++ (ys ++ zs)) (join xs (join ys c)) → Taken s ((xs ++ ys) ++ zs) (join (xs ++ ys) c)
 moved_on s xs ys zs c h =
     ap (run s) (append_assoc xs ys zs) ∙ h ∙ ap (λ v. Ok (cut_of v c.1)) (sym (append_assoc xs ys c.0))

@@ -45,13 +45,13 @@ Cut = List DriverTerminal × List (List DriverTerminal)
 abbrev pub cut_of : List DriverTerminal → List (List DriverTerminal) → Cut
 cut_of xs ls = (xs, ls)
 
-abbrev pub behind_of : {b : Bool} → Lines b → List (List DriverTerminal)
-behind_of r = map write_line r.lines
+abbrev pub after_of : {b : Bool} → Lines b → List (List DriverTerminal)
+after_of r = map write_line r.lines
 
 abbrev pub written_after : (x : Owner) → After x → Cut
-written_after o.Syntax r = cut_of (t.Text ∷ []) (behind_of r)
-written_after o.Remove r = cut_of [] (behind_of r)
-written_after (o.Meta b) r = cut_of (write_more r.0) (behind_of r.1)
+written_after o.Syntax r = cut_of (t.Text ∷ []) (after_of r)
+written_after o.Remove r = cut_of [] (after_of r)
+written_after (o.Meta b) r = cut_of (write_more r.0) (after_of r.1)
 
 abbrev pub join : List DriverTerminal → Cut → Cut
 join xs c = cut_of (xs ++ c.0) c.1
@@ -69,18 +69,18 @@ write_close true = t.Word w.Line ∷ t.Close ∷ []
 write_close false = t.Close ∷ []
 
 abbrev pub written : (s : DriverState) → Rest s → Cut
-written (q.Lines b) r = cut_of [] (behind_of r)
-written q.PathWord r = cut_of (t.Word r.0 ∷ write_driver_path r.1) (behind_of r.2)
-written q.Path r = cut_of (write_driver_path r.0) (behind_of r.1)
-written (q.LineText b) r = cut_of (t.Text ∷ []) (behind_of r)
-written (q.MetaName b) r = cut_of (write_meta_name r.0 ∷ write_arguments r.1) (behind_of r.2)
-written (q.Arguments b) r = cut_of (write_arguments r.0) (behind_of r.1)
-written (q.Argument b) r = cut_of (write_argument r.0 ++ write_more r.1) (behind_of r.2)
-written (q.MoreArguments b) r = cut_of (write_more r.0) (behind_of r.1)
-written q.Value r = cut_of (write_value r.0 ∷ map write_value r.1) (behind_of r.2)
-written q.Values r = cut_of (map write_value r.0) (behind_of r.1)
-written q.NameKind r = cut_of (t.Word (w.Kind r.0) ∷ (write_name r.1 ++ t.Text ∷ [])) (behind_of r.2)
-written q.Removal r = cut_of (write_removed r.0) (behind_of r.1)
+written (q.Lines b) r = cut_of [] (after_of r)
+written q.PathWord r = cut_of (t.Word r.0 ∷ write_driver_path r.1) (after_of r.2)
+written q.Path r = cut_of (write_driver_path r.0) (after_of r.1)
+written (q.LineText b) r = cut_of (t.Text ∷ []) (after_of r)
+written (q.MetaName b) r = cut_of (write_meta_name r.0 ∷ write_arguments r.1) (after_of r.2)
+written (q.Arguments b) r = cut_of (write_arguments r.0) (after_of r.1)
+written (q.Argument b) r = cut_of (write_argument r.0 ++ write_more r.1) (after_of r.2)
+written (q.MoreArguments b) r = cut_of (write_more r.0) (after_of r.1)
+written q.Value r = cut_of (write_value r.0 ∷ map write_value r.1) (after_of r.2)
+written q.Values r = cut_of (map write_value r.0) (after_of r.1)
+written q.NameKind r = cut_of (t.Word (w.Kind r.0) ∷ (write_name r.1 ++ t.Text ∷ [])) (after_of r.2)
+written q.Removal r = cut_of (write_removed r.0) (after_of r.1)
 written (q.Name x) r = join (write_name r.0) (written_after x r.1)
 written (q.NameDot x) r = join (write_dotted r.0) (written_after x r.1)
 written (q.Operator x) r = join (t.Operator ∷ write_close r.0) (written_after x r.1)

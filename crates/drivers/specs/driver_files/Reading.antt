@@ -15,7 +15,7 @@ use Rattle.drivers.specs.declared.driver_parts.parts.DriverParts.{DriverParts}
 use Rattle.drivers.specs.declared.driver_files.reading.Progress.{Progress}
 use Rattle.drivers.specs.driver_parts.Items.{DriverItem, file_import, item_of}
 use Rattle.drivers.specs.driver_parts.Parts.{no_parts, driver_of}
-use Rattle.drivers.specs.driver_parts.Steps.{item_step, block_behind}
+use Rattle.drivers.specs.driver_parts.Steps.{item_step, block_after}
 use Rattle.drivers.specs.driver_items.Symbols.{NamedTheories}
 
 -- what is in the way of a driver: a fault, a file that isn't there, or one that can't be read, with
@@ -142,7 +142,7 @@ module _ (symbols : List SymbolInfo) (theories : NamedTheories) where
   take_lines read place path [] progress = Ok progress
   take_lines read place path (l ∷ ls) progress =
       take_item read place path (item_of l) progress then take_lines read place
-      (block_behind path (item_of l)) ls
+      (block_after path (item_of l)) ls
 
   -- the bytes of a file: its whole syntax before its items
   abbrev pub take_bytes : Importer → ReadingPlace → List ℕ → Progress → DriverOutcome Progress

@@ -3,7 +3,7 @@ use Rattle.std.specs.Prelude.{ℕ, ◌+◌, Bool, true, false, ◌&&◌, ◌||�
 use Rattle.std.specs.declared.alloc.Global.{Global}
 use Rattle.std.specs.List.{list_any}
 use Rattle.word_tables.specs.Words.{is_same_word}
-use Rattle.tokens_why.specs.Bytes.{is_upper}
+use Rattle.tokens_why.specs.OwnNames.{is_lower_own}
 use Rattle.drivers.specs.declared.driver_tokens.terminal.NameKind.{NameKind}
 use Rattle.drivers.specs.declared.driver_tokens.terminal.NameKind.TheVariants as n
 use Rattle.tasks.specs.declared.signature.SymbolInfo.{SymbolInfo}
@@ -33,25 +33,14 @@ theory_with_path path (t ∷ ts) = if is_path path t then Some t else theory_wit
 abbrev pub is_known : NamedTheories → List ℕ → Bool
 is_known theories path = is_builtin path || is_some (theory_with_path path theories)
 
--- Whether a projection has the name of its field: `S.a` has, `S.C'1` has not, which begins as its
--- constructor does.
-abbrev mutual
-  pub is_field_name : List ℕ → Bool
-  is_field_name [] = false
-  is_field_name (b ∷ bs) = if is_upper b then is_field_after_dot bs else true
-
-  -- after the first letter of a scope or of a constructor
-  pub is_field_after_dot : List ℕ → Bool
-  is_field_after_dot [] = false
-  is_field_after_dot (b ∷ bs) = if nat_eq b 46 then is_field_name bs else is_field_after_dot bs
-
--- A constructor and a named field are functions here; the constructor of a record, `mk_r` of a type
--- `r`, is none, since no name of a source stands for it.
+-- A constructor and a named field are functions here. A projection without a name of its own is
+-- none, `C'1`, and neither is the constructor of a record, `mk_r` of a type `r`: no name of a
+-- source stands for them.
 abbrev pub is_named_kind : NameKind → SymbolKind → List ℕ → Bool
 is_named_kind n.Type k.Kind name = true
 is_named_kind n.Function k.Function name = true
-is_named_kind n.Function k.Constructor name = not (is_field_name name)
-is_named_kind n.Function k.Projection name = is_field_name name
+is_named_kind n.Function k.Constructor name = not (is_lower_own name)
+is_named_kind n.Function k.Projection name = is_lower_own name
 is_named_kind n.Predicate k.Predicate name = true
 is_named_kind _ _ name = false
 

@@ -72,10 +72,10 @@ item_step symbols theories file path item parts =
     item_in_block symbols theories file path item parts
 
 -- the block in which what comes after an item is
-abbrev pub block_behind : Option (List ℕ) → DriverItem → Option (List ℕ)
-block_behind path (block its) = Some its
-block_behind path end_of_block = None
-block_behind path _ = path
+abbrev pub block_after : Option (List ℕ) → DriverItem → Option (List ℕ)
+block_after path (block its) = Some its
+block_after path end_of_block = None
+block_after path _ = path
 
 -- What a call answers, which changes a value, against what it should be; want of memory is free.
 abbrev pub MeetsResult : {A X : Type 0} → Result X DriverFault → A → Result A DriverFault → Type 0

@@ -98,10 +98,10 @@ state_after o.Syntax = q.LineText true
 state_after o.Remove = q.Lines true
 state_after (o.Meta b) = q.MoreArguments b
 
-abbrev pub step_behind : Owner → DriverTerminal → Transition
-step_behind o.Syntax x = line_text_move true x
-step_behind o.Remove x = line_move true x
-step_behind (o.Meta b) x = more_arguments b x
+abbrev pub step_after : Owner → DriverTerminal → Transition
+step_after o.Syntax x = line_text_move true x
+step_after o.Remove x = line_move true x
+step_after (o.Meta b) x = more_arguments b x
 
 abbrev pub name_move : Owner → DriverTerminal → Transition
 name_move o (t.Word s) = m.Within (q.NameDot o)
@@ -111,7 +111,7 @@ name_move o _ = m.Stuck
 
 abbrev pub name_dot : Owner → DriverTerminal → Transition
 name_dot o t.Dot = m.Within (q.Name o)
-name_dot o x = step_behind o x
+name_dot o x = step_after o x
 
 abbrev pub operator : Owner → DriverTerminal → Transition
 operator o t.Operator = m.Within (q.OperatorEnd o)

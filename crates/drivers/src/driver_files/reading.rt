@@ -77,13 +77,13 @@ fn is_end(terminal: DriverTerminal) -> bool
 }
 
 /// The block in which what comes after a line is.
-fn block_behind(
+fn block_after(
     alloc: Global,
     text: &[u8],
     block: Option<Text>,
     line: &[DriverToken],
 ) -> Result<Option<Text>, AllocError>
-    ensures { IfOk result (λ its. its ≡ steps.block_behind block (item_of
+    ensures { IfOk result (λ its. its ≡ steps.block_after block (item_of
         (map (lexeme_in text.now) line.now))) }
 {
     if line.len() == 0 {
@@ -209,7 +209,7 @@ fn read_lines<L: Library>(
     for line in &its.lines {
         let tokens = part(&its.tokens, line.first, line.end);
         read_line(lib, context, at, &block, tokens, opened, progress)?;
-        block = block_behind(context.alloc, at.text, block, tokens)?;
+        block = block_after(context.alloc, at.text, block, tokens)?;
     }
     Ok(())
 }

@@ -2,10 +2,11 @@
 // They depend on signatures; the steps of the reader depend on them.
 ghost use Rattle.std.specs.Prelude.{◌≡◌, option_map, string_bytes};
 ghost use Rattle.word_tables.specs.Words.{is_same_word};
-ghost use Rattle.drivers.specs.driver_items.Symbols.{among, builtin_of, by_kind, entry_from, has_proposition, is_builtin, is_field_name, is_field_after_dot, is_named_kind, is_known, is_symbol_named, is_path, target_of, theory_with_path};
+ghost use Rattle.drivers.specs.driver_items.Symbols.{among, builtin_of, by_kind, entry_from, has_proposition, is_builtin, is_named_kind, is_known, is_symbol_named, is_path, target_of, theory_with_path};
 
 use crate::driver_tokens::NameKind;
 use tasks::{SymbolInfo, SymbolKind};
+use tokens_why::is_lower_own;
 
 /// A symbol for which a template may be there.
 #[derive(Clone, Copy)]
@@ -50,48 +51,14 @@ pub fn is_known(theories: &[(String, Vec<String>)], path: &[u8]) -> bool
     is_builtin(path) || theory_of(theories, path).is_some()
 }
 
-// Whether a field has this name.
-#[cycle(field_name)]
-fn is_field_name(name: &[u8]) -> bool
-    ensures { result ≡ is_field_name name.now }
-{
-    match name.split_first() {
-        Some((first, rest)) => {
-            if first.is_ascii_uppercase() {
-                is_field_after_dot(rest)
-            } else {
-                true
-            }
-        }
-        None => false,
-    }
-}
-
-// The same after the first letter of a scope or of a constructor.
-#[cycle(field_name)]
-fn is_field_after_dot(name: &[u8]) -> bool
-    ensures { result ≡ is_field_after_dot name.now }
-{
-    match name.split_first() {
-        Some((first, rest)) => {
-            if *first == b'.' {
-                is_field_name(rest)
-            } else {
-                is_field_after_dot(rest)
-            }
-        }
-        None => false,
-    }
-}
-
 fn is_kind(kind: NameKind, its: SymbolKind, name: &[u8]) -> bool
     ensures { result ≡ is_named_kind kind its name.now }
 {
     match (kind, its) {
         (NameKind::Type, SymbolKind::Kind) => true,
         (NameKind::Function, SymbolKind::Function) => true,
-        (NameKind::Function, SymbolKind::Constructor) => !is_field_name(name),
-        (NameKind::Function, SymbolKind::Projection) => is_field_name(name),
+        (NameKind::Function, SymbolKind::Constructor) => !is_lower_own(name),
+        (NameKind::Function, SymbolKind::Projection) => is_lower_own(name),
         (NameKind::Predicate, SymbolKind::Predicate) => true,
         _ => false,
     }

@@ -204,8 +204,8 @@ fn state_after(owner: Owner) -> DriverState
     }
 }
 
-fn step_behind(owner: Owner, x: DriverTerminal) -> Transition
-    ensures { result ≡ spec.step_behind owner x }
+fn step_after(owner: Owner, x: DriverTerminal) -> Transition
+    ensures { result ≡ spec.step_after owner x }
 {
     match owner {
         Owner::Syntax => line_text(true, x),
@@ -230,7 +230,7 @@ fn name_dot(owner: Owner, x: DriverTerminal) -> Transition
 {
     match x {
         DriverTerminal::Dot => Transition::Within(DriverState::Name(owner)),
-        _ => step_behind(owner, x),
+        _ => step_after(owner, x),
     }
 }
 
