@@ -90,8 +90,8 @@ unaccepted k j xs n t h f = by_place (grind (arith, t.within))
     by_place (inl l) = ap ends (stuck_all k xs n l (t.stuck l))
     by_place (inr e) = ap ends (ap (run k) (sym (take_all n xs (omega (arith, e)))) ∙ h) ∙ f e
 
-pub step_behind : (k j : List Symbol) (xs : List Terminal) (y : Terminal) → run k xs ≡ Some j → run k (xs ++ y ∷ []) ≡ step false j y
-step_behind k j xs y h = run_append xs (y ∷ []) k ∙ ap (next_stack (λ l. run l (y ∷ []))) h ∙ next_some (step false j y)
+pub step_after : (k j : List Symbol) (xs : List Terminal) (y : Terminal) → run k xs ≡ Some j → run k (xs ++ y ∷ []) ≡ step false j y
+step_after k j xs y h = run_append xs (y ∷ []) k ∙ ap (next_stack (λ l. run l (y ∷ []))) h ∙ next_some (step false j y)
 
 pub whether : (t : Option (List Symbol)) (b : Bool) (l : List Symbol) → IsStep t b l → b ≡ is_taken t
 whether (Some k) b l p = p.0

@@ -32,7 +32,7 @@ line_fits s ss = fits s ss None && all (λ y. fits s ss (Some y)) all_terminals
 
 abbrev lines_fit : Symbol → List Production → Bool
 lines_fit s [] = true
-lines_fit s (r ∷ rs) = line_fits s r.behind && lines_fit s rs
+lines_fit s (r ∷ rs) = line_fits s r.following && lines_fit s rs
 
 tail_checked : (m u v w : ℕ) (os : List Terminal) → lines_fit (s.Tail m u) (tail_of v w os) ≡ true
 tail_checked m u v w [] = refl
@@ -163,9 +163,9 @@ abbrev head_of : List Terminal → Terminal
 head_of [] = t.OtherWord
 head_of (x ∷ xs) = x
 
-abbrev behind_of : Option (List Symbol) → List Symbol
-behind_of (Some ss) = ss
-behind_of None = []
+abbrev after_of : Option (List Symbol) → List Symbol
+after_of (Some ss) = ss
+after_of None = []
 
 starts : (s : Symbol) → Starts s
 starts (s.Take x) = due x [] (take_starts x) refl refl
@@ -197,7 +197,7 @@ starts s.Dots = empty refl refl
 starts (s.Head true) = due t.StarName (s.Args ∷ []) refl refl refl
 starts (s.Head false) = due t.StarName [] refl refl refl
 starts s.Args = empty refl refl
-starts s = due (head_of (shortest s)) (behind_of (takes s (head_of (shortest s)))) refl refl refl
+starts s = due (head_of (shortest s)) (after_of (takes s (head_of (shortest s)))) refl refl refl
 
 -- The stack after a terminal that its shortest string begins with.
 pub record Onward (b : Bool) (k : List Symbol) (x : Terminal) (xs : List Terminal) : Type 0 where
@@ -253,11 +253,11 @@ follows s ss (Some y) h = all_at (λ z. fits s ss (Some z)) all_terminals y (and
 
 lines_found : (s : Symbol) (rs : List Production) (x : Terminal) (ss : List Symbol) (y : Option Terminal) → lines_fit s rs ≡ true → find_production rs x ≡ Some ss → may_follow s y ≡ true → is_safe ss y ≡ true
 lines_found s [] x ss y h i j = cc
-lines_found s (r ∷ rs) x ss y h i j = by_test (same r.first x) i (λ e. lines_found s rs x ss y (and_right (line_fits s r.behind) (lines_fit s rs) h) e j)
+lines_found s (r ∷ rs) x ss y h i j = by_test (same r.first x) i (λ e. lines_found s rs x ss y (and_right (line_fits s r.following) (lines_fit s rs) h) e j)
   where
-    by_test : (b : Bool) → cond b (Some r.behind) (find_production rs x) ≡ Some ss → (find_production rs x ≡ Some ss → is_safe ss y ≡ true) → is_safe ss y ≡ true
-    by_test true e f = let same_list : r.behind ≡ ss = cc in
-        subst (λ v. is_safe v y ≡ true) same_list (implied (may_follow s y) (is_safe r.behind y) (follows s r.behind y (and_left (line_fits s r.behind) (lines_fit s rs) h)) j)
+    by_test : (b : Bool) → cond b (Some r.following) (find_production rs x) ≡ Some ss → (find_production rs x ≡ Some ss → is_safe ss y ≡ true) → is_safe ss y ≡ true
+    by_test true e f = let same_list : r.following ≡ ss = cc in
+        subst (λ v. is_safe v y ≡ true) same_list (implied (may_follow s y) (is_safe r.following y) (follows s r.following y (and_left (line_fits s r.following) (lines_fit s rs) h)) j)
     by_test false e f = f e
 
 -- a symbol's row on top of a safe stack is safe
@@ -295,7 +295,7 @@ onward b (s ∷ k) x xs h i = by_seal (sealed b s) refl (λ c e. onward c k x xs
       stack = ss ++ k;
       steps = ap (λ v. cond v (step true k x) (on_top (takes s x) (optional s) k (step (is_seal s) k x))) n ∙ ap (λ v. on_top v (optional s) k (step (is_seal s) k x)) (taken t e);
       safe = row_safe s k ss x h (taken t e);
-      rest = complete_append ss k ∙ behind e;
+      rest = complete_append ss k ∙ following e;
     }
       where
         whole : shortest s ≡ y ∷ complete ss → (y ∷ (complete ss ++ complete k)) ≡ (x ∷ xs)
@@ -304,8 +304,8 @@ onward b (s ∷ k) x xs h i = by_seal (sealed b s) refl (λ c e. onward c k x xs
         taken : takes s y ≡ Some ss → shortest s ≡ y ∷ complete ss → takes s x ≡ Some ss
         taken p q = let w = whole q in let same_first : y ≡ x = cc in subst (λ v. takes s v ≡ Some ss) same_first p
 
-        behind : shortest s ≡ y ∷ complete ss → complete ss ++ complete k ≡ xs
-        behind q = let w = whole q in cc
+        following : shortest s ≡ y ∷ complete ss → complete ss ++ complete k ≡ xs
+        following q = let w = whole q in cc
 
     by_seal : (v : Bool) → sealed b s ≡ v → ((c : Bool) → complete k ≡ x ∷ xs → Onward c k x xs) → Onward b (s ∷ k) x xs
     by_seal true e f = skipped true (f true (kept (tail_empty b s e))) (ap (λ v. cond v (step true k x) (on_top (takes s x) (optional s) k (step (is_seal s) k x))) e)

@@ -8,7 +8,7 @@ use Rattle.grammar.specs.Table.{Production, productions, optional, shortest, lef
 
 abbrev pub find_production : List Production → Terminal → Option (List Symbol)
 find_production [] x = None
-find_production (r ∷ rs) x = if same r.first x then Some r.behind else find_production rs x
+find_production (r ∷ rs) x = if same r.first x then Some r.following else find_production rs x
 
 -- what comes after a terminal where a symbol begins with it
 abbrev pub takes : Symbol → Terminal → Option (List Symbol)

@@ -7,7 +7,7 @@ use Rattle.grammar.specs.Table.{Production, productions, open_productions, prim_
 use Rattle.grammar.specs.Machine.{find_production, step}
 
 abbrev pub production_of : Terminal × Bor (List Symbol) → Production
-production_of r = record { first = r.0; behind = r.1.now }
+production_of r = record { first = r.0; following = r.1.now }
 
 abbrev pub HasRows : Symbol → List Production → Type 0
 HasRows (s.Take x) rs = Unit {0}

@@ -8,15 +8,15 @@ use Rattle.tokens_why.specs.Alphabet.{operators}
 
 pub record Production : Type 0 where
   pub first : Terminal
-  pub behind : List Symbol
+  pub following : List Symbol
 
 abbrev pub production : Terminal → List Symbol → Production
-production x ss = record { first = x; behind = ss }
+production x ss = record { first = x; following = ss }
 
 -- the same with symbols after
 abbrev pub with_symbols_after : List Production → List Symbol → List Production
 with_symbols_after [] ss = []
-with_symbols_after (r ∷ rs) ss = production r.first (r.behind ++ ss) ∷ with_symbols_after rs ss
+with_symbols_after (r ∷ rs) ss = production r.first (r.following ++ ss) ∷ with_symbols_after rs ss
 
 -- the operators that a tail takes
 abbrev pub tail_of : ℕ → ℕ → List Terminal → List Production
@@ -66,14 +66,26 @@ tmore_productions = production t.RParen [] ∷ production t.Comma (s.TypeOf ∷ 
 abbrev pub qid_productions : List Production
 qid_productions = production t.Lident [] ∷ production t.Uident (s.Qids ∷ []) ∷ []
 
+abbrev pub qlid_productions : List Production
+qlid_productions = production t.Lident [] ∷ production t.Uident (s.Take t.Dot ∷ s.Qlid ∷ []) ∷ []
+
+-- a field of a record and what comes after it, or the end after a semicolon
+abbrev pub field_productions : List Symbol → List Production
+field_productions ss = production t.RBrace [] ∷ with_symbols_after qlid_productions ss
+
+abbrev pub fields_end : Symbol → List Production
+fields_end next = production t.RBrace [] ∷ production t.Semi (next ∷ []) ∷ []
+
 abbrev pub pat_productions : List Production
 pat_productions = production t.Wild (s.AsPart ∷ []) ∷ production t.Lident (s.AsPart ∷ [])
     ∷ production t.Uident (s.Quids ∷ s.Patoms ∷ s.AsPart ∷ [])
-    ∷ production t.LParen (s.Ptuple ∷ s.AsPart ∷ []) ∷ []
+    ∷ production t.LParen (s.Ptuple ∷ s.AsPart ∷ [])
+    ∷ production t.LBrace (s.Qlid ∷ s.Take t.Equal ∷ s.Pat ∷ s.PatFields ∷ s.AsPart ∷ []) ∷ []
 
 abbrev pub patom_productions : List Production
 patom_productions = production t.Wild [] ∷ production t.Lident []
-    ∷ production t.Uident (s.Quids ∷ []) ∷ production t.LParen (s.Ptuple ∷ []) ∷ []
+    ∷ production t.Uident (s.Quids ∷ []) ∷ production t.LParen (s.Ptuple ∷ [])
+    ∷ production t.LBrace (s.Qlid ∷ s.Take t.Equal ∷ s.Pat ∷ s.PatFields ∷ []) ∷ []
 
 abbrev pub binders_productions : List Production
 binders_productions = production t.Comma (s.Take t.Lident ∷ s.Binder ∷ [])
@@ -91,13 +103,15 @@ abbrev pub prim_productions : List Production
 prim_productions = production t.Lident (s.Applied ∷ []) ∷ production t.Uident (s.HeadRest true ∷ [])
     ∷ production t.StarName (s.Args ∷ []) ∷ production t.LParen (s.Hparen ∷ [])
     ∷ production t.Int [] ∷ production t.TrueWord [] ∷ production t.FalseWord []
-    ∷ production t.MatchWord (s.Expr 0 ∷ s.Scrutinees ∷ s.Dots ∷ []) ∷ []
+    ∷ production t.MatchWord (s.Expr 0 ∷ s.Scrutinees ∷ s.Dots ∷ [])
+    ∷ production t.LBrace (s.Qlid ∷ s.Take t.Equal ∷ s.Expr 0 ∷ s.ExprFields ∷ s.Dots ∷ []) ∷ []
 
 abbrev pub atom_productions : List Production
 atom_productions = production t.Lident (s.Dots ∷ []) ∷ production t.Uident (s.HeadRest false ∷ [])
     ∷ production t.StarName [] ∷ production t.LParen (s.Aparen ∷ []) ∷ production t.Int []
     ∷ production t.TrueWord [] ∷ production t.FalseWord []
-    ∷ production t.MatchWord (s.Expr 0 ∷ s.Scrutinees ∷ s.Dots ∷ []) ∷ []
+    ∷ production t.MatchWord (s.Expr 0 ∷ s.Scrutinees ∷ s.Dots ∷ [])
+    ∷ production t.LBrace (s.Qlid ∷ s.Take t.Equal ∷ s.Expr 0 ∷ s.ExprFields ∷ s.Dots ∷ []) ∷ []
 
 abbrev pub args_productions : List Production
 args_productions = with_symbols_after atom_productions (s.Args ∷ [])
@@ -209,7 +223,7 @@ productions s.Elem = production t.TypeWord (s.Qlid ∷ s.Elvars ∷ [])
     ∷ production t.AxiomWord (s.Axioms ∷ []) ∷ []
 productions s.Axioms = (production t.Dot [] ∷ []) ++ with_symbols_after qid_productions []
 productions s.Elvars = production t.TyVar (s.Elvars ∷ []) ∷ production t.Equal (s.TypeOf ∷ []) ∷ []
-productions s.Qlid = production t.Lident [] ∷ production t.Uident (s.Take t.Dot ∷ s.Qlid ∷ []) ∷ []
+productions s.Qlid = qlid_productions
 productions s.Qop =
     (production t.Uident (s.Take t.Dot ∷ s.Qop ∷ []) ∷ []) ++ with_symbols_after op_productions []
 productions s.Qid = qid_productions
@@ -250,6 +264,10 @@ productions s.OpenForm = open_productions
 productions s.Fields = fields_productions
 productions s.Patom = patom_productions
 productions s.Prim = prim_productions
+productions s.PatFields = fields_end s.PatField
+productions s.PatField = field_productions (s.Take t.Equal ∷ s.Pat ∷ s.PatFields ∷ [])
+productions s.ExprFields = fields_end s.ExprField
+productions s.ExprField = field_productions (s.Take t.Equal ∷ s.Expr 0 ∷ s.ExprFields ∷ [])
 productions s.Dots = dots_productions
 productions s.Applied = dots_productions ++ args_productions
 productions (s.HeadRest b) = head_rest_productions b
@@ -289,6 +307,10 @@ shortest s.Con = t.Uident ∷ []
 shortest s.RecordField = t.Lident ∷ t.Colon ∷ t.Lident ∷ []
 shortest s.RecordRest = t.RBrace ∷ []
 shortest s.RecordNext = t.RBrace ∷ []
+shortest s.PatFields = t.RBrace ∷ []
+shortest s.PatField = t.RBrace ∷ []
+shortest s.ExprFields = t.RBrace ∷ []
+shortest s.ExprField = t.RBrace ∷ []
 shortest s.Op = t.StarName ∷ []
 shortest s.Opname = t.Minus ∷ t.RParen ∷ []
 shortest s.Opend = t.RParen ∷ []

@@ -159,10 +159,10 @@ fn put(stack: &mut Vec<Symbol>, symbol: Symbol, x: Terminal) -> Result<bool, All
 }
 
 /// Whether a symbol takes nothing since it is a tail under a seal.
-fn is_silent(behind_seal: bool, symbol: Symbol) -> bool
-    ensures { result ≡ sealed behind_seal symbol }
+fn is_silent(after_seal: bool, symbol: Symbol) -> bool
+    ensures { result ≡ sealed after_seal symbol }
 {
-    behind_seal && matches!(symbol, Symbol::Tail(_, _))
+    after_seal && matches!(symbol, Symbol::Tail(_, _))
 }
 
 fn is_seal_symbol(symbol: Symbol) -> bool
@@ -175,9 +175,9 @@ fn is_seal_symbol(symbol: Symbol) -> bool
 pub fn take_token(stack: &mut Vec<Symbol>, x: Terminal) -> Result<bool, AllocError>
     ensures { IfOk result (Takes x stack.old.items stack.new.items) }
 {
-    let mut behind_seal = false;
+    let mut after_seal = false;
     while let Some(symbol) = stack.pop() {
-        if is_silent(behind_seal, symbol) {
+        if is_silent(after_seal, symbol) {
             continue;
         }
         if put(stack, symbol, x)? {
@@ -186,7 +186,7 @@ pub fn take_token(stack: &mut Vec<Symbol>, x: Terminal) -> Result<bool, AllocErr
         if !may_be_empty(symbol) {
             return Ok(false);
         }
-        behind_seal = is_seal_symbol(symbol);
+        after_seal = is_seal_symbol(symbol);
     }
     Ok(false)
 }

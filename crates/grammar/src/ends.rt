@@ -58,7 +58,7 @@ pub fn longest_length(
 }
 
 /// What is on the stack after tokens that begin a token string of a symbol, or none where they begin none.
-fn stack_behind(
+fn stack_after(
     alloc: Global,
     start: Symbol,
     tokens: &[Terminal],
@@ -84,7 +84,7 @@ pub fn complete_tokens(
     requires { is_safe (start ∷ []) None ≡ true }
     ensures { IfOk result (λ r. Completes (start ∷ []) tokens.now (option_map (λ v. v.items) r)) }
 {
-    match stack_behind(alloc, start, tokens)? {
+    match stack_after(alloc, start, tokens)? {
         None => Ok(None),
         Some(mut stack) => {
             let missing = completion(alloc, &mut stack)?;
@@ -104,7 +104,7 @@ pub fn first_fault(
     ensures { IfOk result (IsFirstFault (start ∷ []) tokens.now other) }
 {
     let place = count_taken(alloc, start, tokens)?;
-    match stack_behind(alloc, start, &tokens[..place])? {
+    match stack_after(alloc, start, &tokens[..place])? {
         None => unreachable!(),
         Some(mut stack) => {
             if place == tokens.len() && may_stop(&stack) {

@@ -56,6 +56,8 @@ fn shortest_of(rule: Symbol) -> &'static [T]
         Symbol::OpenForm => &[T::ExistsWord, T::Lident, T::Dot, T::StarName],
         Symbol::RecordField => &[T::Lident, T::Colon, T::Lident],
         Symbol::RecordRest | Symbol::RecordNext => &[T::RBrace],
+        Symbol::PatFields | Symbol::PatField => &[T::RBrace],
+        Symbol::ExprFields | Symbol::ExprField => &[T::RBrace],
         Symbol::Patom => &[T::Lident],
         Symbol::Prim => &[T::StarName],
         Symbol::Head(_) | Symbol::Qhead => &[T::StarName],

@@ -71,7 +71,11 @@ pub enum Symbol {
     RecordNext,
     Algs,
     Patom,
+    PatFields,
+    PatField,
     Prim,
+    ExprFields,
+    ExprField,
     /// What comes after a word in upper case, and a name in a scope with what comes after it; true where arguments may.
     HeadRest(bool),
     Head(bool),

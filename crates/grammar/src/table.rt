@@ -198,26 +198,29 @@ const TTUPLE: [Row; 5] = [
     (T::LParen, &[Ttuple, Tmore]),
 ];
 
-const PAT: [Row; 4] = [
+const PAT: [Row; 5] = [
     (T::Wild, &[AsPart]),
     (T::Lident, &[AsPart]),
     (T::Uident, &[Quids, Patoms, AsPart]),
     (T::LParen, &[Ptuple, AsPart]),
+    (T::LBrace, &[Qlid, EQUAL, Pat, PatFields, AsPart]),
 ];
 
-const PTUPLE: [Row; 5] = [
+const PTUPLE: [Row; 6] = [
     (T::RParen, &[]),
     (T::Wild, &[AsPart, Pmore]),
     (T::Lident, &[AsPart, Pmore]),
     (T::Uident, &[Quids, Patoms, AsPart, Pmore]),
     (T::LParen, &[Ptuple, AsPart, Pmore]),
+    (T::LBrace, &[Qlid, EQUAL, Pat, PatFields, AsPart, Pmore]),
 ];
 
-const PATOMS: [Row; 4] = [
+const PATOMS: [Row; 5] = [
     (T::Wild, &[Patoms]),
     (T::Lident, &[Patoms]),
     (T::Uident, &[Quids, Patoms]),
     (T::LParen, &[Ptuple, Patoms]),
+    (T::LBrace, &[Qlid, EQUAL, Pat, PatFields, Patoms]),
 ];
 
 const GROUP: [Row; 3] = [
@@ -226,12 +229,13 @@ const GROUP: [Row; 3] = [
     (T::Colon, &[TypeOf, Take(T::RParen), Dots]),
 ];
 
-const BRANCH: [Row; 5] = [
+const BRANCH: [Row; 6] = [
     (T::Bar, &[Pat, Arm]),
     (T::Wild, &[AsPart, Arm]),
     (T::Lident, &[AsPart, Arm]),
     (T::Uident, &[Quids, Patoms, AsPart, Arm]),
     (T::LParen, &[Ptuple, AsPart, Arm]),
+    (T::LBrace, &[Qlid, EQUAL, Pat, PatFields, AsPart, Arm]),
 ];
 
 const ARM: [Row; 3] = [
@@ -283,15 +287,32 @@ const FIELDS: [Row; 7] = [
     (T::LParen, &[Ttuple, Fields]),
 ];
 
-const PATOM: [Row; 4] = [
+const PATOM: [Row; 5] = [
     (T::Wild, &[]),
     (T::Lident, &[]),
     (T::Uident, &[Quids]),
     (T::LParen, &[Ptuple]),
+    (T::LBrace, &[Qlid, EQUAL, Pat, PatFields]),
+];
+
+const PAT_FIELDS: [Row; 2] = [(T::RBrace, &[]), (T::Semi, &[PatField])];
+
+const PAT_FIELD: [Row; 3] = [
+    (T::RBrace, &[]),
+    (T::Lident, &[EQUAL, Pat, PatFields]),
+    (T::Uident, &[Take(T::Dot), Qlid, EQUAL, Pat, PatFields]),
+];
+
+const EXPR_FIELDS: [Row; 2] = [(T::RBrace, &[]), (T::Semi, &[ExprField])];
+
+const EXPR_FIELD: [Row; 3] = [
+    (T::RBrace, &[]),
+    (T::Lident, &[EQUAL, ANY, ExprFields]),
+    (T::Uident, &[Take(T::Dot), Qlid, EQUAL, ANY, ExprFields]),
 ];
 
 /// The rows of primary expressions.
-pub const PRIM: [Row; 8] = [
+pub const PRIM: [Row; 9] = [
     (T::Lident, &[Applied]),
     (T::Uident, &[HeadRest(true)]),
     (T::StarName, &[Args]),
@@ -300,11 +321,12 @@ pub const PRIM: [Row; 8] = [
     (T::TrueWord, &[]),
     (T::FalseWord, &[]),
     (T::MatchWord, &[ANY, Scrutinees, Dots]),
+    (T::LBrace, &[Qlid, EQUAL, ANY, ExprFields, Dots]),
 ];
 
 const DOTS: [Row; 1] = [(T::Dot, &[Qlid, Dots])];
 
-const APPLIED: [Row; 9] = [
+const APPLIED: [Row; 10] = [
     (T::Dot, &[Qlid, Dots]),
     (T::Lident, &[Dots, Args]),
     (T::Uident, &[HeadRest(false), Args]),
@@ -314,9 +336,10 @@ const APPLIED: [Row; 9] = [
     (T::TrueWord, &[Args]),
     (T::FalseWord, &[Args]),
     (T::MatchWord, &[ANY, Scrutinees, Dots, Args]),
+    (T::LBrace, &[Qlid, EQUAL, ANY, ExprFields, Dots, Args]),
 ];
 
-const HEAD_REST: [Row; 9] = [
+const HEAD_REST: [Row; 10] = [
     (T::Dot, &[Head(true)]),
     (T::Lident, &[Dots, Args]),
     (T::Uident, &[HeadRest(false), Args]),
@@ -326,6 +349,7 @@ const HEAD_REST: [Row; 9] = [
     (T::TrueWord, &[Args]),
     (T::FalseWord, &[Args]),
     (T::MatchWord, &[ANY, Scrutinees, Dots, Args]),
+    (T::LBrace, &[Qlid, EQUAL, ANY, ExprFields, Dots, Args]),
 ];
 
 const ATOM_REST: [Row; 1] = [(T::Dot, &[Head(false)])];
@@ -351,7 +375,7 @@ const QHEAD: [Row; 4] = [
     (T::LParen, &[Opname]),
 ];
 
-const ARGS: [Row; 8] = [
+const ARGS: [Row; 9] = [
     (T::Lident, &[Dots, Args]),
     (T::Uident, &[HeadRest(false), Args]),
     (T::StarName, &[Args]),
@@ -360,9 +384,10 @@ const ARGS: [Row; 8] = [
     (T::TrueWord, &[Args]),
     (T::FalseWord, &[Args]),
     (T::MatchWord, &[ANY, Scrutinees, Dots, Args]),
+    (T::LBrace, &[Qlid, EQUAL, ANY, ExprFields, Dots, Args]),
 ];
 
-const ATOM: [Row; 8] = [
+const ATOM: [Row; 9] = [
     (T::Lident, &[Dots]),
     (T::Uident, &[HeadRest(false)]),
     (T::StarName, &[]),
@@ -371,9 +396,10 @@ const ATOM: [Row; 8] = [
     (T::TrueWord, &[]),
     (T::FalseWord, &[]),
     (T::MatchWord, &[ANY, Scrutinees, Dots]),
+    (T::LBrace, &[Qlid, EQUAL, ANY, ExprFields, Dots]),
 ];
 
-const HPAREN: [Row; 23] = [
+const HPAREN: [Row; 24] = [
     (T::RParen, &[Dots]),
     (T::Equal, &[Opend, Args]),
     (T::Operator1, &[Opend, Args]),
@@ -400,9 +426,13 @@ const HPAREN: [Row; 23] = [
         T::MatchWord,
         &[ANY, Scrutinees, Dots, Tail(0, 9), GroupRest],
     ),
+    (
+        T::LBrace,
+        &[Qlid, EQUAL, ANY, ExprFields, Dots, Tail(0, 9), GroupRest],
+    ),
 ];
 
-const HMINUS: [Row; 16] = [
+const HMINUS: [Row; 17] = [
     (T::RParen, &[Args]),
     (T::Wild, &[Take(T::RParen), Args]),
     (T::Minus, &[Expr(8), Tail(8, 8), Tail(0, 8), GroupRest]),
@@ -437,9 +467,22 @@ const HMINUS: [Row; 16] = [
         T::MatchWord,
         &[ANY, Scrutinees, Dots, Tail(8, 9), Tail(0, 8), GroupRest],
     ),
+    (
+        T::LBrace,
+        &[
+            Qlid,
+            EQUAL,
+            ANY,
+            ExprFields,
+            Dots,
+            Tail(8, 9),
+            Tail(0, 8),
+            GroupRest,
+        ],
+    ),
 ];
 
-const APAREN: [Row; 23] = [
+const APAREN: [Row; 24] = [
     (T::RParen, &[Dots]),
     (T::Equal, &[Opend]),
     (T::Operator1, &[Opend]),
@@ -466,9 +509,13 @@ const APAREN: [Row; 23] = [
         T::MatchWord,
         &[ANY, Scrutinees, Dots, Tail(0, 9), GroupRest],
     ),
+    (
+        T::LBrace,
+        &[Qlid, EQUAL, ANY, ExprFields, Dots, Tail(0, 9), GroupRest],
+    ),
 ];
 
-const AMINUS: [Row; 16] = [
+const AMINUS: [Row; 17] = [
     (T::RParen, &[]),
     (T::Wild, &[Take(T::RParen)]),
     (T::Minus, &[Expr(8), Tail(8, 8), Tail(0, 8), GroupRest]),
@@ -502,6 +549,19 @@ const AMINUS: [Row; 16] = [
     (
         T::MatchWord,
         &[ANY, Scrutinees, Dots, Tail(8, 9), Tail(0, 8), GroupRest],
+    ),
+    (
+        T::LBrace,
+        &[
+            Qlid,
+            EQUAL,
+            ANY,
+            ExprFields,
+            Dots,
+            Tail(8, 9),
+            Tail(0, 8),
+            GroupRest,
+        ],
     ),
 ];
 
@@ -573,6 +633,10 @@ pub fn rows_of(rule: Symbol) -> &'static [Row]
         RecordNext => &RECORD_NEXT,
         Algs => &ALGS,
         Patom => &PATOM,
+        PatFields => &PAT_FIELDS,
+        PatField => &PAT_FIELD,
+        ExprFields => &EXPR_FIELDS,
+        ExprField => &EXPR_FIELD,
         Prim => &PRIM,
         Dots => &DOTS,
         Applied => &APPLIED,

@@ -8,6 +8,7 @@ pub mod FieldsRead
 pub mod TermSteps
 pub mod ClimbRead
 pub mod AtomsRead
+pub mod RecordsRead
 pub mod OpenRead
 pub mod MatchRead
 pub mod ChoicesRead

@@ -5,6 +5,7 @@ pub mod Sources
 pub mod Names
 pub mod Fields
 pub mod Terms
+pub mod Records
 pub mod Binders
 pub mod Whole
 pub mod Patterns

@@ -96,6 +96,7 @@ fn form(e: &Expr) -> &'static str {
         ExprNode::Cast(_, _) => "cast",
         ExprNode::Match(_, _, _) => "match",
         ExprNode::Dot(_, _) => "field",
+        ExprNode::Fields(_, _) => "record",
         ExprNode::Prefix(_, _) => "prefix",
         ExprNode::Not(_) => "not",
         ExprNode::Binary(_, _, _) => "binary",

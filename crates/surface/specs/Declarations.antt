@@ -9,7 +9,7 @@ use Rattle.surface.specs.declared.declarations.Link.TheVariants as lk
 use Rattle.surface.specs.declared.declarations.SymbolWord.{SymbolWord}
 use Rattle.surface.specs.declared.declarations.SymbolWord.TheVariants as sw
 use Rattle.surface.specs.Lexeme.{Word, Lexeme, lx, mark}
-use Rattle.surface.specs.Forms.{Called, write_called, SyntaxForm, write_form}
+use Rattle.surface.specs.Forms.{semicolon_after, Called, write_called, SyntaxForm, write_form}
 use Rattle.surface.specs.Trees.{SyntaxTree, write, name_row, type_part, bar_before}
 
 -- A parameter, or a field of a constructor, with names or, as a type alone, without.
@@ -128,10 +128,6 @@ write_field p = name_row p.names ++ (mark t.Colon ∷ write_form p.of_type)
 abbrev pub field_tail : List ParamGroup → List Lexeme
 field_tail [] = []
 field_tail (p ∷ ps) = mark t.Semi ∷ (write_field p ++ field_tail ps)
-
-abbrev pub semicolon_after : Bool → List Lexeme
-semicolon_after true = mark t.Semi ∷ []
-semicolon_after false = []
 
 abbrev pub write_type_body : Bool → List Constructor → List ParamGroup → Bool → List Lexeme
 write_type_body bar cs [] semi = bar_before bar ++ constructor_list cs

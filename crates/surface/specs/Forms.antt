@@ -1,5 +1,5 @@
 -- Types and patterns, their tokens, which of them are right, and where their parts stand.
-use Rattle.std.specs.Prelude.{ℕ, ◌+◌, ◌≡◌, List, [], ◌∷◌, ◌++◌}
+use Rattle.std.specs.Prelude.{ℕ, ◌+◌, ◌≡◌, Bool, true, false, List, [], ◌∷◌, ◌++◌}
 use Rattle.surface.specs.Common.{⊤, Terminal, At, Name}
 use Rattle.tokens_why.specs.declared.terminal.Terminal.TheVariants as t
 use Rattle.surface.specs.Lexeme.{Word, Lexeme, lx, mark, at}
@@ -28,6 +28,8 @@ mutual
     composed : At → Called → SyntaxForms → SyntaxForm
     enclosed : At → SyntaxForms → SyntaxForm
     aliased : At → SyntaxForm → Name → SyntaxForm
+    -- fields of a record with their patterns, and whether a `;` is after the last one
+    fielded_form : At → List Called → SyntaxForms → Bool → SyntaxForm
 
   pub data SyntaxForms : Type 0 where
     no_forms : SyntaxForms
@@ -47,6 +49,10 @@ write_own star = mark t.StarName ∷ []
 abbrev pub write_called : Called → List Lexeme
 write_called c = scoped c.scopes ++ write_own c.own
 
+abbrev pub semicolon_after : Bool → List Lexeme
+semicolon_after true = mark t.Semi ∷ []
+semicolon_after false = []
+
 abbrev mutual
   pub write_form : SyntaxForm → List Lexeme
   write_form (wild a) = mark t.Wild ∷ []
@@ -55,6 +61,18 @@ abbrev mutual
   write_form (composed a c ts) = write_called c ++ form_row ts
   write_form (enclosed a ts) = mark t.LParen ∷ (form_list ts ++ (mark t.RParen ∷ []))
   write_form (aliased a p n) = write_form p ++ (mark t.AsWord ∷ lx t.Lident n.text ∷ [])
+  write_form (fielded_form a cs ps semi) =
+      mark t.LBrace ∷ (form_fields cs ps ++ (semicolon_after semi ++ (mark t.RBrace ∷ [])))
+
+  pub form_fields : List Called → SyntaxForms → List Lexeme
+  form_fields (c ∷ cs) (more_forms p ps) =
+      write_called c ++ (mark t.Equal ∷ (write_form p ++ form_fields_tail cs ps))
+  form_fields _ _ = []
+
+  pub form_fields_tail : List Called → SyntaxForms → List Lexeme
+  form_fields_tail (c ∷ cs) (more_forms p ps) =
+      mark t.Semi ∷ (write_called c ++ (mark t.Equal ∷ (write_form p ++ form_fields_tail cs ps)))
+  form_fields_tail _ _ = []
 
   pub form_row : SyntaxForms → List Lexeme
   form_row no_forms = []
@@ -85,6 +103,20 @@ IsHead type_forms (lower w) = ⊤
 IsHead pattern_forms (upper w) = ⊤
 IsHead _ _ = ⊥
 
+abbrev pub IsLowerName : Own → Type 0
+IsLowerName (lower w) = ⊤
+IsLowerName _ = ⊥
+
+abbrev pub HasForm : SyntaxForms → Type 0
+HasForm no_forms = ⊥
+HasForm (more_forms p ps) = ⊤
+
+-- each form has its name
+abbrev pub AreNamedForms : List Called → SyntaxForms → Type 0
+AreNamedForms [] no_forms = ⊤
+AreNamedForms (c ∷ cs) (more_forms p ps) = IsLowerName c.own × AreNamedForms cs ps
+AreNamedForms _ _ = ⊥
+
 abbrev pub IsFormPart : SyntaxForm → Type 0
 IsFormPart (composed a c (more_forms p ps)) = ⊥
 IsFormPart (aliased a p n) = ⊥
@@ -102,6 +134,8 @@ abbrev mutual
   IsForm s (composed a c ts) = IsHead s c.own × AreParts s ts
   IsForm s (enclosed a ts) = AreForms s ts
   IsForm s (aliased a p n) = OfPatterns s × IsUnnamed p × IsForm s p
+  IsForm s (fielded_form a cs ps semi) =
+      OfPatterns s × HasForm ps × AreNamedForms cs ps × AreForms s ps
 
   pub AreParts : FormKind → SyntaxForms → Type 0
   AreParts s no_forms = ⊤
@@ -125,6 +159,7 @@ abbrev mutual
   IsPlaced i (composed a c ts) = (a ≡ at i) × (c.at ≡ i) × PlacedRow (past i (write_called c)) ts
   IsPlaced i (enclosed a ts) = (a ≡ at i) × PlacedList (i + 1) ts
   IsPlaced i (aliased a p n) = (a ≡ at i) × IsPlaced i p × (n.at ≡ past i (write_form p) + 1)
+  IsPlaced i (fielded_form a cs ps semi) = (a ≡ at i) × PlacedFieldForms (i + 1) cs ps
 
   -- side by side
   pub PlacedRow : ℕ → SyntaxForms → Type 0
@@ -135,3 +170,10 @@ abbrev mutual
   pub PlacedList : ℕ → SyntaxForms → Type 0
   PlacedList i no_forms = ⊤
   PlacedList i (more_forms p ps) = IsPlaced i p × PlacedList (past i (write_form p) + 1) ps
+
+  -- each after its name and `=`, with a token between
+  pub PlacedFieldForms : ℕ → List Called → SyntaxForms → Type 0
+  PlacedFieldForms i (c ∷ cs) (more_forms p ps) =
+      (c.at ≡ i) × IsPlaced (past i (write_called c) + 1) p
+      × PlacedFieldForms (past (past i (write_called c) + 1) (write_form p) + 1) cs ps
+  PlacedFieldForms i _ _ = ⊤

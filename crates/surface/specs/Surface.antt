@@ -12,21 +12,23 @@ use Rattle.surface.specs.declared.types.TypeNode.TheOpen as ty
 use Rattle.surface.specs.declared.types.TypeNode.TheOpen.{TypeNode-F}
 use Rattle.surface.specs.declared.types.TypeNode.TheFolds.{fold-TypeTree, fold-TypeNode}
 use Rattle.surface.specs.declared.patterns.Pat.{Pat, Pat-F}
+use Rattle.surface.specs.declared.patterns.FieldPat.{FieldPat, FieldPat-F}
 use Rattle.surface.specs.declared.patterns.PatNode.{PatNode}
 use Rattle.surface.specs.declared.patterns.PatNode.TheOpen as pt
 use Rattle.surface.specs.declared.patterns.PatNode.TheOpen.{PatNode-F}
-use Rattle.surface.specs.declared.patterns.PatNode.TheFolds.{fold-Pat, fold-PatNode}
+use Rattle.surface.specs.declared.patterns.PatNode.TheFolds.{fold-FieldPat, fold-Pat, fold-PatNode}
 use Rattle.surface.specs.declared.expressions.BinderTree.{BinderTree}
 use Rattle.surface.specs.declared.expressions.Expr.{Expr, Expr-F}
+use Rattle.surface.specs.declared.expressions.FieldValue.{FieldValue, FieldValue-F}
 use Rattle.surface.specs.declared.expressions.BranchTree.{BranchTree, BranchTree-F}
 use Rattle.surface.specs.declared.expressions.TriggerTree.{TriggerTree, TriggerTree-F}
 use Rattle.surface.specs.declared.expressions.ExprNode.{ExprNode}
 use Rattle.surface.specs.declared.expressions.ExprNode.TheOpen as ex
 use Rattle.surface.specs.declared.expressions.ExprNode.TheOpen.{ExprNode-F}
-use Rattle.surface.specs.declared.expressions.ExprNode.TheFolds.{fold-Expr, fold-ExprNode, fold-BranchTree, fold-TriggerTree}
+use Rattle.surface.specs.declared.expressions.ExprNode.TheFolds.{fold-Expr, fold-ExprNode, fold-FieldValue, fold-BranchTree, fold-TriggerTree}
 use Rattle.surface.specs.Lexeme.{Word, said}
-use Rattle.surface.specs.Forms.{Own, lower, upper, infix_op, prefix_op, star, Called, called, SyntaxForm, SyntaxForms, wild, variable, type_variable, composed, enclosed, aliased, no_forms, more_forms}
-use Rattle.surface.specs.Trees.{OperatorToken, op, TypedBinder, binds, SyntaxTree, SyntaxTrees, Branches, SyntaxTrigger, apply, literal, truth, falsity, group, cast, prefixed, negation, binary, choice, cases, access, binding, quantified, none, more, no_branch, branch, untriggered, triggered}
+use Rattle.surface.specs.Forms.{Own, lower, upper, infix_op, prefix_op, star, Called, called, SyntaxForm, SyntaxForms, wild, variable, type_variable, composed, enclosed, aliased, fielded_form, no_forms, more_forms}
+use Rattle.surface.specs.Trees.{OperatorToken, op, TypedBinder, binds, SyntaxTree, SyntaxTrees, Branches, SyntaxTrigger, apply, literal, truth, falsity, group, cast, prefixed, negation, binary, choice, cases, access, fielded_tree, binding, quantified, none, more, no_branch, branch, untriggered, triggered}
 
 -- a branch by itself
 pub record Arm : Type 0 where
@@ -81,6 +83,27 @@ op_by _ i w = op i t.OtherWord []
 abbrev pub op_of : OpName → OperatorToken
 op_of o = op_by o.style o.at o.text
 
+-- a field by itself, with its pattern or its value
+pub record FormPart : Type 0 where
+  pub name : Called
+  pub form : SyntaxForm
+
+pub record TreePart : Type 0 where
+  pub name : Called
+  pub tree : SyntaxTree
+
+abbrev pub form_names : List FormPart → List Called
+form_names fs = map (λ (f : FormPart). f.name) fs
+
+abbrev pub form_values : List FormPart → SyntaxForms
+form_values fs = forms (map (λ (f : FormPart). f.form) fs)
+
+abbrev pub tree_names : List TreePart → List Called
+tree_names fs = map (λ (f : TreePart). f.name) fs
+
+abbrev pub tree_values : List TreePart → SyntaxTrees
+tree_values fs = trees (map (λ (f : TreePart). f.tree) fs)
+
 -- One level of a type, with the trees of its parts in their place.
 abbrev pub type_step : TypeNode-F (At → SyntaxForm) SyntaxForm → At → SyntaxForm
 type_step (ty.Var w) a = type_variable a w
@@ -96,21 +119,30 @@ form_of = fold-TypeTree (At → SyntaxForm) SyntaxForm type_step type_whole
 unfoldable pub form_of_node : TypeNode → At → SyntaxForm
 form_of_node = fold-TypeNode (At → SyntaxForm) SyntaxForm type_step type_whole
 
-abbrev pub pattern_step : PatNode-F (At → SyntaxForm) SyntaxForm → At → SyntaxForm
+abbrev pub form_part : FieldPat-F (At → SyntaxForm) FormPart SyntaxForm → FormPart
+form_part f = record { name = called_of f.name; form = f.value }
+
+abbrev pub pattern_step : PatNode-F (At → SyntaxForm) FormPart SyntaxForm → At → SyntaxForm
 pattern_step pt.Wild a = wild a
 pattern_step (pt.Var n) a = variable a n
 pattern_step (pt.Con q xs) a = composed a (called_of q) (forms xs)
 pattern_step (pt.Group xs) a = enclosed a (forms xs)
 pattern_step (pt.Alias p n) a = aliased a p n
+pattern_step (pt.Fields fs semi) a = fielded_form a (form_names fs) (form_values fs) semi
 
-abbrev pub pattern_whole : Pat-F (At → SyntaxForm) SyntaxForm → SyntaxForm
+abbrev pub pattern_whole : Pat-F (At → SyntaxForm) FormPart SyntaxForm → SyntaxForm
 pattern_whole p = p.node p.at
 
 unfoldable pub pattern_of : Pat → SyntaxForm
-pattern_of = fold-Pat (At → SyntaxForm) SyntaxForm pattern_step pattern_whole
+pattern_of = fold-Pat (At → SyntaxForm) FormPart SyntaxForm pattern_step form_part pattern_whole
 
 unfoldable pub pattern_of_node : PatNode → At → SyntaxForm
-pattern_of_node = fold-PatNode (At → SyntaxForm) SyntaxForm pattern_step pattern_whole
+pattern_of_node =
+    fold-PatNode (At → SyntaxForm) FormPart SyntaxForm pattern_step form_part pattern_whole
+
+unfoldable pub form_part_of : FieldPat → FormPart
+form_part_of =
+    fold-FieldPat (At → SyntaxForm) FormPart SyntaxForm pattern_step form_part pattern_whole
 
 abbrev pub types : List TypeTree → SyntaxForms
 types ts = forms (map form_of ts)
@@ -130,7 +162,7 @@ integer_word (pos n) = n ∷ []
 integer_word (negsuc n) = []
 
 -- One level of an expression, with the trees of its parts in their place.
-abbrev pub node_step : ExprNode-F (At → SyntaxTree) Arm SyntaxTree Terms → At → SyntaxTree
+abbrev pub node_step : ExprNode-F (At → SyntaxTree) Arm SyntaxTree TreePart Terms → At → SyntaxTree
 node_step (ex.Apply q xs) a = apply a (called_of q) (trees xs)
 node_step (ex.Int n) a = literal a (integer_word n)
 node_step ex.True a = truth a
@@ -139,6 +171,7 @@ node_step (ex.Group xs) a = group a (trees xs)
 node_step (ex.Cast e t) a = cast a e (form_of t)
 node_step (ex.Match es bar bs) a = cases a (trees es) bar (branches bs)
 node_step (ex.Dot e q) a = access a e (called_of q)
+node_step (ex.Fields fs semi) a = fielded_tree a (tree_names fs) (tree_values fs) semi
 node_step (ex.Prefix o e) a = prefixed a (op_of o) e
 node_step (ex.Not e) a = negation a e
 node_step (ex.Binary e o f) a = binary a e (op_of o) f
@@ -146,26 +179,38 @@ node_step (ex.If c e f) a = choice a c e f
 node_step (ex.Let ps e f) a = binding a (patterns ps) e f
 node_step (ex.Quant all bs g e) a = quantified a all (map binder_of bs) (trigger g) e
 
-abbrev pub arm_step : BranchTree-F (At → SyntaxTree) Arm SyntaxTree Terms → Arm
+abbrev pub arm_step : BranchTree-F (At → SyntaxTree) Arm SyntaxTree TreePart Terms → Arm
 arm_step b = record { alternatives = alternatives b.alternatives; body = b.body }
 
-abbrev pub terms_step : TriggerTree-F (At → SyntaxTree) Arm SyntaxTree Terms → Terms
+abbrev pub terms_step : TriggerTree-F (At → SyntaxTree) Arm SyntaxTree TreePart Terms → Terms
 terms_step g = record { terms = trees g.terms; bars = g.bars }
 
-abbrev pub whole_step : Expr-F (At → SyntaxTree) Arm SyntaxTree Terms → SyntaxTree
+abbrev pub tree_part : FieldValue-F (At → SyntaxTree) Arm SyntaxTree TreePart Terms → TreePart
+tree_part f = record { name = called_of f.name; tree = f.value }
+
+abbrev pub whole_step : Expr-F (At → SyntaxTree) Arm SyntaxTree TreePart Terms → SyntaxTree
 whole_step e = e.node e.at
 
 unfoldable pub tree_of : Expr → SyntaxTree
-tree_of = fold-Expr (At → SyntaxTree) Arm SyntaxTree Terms node_step arm_step whole_step terms_step
+tree_of = fold-Expr (At → SyntaxTree) Arm SyntaxTree TreePart Terms node_step arm_step whole_step
+    tree_part terms_step
 
 unfoldable pub arm_of : BranchTree → Arm
 arm_of =
-    fold-BranchTree (At → SyntaxTree) Arm SyntaxTree Terms node_step arm_step whole_step terms_step
+    fold-BranchTree (At → SyntaxTree) Arm SyntaxTree TreePart Terms node_step arm_step whole_step
+    tree_part terms_step
 
 unfoldable pub terms_of : TriggerTree → Terms
 terms_of =
-    fold-TriggerTree (At → SyntaxTree) Arm SyntaxTree Terms node_step arm_step whole_step terms_step
+    fold-TriggerTree (At → SyntaxTree) Arm SyntaxTree TreePart Terms node_step arm_step whole_step
+    tree_part terms_step
+
+unfoldable pub tree_part_of : FieldValue → TreePart
+tree_part_of =
+    fold-FieldValue (At → SyntaxTree) Arm SyntaxTree TreePart Terms node_step arm_step whole_step
+    tree_part terms_step
 
 unfoldable pub tree_of_node : ExprNode → At → SyntaxTree
 tree_of_node =
-    fold-ExprNode (At → SyntaxTree) Arm SyntaxTree Terms node_step arm_step whole_step terms_step
+    fold-ExprNode (At → SyntaxTree) Arm SyntaxTree TreePart Terms node_step arm_step whole_step
+    tree_part terms_step

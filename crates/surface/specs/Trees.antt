@@ -3,7 +3,7 @@ use Rattle.std.specs.Prelude.{ℕ, ◌+◌, ◌≡◌, ◌≤◌, Bool, true, fa
 use Rattle.surface.specs.Common.{⊤, Terminal, prec, need, right, is_infix, is_prefix, is_operator, At, Name}
 use Rattle.tokens_why.specs.declared.terminal.Terminal.TheVariants as t
 use Rattle.surface.specs.Lexeme.{Lexeme, Word, at, lx, mark}
-use Rattle.surface.specs.Forms.{AreForms, Called, SyntaxForm, SyntaxForms, IsForm, IsPlaced, Own, lower, PlacedList, form_list, infix_op, more_forms, no_forms, past, pattern_forms, prefix_op, type_forms, write_called, write_form}
+use Rattle.surface.specs.Forms.{HasForm, IsLowerName, semicolon_after, AreForms, Called, SyntaxForm, SyntaxForms, IsForm, IsPlaced, Own, lower, PlacedList, form_list, infix_op, more_forms, no_forms, past, pattern_forms, prefix_op, type_forms, write_called, write_form}
 
 pub record OperatorToken : Type 0 where
   pub at : ℕ
@@ -32,6 +32,8 @@ mutual
     cases : At → SyntaxTrees → Bool → Branches → SyntaxTree
     -- a field of a term
     access : At → SyntaxTree → Called → SyntaxTree
+    -- fields of a record with their values, and whether a `;` is after the last one
+    fielded_tree : At → List Called → SyntaxTrees → Bool → SyntaxTree
     binding : At → SyntaxForms → SyntaxTree → SyntaxTree → SyntaxTree
     quantified : At → Bool → List TypedBinder → SyntaxTrigger → SyntaxTree → SyntaxTree
 
@@ -110,10 +112,22 @@ abbrev mutual
       mark t.MatchWord ∷ (write_list es
       ++ (mark t.WithWord ∷ (bar_before bar ++ (write_branches bs ++ (mark t.EndWord ∷ [])))))
   write (access a e c) = write e ++ (mark t.Dot ∷ write_called c)
+  write (fielded_tree a cs es semi) =
+      mark t.LBrace ∷ (tree_fields cs es ++ (semicolon_after semi ++ (mark t.RBrace ∷ [])))
   write (binding a ps e f) =
       mark t.LetWord ∷ (form_list ps ++ (mark t.Equal ∷ (write e ++ (mark t.InWord ∷ write f))))
   write (quantified a all bs g e) =
       mark (quantifier all) ∷ (binder_list bs ++ (write_trigger g ++ (mark t.Dot ∷ write e)))
+
+  pub tree_fields : List Called → SyntaxTrees → List Lexeme
+  tree_fields (c ∷ cs) (more e es) =
+      write_called c ++ (mark t.Equal ∷ (write e ++ tree_fields_tail cs es))
+  tree_fields _ _ = []
+
+  pub tree_fields_tail : List Called → SyntaxTrees → List Lexeme
+  tree_fields_tail (c ∷ cs) (more e es) =
+      mark t.Semi ∷ (write_called c ++ (mark t.Equal ∷ (write e ++ tree_fields_tail cs es)))
+  tree_fields_tail _ _ = []
 
   pub write_row : SyntaxTrees → List Lexeme
   write_row none = []
@@ -193,10 +207,6 @@ IsAtom (binding a ps e f) = ⊥
 IsAtom (quantified a all bs g e) = ⊥
 IsAtom _ = ⊤
 
-abbrev pub IsLowerName : Own → Type 0
-IsLowerName (lower w) = ⊤
-IsLowerName _ = ⊥
-
 -- what a field may be taken of
 abbrev pub IsPlainTerm : SyntaxTree → Type 0
 IsPlainTerm (apply a c none) = IsLowerName c.own
@@ -204,19 +214,22 @@ IsPlainTerm (group a es) = ⊤
 IsPlainTerm (cast a e f) = ⊤
 IsPlainTerm (cases a es bar bs) = ⊤
 IsPlainTerm (access a e c) = ⊤
+IsPlainTerm (fielded_tree a cs es semi) = ⊤
 IsPlainTerm _ = ⊥
 
 abbrev pub HasSome : {A : Type 0} → List A → Type 0
 HasSome [] = ⊥
 HasSome (x ∷ xs) = ⊤
 
-abbrev pub HasForm : SyntaxForms → Type 0
-HasForm no_forms = ⊥
-HasForm (more_forms p ps) = ⊤
-
 abbrev pub HasSomeTree : SyntaxTrees → Type 0
 HasSomeTree none = ⊥
 HasSomeTree (more e es) = ⊤
+
+-- each tree has its name
+abbrev pub AreNamedTrees : List Called → SyntaxTrees → Type 0
+AreNamedTrees [] none = ⊤
+AreNamedTrees (c ∷ cs) (more e es) = IsLowerName c.own × AreNamedTrees cs es
+AreNamedTrees _ _ = ⊥
 
 abbrev pub HasBranch : Branches → Type 0
 HasBranch no_branch = ⊥
@@ -251,6 +264,7 @@ abbrev mutual
   IsLevel (choice a c e f) = IsLevel c × IsLevel e × IsLevel f
   IsLevel (cases a es bar bs) = HasSomeTree es × AreLevel es × HasBranch bs × AreBranches bs
   IsLevel (access a e c) = IsPlainTerm e × IsLevel e × IsLowerName c.own
+  IsLevel (fielded_tree a cs es semi) = HasSomeTree es × AreNamedTrees cs es × AreLevel es
   IsLevel (binding a ps e f) = HasForm ps × AreForms pattern_forms ps × IsLevel e × IsLevel f
   IsLevel (quantified a all bs g e) = HasSome bs × AreBinders bs × IsTrigger g × IsLevel e
 
@@ -322,12 +336,20 @@ abbrev mutual
       × PlacedBranches (past (past (i + 1) (write_list es) + 1) (bar_before bar)) bs
   IsPlacedTree i (access a e c) =
       (a ≡ at i) × IsPlacedTree i e × (c.at ≡ past i (write e) + 1)
+  IsPlacedTree i (fielded_tree a cs es semi) = (a ≡ at i) × PlacedFieldTrees (i + 1) cs es
   IsPlacedTree i (binding a ps e f) =
       (a ≡ at i) × PlacedList (i + 1) ps × IsPlacedTree (past (i + 1) (form_list ps) + 1) e
       × IsPlacedTree (past (past (i + 1) (form_list ps) + 1) (write e) + 1) f
   IsPlacedTree i (quantified a all bs g e) =
       (a ≡ at i) × PlacedBinders (i + 1) bs × PlacedTrigger (past (i + 1) (binder_list bs)) g
       × IsPlacedTree (past (past (i + 1) (binder_list bs)) (write_trigger g) + 1) e
+
+  -- each after its name and `=`, with a token between
+  pub PlacedFieldTrees : ℕ → List Called → SyntaxTrees → Type 0
+  PlacedFieldTrees i (c ∷ cs) (more e es) =
+      (c.at ≡ i) × IsPlacedTree (past i (write_called c) + 1) e
+      × PlacedFieldTrees (past (past i (write_called c) + 1) (write e) + 1) cs es
+  PlacedFieldTrees i _ _ = ⊤
 
   -- side by side
   pub PlacedTrees : ℕ → SyntaxTrees → Type 0

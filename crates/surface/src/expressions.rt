@@ -14,7 +14,8 @@ pub struct Expr {
 
 /// The forms of terms and formulas.
 /// `Apply` without arguments is the atom. The truth value of `Match` says that a `|` is before the first branch;
-/// that of `Quant` is true for `forall`. `Dot` is `e.a`.
+/// that of `Quant` is true for `forall`. `Dot` is `e.a`. `Fields` are those of a record;
+/// its truth value says that a `;` is before `}`.
 #[cycle(expression_tree)]
 #[derive(Drop)]
 pub enum ExprNode {
@@ -26,12 +27,21 @@ pub enum ExprNode {
     Cast(Boxed<Expr>, TypeTree),
     Match(Seq<Expr>, bool, Seq<BranchTree>),
     Dot(Boxed<Expr>, QName),
+    Fields(Seq<FieldValue>, bool),
     Prefix(OpName, Boxed<Expr>),
     Not(Boxed<Expr>),
     Binary(Boxed<Expr>, OpName, Boxed<Expr>),
     If(Boxed<Expr>, Boxed<Expr>, Boxed<Expr>),
     Let(Seq<Pat>, Boxed<Expr>, Boxed<Expr>),
     Quant(bool, Seq<BinderTree>, Option<TriggerTree>, Boxed<Expr>),
+}
+
+/// A field of a record and its value.
+#[cycle(expression_tree)]
+#[derive(Drop)]
+pub struct FieldValue {
+    pub name: QName,
+    pub value: Expr,
 }
 
 /// A branch of a `match`: its alternatives, each a list of patterns, and its body.

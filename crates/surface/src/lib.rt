@@ -17,8 +17,8 @@ pub use declarations::{
     AlgTree, ClauseTree, ConTree, DeclNode, DeclTree, ElemNode, ElemTree, File, IndTree, Link,
     MemberTree, ParamTree, PropKind, SymbolWord, TheoryTree,
 };
-pub use expressions::{BinderTree, BranchTree, Expr, ExprNode, TriggerTree};
+pub use expressions::{BinderTree, BranchTree, Expr, ExprNode, FieldValue, TriggerTree};
 pub use names::{At, Name, OpName, Path, QName, Style};
-pub use patterns::{Pat, PatNode};
+pub use patterns::{FieldPat, Pat, PatNode};
 pub use tokens_why::{LexFault, Token, lex};
 pub use types::{TypeNode, TypeTree};

@@ -10,7 +10,8 @@ pub struct Pat {
     pub node: PatNode,
 }
 
-/// A wildcard, a variable, a constructor with its parts, patterns in parentheses, or `p as x`.
+/// A wildcard, a variable, a constructor with its parts, patterns in parentheses, `p as x`, or fields of a record; the truth
+/// value of these says that a `;` is before `}`.
 #[cycle(pattern_tree)]
 #[derive(Drop)]
 pub enum PatNode {
@@ -19,4 +20,13 @@ pub enum PatNode {
     Con(QName, Seq<Pat>),
     Group(Seq<Pat>),
     Alias(Boxed<Pat>, Name),
+    Fields(Seq<FieldPat>, bool),
+}
+
+/// A field of a record and its pattern.
+#[cycle(pattern_tree)]
+#[derive(Drop)]
+pub struct FieldPat {
+    pub name: QName,
+    pub value: Pat,
 }

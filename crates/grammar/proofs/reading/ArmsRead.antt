@@ -73,10 +73,10 @@ binders_stop [] zs n = n
 binders_stop (b ∷ bs) zs n = refl
 
 -- a binder after its first name
-pub binder_behind : (n : Name) (ns : List Name) (ty : Option SyntaxForm) (b : BoundPart) (zs : List Lexeme) (i : ℕ) (k : List Symbol) (vs : Vals k) → IsTypePart ty → PlacedNames i (n ∷ ns) → PlacedPart (past (i + 1) (name_row ns)) ty → Stops s.Targs zs → Reads (s.Binders ∷ k) zs (past (past (i + 1) (name_row ns)) (type_part ty)) (b, vs) → Reads (s.Take t.Lident ∷ s.Binder ∷ k) (lx t.Lident n.text ∷ (name_row ns ++ (type_part ty ++ zs))) i (n, (record { names = ns; of_type = ty; bound = b }, vs))
-binder_behind n ns ty b zs i k vs l p q m h = rw (binder_names ns ty b (type_part ty ++ zs) (i + 1) k vs p.1 (binder_type ty b zs (past (i + 1) (name_row ns)) k vs l q m h)) (ap (λ v. Some (name v n.text, (record { names = ns; of_type = ty; bound = b }, vs))) (sym p.0))
+pub binder_after : (n : Name) (ns : List Name) (ty : Option SyntaxForm) (b : BoundPart) (zs : List Lexeme) (i : ℕ) (k : List Symbol) (vs : Vals k) → IsTypePart ty → PlacedNames i (n ∷ ns) → PlacedPart (past (i + 1) (name_row ns)) ty → Stops s.Targs zs → Reads (s.Binders ∷ k) zs (past (past (i + 1) (name_row ns)) (type_part ty)) (b, vs) → Reads (s.Take t.Lident ∷ s.Binder ∷ k) (lx t.Lident n.text ∷ (name_row ns ++ (type_part ty ++ zs))) i (n, (record { names = ns; of_type = ty; bound = b }, vs))
+binder_after n ns ty b zs i k vs l p q m h = rw (binder_names ns ty b (type_part ty ++ zs) (i + 1) k vs p.1 (binder_type ty b zs (past (i + 1) (name_row ns)) k vs l q m h)) (ap (λ v. Some (name v n.text, (record { names = ns; of_type = ty; bound = b }, vs))) (sym p.0))
 
 pub reads_binders : (bs : List TypedBinder) (g : SyntaxTrigger) (e : SyntaxTree) (zs : List Lexeme) (i : ℕ) (k : List Symbol) (vs : Vals k) → AreBinders bs → PlacedBinders (i + 1) bs → Stops s.Targs zs → Reads (s.Binders ∷ k) zs (past i (binder_tail bs)) (record { others = []; trigger = g; body = e }, vs) → Reads (s.Binders ∷ k) (binder_tail bs ++ zs) i (record { others = bs; trigger = g; body = e }, vs)
 reads_binders [] g e zs i k vs l p n h = h
 reads_binders (binds [] ty ∷ bs) g e zs i k vs l p n h = elim l.0 [ ]
-reads_binders (binds (m ∷ ns) ty ∷ bs) g e zs i k vs l p n h = rw (append_assoc (name_row ns ++ type_part ty) (binder_tail bs) zs, append_assoc (name_row ns) (type_part ty) (binder_tail bs ++ zs), binder_behind m ns ty (record { others = bs; trigger = g; body = e }) (binder_tail bs ++ zs) (i + 1) k vs l.1 p.0.0 p.0.1 (binders_stop bs zs n) (reads_binders bs g e zs (past (past (i + 1 + 1) (name_row ns)) (type_part ty)) k vs l.2 (rw past-append at p.1) n (rw (append_assoc, past-append, past-append) at h))) refl
+reads_binders (binds (m ∷ ns) ty ∷ bs) g e zs i k vs l p n h = rw (append_assoc (name_row ns ++ type_part ty) (binder_tail bs) zs, append_assoc (name_row ns) (type_part ty) (binder_tail bs ++ zs), binder_after m ns ty (record { others = bs; trigger = g; body = e }) (binder_tail bs ++ zs) (i + 1) k vs l.1 p.0.0 p.0.1 (binders_stop bs zs n) (reads_binders bs g e zs (past (past (i + 1 + 1) (name_row ns)) (type_part ty)) k vs l.2 (rw past-append at p.1) n (rw (append_assoc, past-append, past-append) at h))) refl

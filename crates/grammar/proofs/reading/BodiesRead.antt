@@ -1,5 +1,5 @@
 -- The tokens of types' declarations, members, clauses, links and substitutions are read as them.
-use Rattle.grammar.proofs.reading.Common.{◌≡◌, ℕ, ◌+◌, Bool, true, false, cond, List, [], ◌∷◌, ◌++◌, Option, Some, None, option_map, refl, sym, ap, ◌∙◌, subst, append_assoc, same, is_tail, same_true, no_false, Symbol, Name, Lexeme, Word, at, lx, mark, name, SyntaxForm, SyntaxForms, IsForm, IsHead, IsPlaced, Own, aliased, called, composed, enclosed, form_row, lower, past, scoped, type_variable, type_forms, upper, variable, wild, write_called, write_form, write_own, HasSome, IsLevel, IsPlacedTree, IsTypePart, PlacedNames, PlacedPart, SyntaxTree, bar_before, type_part, write, Algebraic, Clause, Constructor, Inductive, Member, clause_list, clause_tail, constructor_list, constructor_tail, definition, inductive_tail, other_members, param_row, variable_row, write_inductive, write_member, AreClauses, AreConstructors, AreInductive, AreMembers, AreParams, IsDefined, IsOptionalDefinition, IsNewSymbol, IsProp, PlacedClauses, PlacedConstructors, PlacedDefinition, PlacedInductive, PlacedInductives, PlacedMembers, ClausesPart, FieldsPart, TypePart, UpperPart, fields_of, is_algebraic, is_alias, scope_of, with_clause, ReadingRow, Vals, extend, row, then_row, upper_own, rows, blank, by_row, find, values_over, read, with_blank, ParamGroup, IsTypeBody, PlacedTypeBody, write_type_body}
+use Rattle.grammar.proofs.reading.Common.{◌≡◌, ℕ, ◌+◌, Bool, true, false, cond, List, [], ◌∷◌, ◌++◌, Option, Some, None, option_map, refl, sym, ap, ◌∙◌, subst, append_assoc, same, is_tail, same_true, no_false, Symbol, Name, Lexeme, Word, at, lx, mark, name, SyntaxForm, SyntaxForms, IsForm, IsHead, IsPlaced, Own, aliased, called, composed, enclosed, fielded_form, form_row, lower, past, scoped, type_variable, type_forms, upper, variable, wild, write_called, write_form, write_own, HasSome, IsLevel, IsPlacedTree, IsTypePart, PlacedNames, PlacedPart, SyntaxTree, bar_before, type_part, write, Algebraic, Clause, Constructor, Inductive, Member, clause_list, clause_tail, constructor_list, constructor_tail, definition, inductive_tail, other_members, param_row, variable_row, write_inductive, write_member, AreClauses, AreConstructors, AreInductive, AreMembers, AreParams, IsDefined, IsOptionalDefinition, IsNewSymbol, IsProp, PlacedClauses, PlacedConstructors, PlacedDefinition, PlacedInductive, PlacedInductives, PlacedMembers, ClausesPart, FieldsPart, TypePart, UpperPart, fields_of, is_algebraic, is_alias, scope_of, with_clause, ReadingRow, Vals, extend, row, then_row, upper_own, rows, blank, by_row, find, values_over, read, with_blank, ParamGroup, IsTypeBody, PlacedTypeBody, write_type_body}
 use Rattle.tokens_why.specs.declared.terminal.Terminal.TheVariants as t
 use Rattle.grammar.specs.declared.symbols.Symbol.TheVariants as s
 use Rattle.grammar.proofs.reading.Reading.{Reads, Stops, find_apart, find_extend, fused, passed, past-append}
@@ -29,7 +29,7 @@ upper_fields (x ∷ xs) i k vs h = by_dot (same t.Dot x.terminal) refl
 
     by_found : (o : Option (ReadingRow s.Fields)) → find (rows s.Fields) x.terminal ≡ o → find upper_own x.terminal ≡ None → by_row s.Fields (s.Decls ∷ k) (λ k'. read xs (i + 1) false k') i x.text o (with_blank s.Fields (s.Decls ∷ k) (blank s.Fields) (values_over (λ k'. read xs (i + 1) false k') i x false (s.Decls ∷ k))) ≡ Some vs → Reads (s.Upper ∷ s.Decls ∷ k) (x ∷ xs) i (fields_of vs.0, vs.1)
     by_found (Some r) e n g = ap (λ o. by_row s.Upper (s.Decls ∷ k) (λ k'. read xs (i + 1) false k') i x.text o (with_blank s.Upper (s.Decls ∷ k) (blank s.Upper) (values_over (λ k'. read xs (i + 1) false k') i x false (s.Decls ∷ k)))) (found_by n ∙ ap (option_map (then_row s.Upper s.Fields [] (λ v vs. fields_of v))) e)
-        ∙ fused {C = UpperPart × Vals (s.Decls ∷ k)} (λ u. (fields_of u.0, u.1)) (λ u. r.act (s.Decls ∷ k) i x.text u) (read xs (i + 1) false (r.behind (s.Decls ∷ k)))
+        ∙ fused {C = UpperPart × Vals (s.Decls ∷ k)} (λ u. (fields_of u.0, u.1)) (λ u. r.act (s.Decls ∷ k) i x.text u) (read xs (i + 1) false (r.following (s.Decls ∷ k)))
         ∙ ap (option_map {U = UpperPart × Vals (s.Decls ∷ k)} (λ u. (fields_of u.0, u.1))) g
     by_found None e n g = ap (λ o. by_row s.Upper (s.Decls ∷ k) (λ k'. read xs (i + 1) false k') i x.text o (with_blank s.Upper (s.Decls ∷ k) (blank s.Upper) (values_over (λ k'. read xs (i + 1) false k') i x false (s.Decls ∷ k)))) (found_by n ∙ ap (option_map (then_row s.Upper s.Fields [] (λ v vs. fields_of v))) e) ∙ by_blank (values_over (λ k'. read xs (i + 1) false k') i x false (s.Decls ∷ k)) g
 
@@ -53,6 +53,7 @@ typedef_alias (enclosed a ts) zs i k vs l p n h = rw (p.0, reads_tuple ts zs (i 
 typedef_alias (wild a) zs i k vs l p n h = elim l [ ]
 typedef_alias (variable a m) zs i k vs l p n h = elim l [ ]
 typedef_alias (aliased a f m) zs i k vs l p n h = elim l.0 [ ]
+typedef_alias (fielded_form a cs ps semi) zs i k vs l p n h = elim l.0 [ ]
 
 typedef_con : (bar : Bool) (cs : List Constructor) (as_ : List Algebraic) (zs : List Lexeme) (i : ℕ) (k : List Symbol) (vs : Vals (s.Decls ∷ k)) → HasSome cs → AreConstructors cs → PlacedConstructors (past i (bar_before bar)) cs → Reads (s.Fields ∷ s.Decls ∷ k) zs (past (past i (bar_before bar)) (constructor_list cs)) (record { fields = []; constructors = []; others = as_ }, vs) → Reads (s.Typedef ∷ s.Decls ∷ k) (bar_before bar ++ (constructor_list cs ++ zs)) i (is_algebraic (record { bar = bar; constructors = cs; fields = []; semi = false; others = as_ }), vs)
 typedef_con bar [] as_ zs i k vs e l p h = elim e [ ]

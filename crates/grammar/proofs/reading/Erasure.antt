@@ -9,7 +9,7 @@ has None = false
 has (Some v) = true
 
 abbrev pub line_of : {s : Symbol} → ReadingRow s → table.Production
-line_of r = record { first = r.first; behind = r.symbols }
+line_of r = record { first = r.first; following = r.symbols }
 
 abbrev pub lines_of : {s : Symbol} → List (ReadingRow s) → List table.Production
 lines_of [] = []
@@ -55,7 +55,7 @@ module _ (erases : (s : Symbol) → Erases s) where
       by_optional false g = refl
 
       by_found : (o : Option (ReadingRow s)) → ((c : Bool) → has (values_over rest i x c k) ≡ ends (next_stack (λ j. run j xs) (step c k x.terminal))) → has (by_row s k rest i x.text o (with_blank s k (blank s) (values_over rest i x (is_seal s) k))) ≡ ends (next_stack (λ j. run j xs) (on_top (option_map (λ r. r.symbols) o) (table.optional s) k (step (is_seal s) k x.terminal)))
-      by_found (Some r) g = has_map (λ vs. r.act k i x.text vs) (rest (r.behind k)) ∙ f (r.behind k) ∙ ap (λ l. ends (run l xs)) (r.flat k)
+      by_found (Some r) g = has_map (λ vs. r.act k i x.text vs) (rest (r.following k)) ∙ f (r.following k) ∙ ap (λ l. ends (run l xs)) (r.flat k)
       by_found None g = has_blank s k (blank s) (values_over rest i x (is_seal s) k) ∙ ap (λ v. v && has (values_over rest i x (is_seal s) k)) (erases s).empty ∙ by_optional (table.optional s) g
 
       takes_is : machine.takes s x.terminal ≡ option_map (λ r. r.symbols) (find (rows s) x.terminal)

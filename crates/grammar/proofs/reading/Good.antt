@@ -2,7 +2,7 @@
 use Rattle.grammar.proofs.reading.Common.{◌≡◌, ℕ, ◌+◌, Bool, true, false, ◌&&◌, List, [], ◌∷◌, ◌++◌, Option, Some, None, ◌≤◌, ⊤, Terminal, Symbol, is_tail, Name, Lexeme, Word, lx, mark, AreForms, AreParts, IsForm, IsFormPart, IsPlaced, PlacedList, PlacedRow, form_list, form_row, form_tail, past, pattern_forms, scoped, type_forms, write_called, write_form, write_own, is_infix, is_operator, prec, need, right, AreAtoms, AreBranches, AreLevel, HasSome, IsAtom, IsLevel, IsOwn, IsPlacedTree, MayBeMarked, OperatorToken, PlacedBranches, PlacedCommas, PlacedTrees, ends_open, none, tight, write, write_op, write_others, write_row, write_tail, definition, element_tail, other_members, param_row, renamed, substitution, write_decls, write_element, write_file, write_path, AreLevelDecls, AreMembers, AreParams, IsOptionalDefinition, IsElement, IsLevelFile, IsNewProp, IsNewSymbol, IsSymbolName, PlacedDecls, PlacedDefinition, PlacedElement, PlacedFile, PlacedMembers, PlacedParams, PlacedRenamed, Scoped, NameRest, IsLowerName, Own, UpperRest, SyntaxTrees, args_rest, dots_rest, scopes_name, unscoped, Chain, Closing, Dotted, Minus, Paren, Headed, cast_to, closes_group, holds, link, named_operator, named_by, nothing, operand, stop, ReadingRow, Val, Vals, back, extend, front, blank, write_param, IsTypedParam, PlacedTyped, algebraic_tail, write_field}
 use Rattle.tokens_why.specs.declared.terminal.Terminal.TheVariants as t
 use Rattle.grammar.specs.declared.symbols.Symbol.TheVariants as s
-use Rattle.grammar.proofs.reading.TermsRight.{AreDots, IsArm, IsBound, IsBranch, IsCases, IsLet, IsNames, IsTerms, write_arm, write_bound, write_branch, write_cases, write_dots, write_let, write_names, write_terms_part}
+use Rattle.grammar.proofs.reading.TermsRight.{IsFormNext, IsFormRest, IsTreeNext, IsTreeRest, next_forms, next_trees, write_form_rest, write_tree_rest, AreDots, IsArm, IsBound, IsBranch, IsCases, IsLet, IsNames, IsTerms, write_arm, write_bound, write_branch, write_cases, write_dots, write_let, write_names, write_terms_part}
 use Rattle.grammar.proofs.reading.DeclsRight.{IsAlg, IsAxioms, IsBody, IsClausePart, IsClauses, IsCloned, IsCon, IsFields, IsMemberPart, IsPname, IsPparen, IsPropAt, IsQids, IsSubst, IsTvars, IsType, IsUpper, IsUsed, IsVars, value_open, write_alg, write_axioms, write_body, write_clause_part, write_clauses, write_cloned, write_con, write_fields, write_member_part, write_pname, write_pparen, write_qids, write_tvars, write_type, write_upper, write_used, write_vars, AreOthers, IsField, IsRecordNext, IsRecordRest, write_record_next, write_record_rest}
 
 infixr 5 ◌▸◌
@@ -97,6 +97,10 @@ writes s.Scoped d = own_dots d
 writes s.Qhead d = write_scoped d
 writes s.Applied r = write_applied r
 writes s.Dots cs = write_dots cs
+writes s.PatFields r = write_form_rest r
+writes s.PatField r = next_forms r.names r.forms r.semi
+writes s.ExprFields r = write_tree_rest r
+writes s.ExprField r = next_trees r.names r.trees r.semi
 writes s.Opname n = write_op n.op ∷ opend n.prefix
 writes s.Opend b = opend b
 writes s.Hparen p = write_paren p
@@ -248,6 +252,10 @@ Is s.Scoped i d = IsScoped d
 Is s.Qhead i d = IsOwn d.own
 Is s.Applied i r = IsApplied i r
 Is s.Dots i cs = AreDots i cs
+Is s.PatFields i r = IsFormRest i r.names r.forms
+Is s.PatField i r = IsFormNext i r.names r.forms r.semi
+Is s.ExprFields i r = IsTreeRest i r.names r.trees
+Is s.ExprField i r = IsTreeNext i r.names r.trees r.semi
 Is s.Opname i n = IsNamer i n.op
 Is s.Hparen i p = IsParen i p
 Is s.Aparen i p = IsParen i p × HasNoArgs p
@@ -329,7 +337,7 @@ Good b [] i xs vs = xs ≡ []
 Good b (s ∷ k) i xs vs = Piece (hushed b s) s (λ c j ys. Good c k j ys vs.1) i xs vs.0
 
 abbrev pub RowOk : (s : Symbol) → ReadingRow s → Type 0
-RowOk s r = (k : List Symbol) (i : ℕ) (w : Word) (xs : List Lexeme) (vs : Vals (r.behind k)) → Proper r.first w → Good false (r.behind k) (i + 1) xs vs → Good false (s ∷ k) i (lx r.first w ∷ xs) (r.act k i w vs)
+RowOk s r = (k : List Symbol) (i : ℕ) (w : Word) (xs : List Lexeme) (vs : Vals (r.following k)) → Proper r.first w → Good false (r.following k) (i + 1) xs vs → Good false (s ∷ k) i (lx r.first w ∷ xs) (r.act k i w vs)
 
 abbrev pub AllRows : (s : Symbol) → List (ReadingRow s) → Type 0
 AllRows s [] = ⊤

@@ -25,15 +25,15 @@ stands_within xs s i k vs b g = by_cases (below_or i (length xs))
     by_cases (inr h) = let e : with_blank s k None (at_end k) ≡ Some vs = sym (ap (λ o. with_blank s k o (at_end k)) b) ∙ sym (ap (λ v. read v i false (s ∷ k)) (from_end xs i h)) ∙ g in cc
 
 -- What the row of the first token reads.
-pub inverted : (s : Symbol) (x : Lexeme) (r : ReadingRow s) (xs : List Lexeme) (i : ℕ) (k : List Symbol) (vs : Val s × Vals k) → find (rows s) x.terminal ≡ Some r → read (x ∷ xs) i false (s ∷ k) ≡ Some vs → (us : Vals (r.behind k)) × (read xs (i + 1) false (r.behind k) ≡ Some us) × (r.act k i x.text us ≡ vs)
-inverted s x r xs i k vs e h = unmapped (λ us. r.act k i x.text us) (read xs (i + 1) false (r.behind k)) vs (subst (λ o. by_row s k (λ k'. read xs (i + 1) false k') i x.text o (with_blank s k (blank s) (values_over (λ k'. read xs (i + 1) false k') i x (is_seal s) k)) ≡ Some vs) e h)
+pub inverted : (s : Symbol) (x : Lexeme) (r : ReadingRow s) (xs : List Lexeme) (i : ℕ) (k : List Symbol) (vs : Val s × Vals k) → find (rows s) x.terminal ≡ Some r → read (x ∷ xs) i false (s ∷ k) ≡ Some vs → (us : Vals (r.following k)) × (read xs (i + 1) false (r.following k) ≡ Some us) × (r.act k i x.text us ≡ vs)
+inverted s x r xs i k vs e h = unmapped (λ us. r.act k i x.text us) (read xs (i + 1) false (r.following k)) vs (subst (λ o. by_row s k (λ k'. read xs (i + 1) false k') i x.text o (with_blank s k (blank s) (values_over (λ k'. read xs (i + 1) false k') i x (is_seal s) k)) ≡ Some vs) e h)
 
 -- the token that is first, and what the row that it begins reads
-pub first_row : (xs : List Lexeme) (i : ℕ) (s : Symbol) (r : ReadingRow s) (k : List Symbol) (vs : Val s × Vals k) → i < length xs → find (rows s) (terminal_at xs i) ≡ Some r → read (from xs i) i false (s ∷ k) ≡ Some vs → (us : Vals (r.behind k)) × (read (from xs (i + 1)) (i + 1) false (r.behind k) ≡ Some us) × (r.act k i (token_at xs i).text us ≡ vs)
+pub first_row : (xs : List Lexeme) (i : ℕ) (s : Symbol) (r : ReadingRow s) (k : List Symbol) (vs : Val s × Vals k) → i < length xs → find (rows s) (terminal_at xs i) ≡ Some r → read (from xs i) i false (s ∷ k) ≡ Some vs → (us : Vals (r.following k)) × (read (from xs (i + 1)) (i + 1) false (r.following k) ≡ Some us) × (r.act k i (token_at xs i).text us ≡ vs)
 first_row xs i s r k vs h e g = inverted s (token_at xs i) r (from xs (i + 1)) i k vs e (sym (ap (λ v. read v i false (s ∷ k)) (from_cons xs i h)) ∙ g)
 
 -- and the other way round
-pub by_first : (xs : List Lexeme) (i : ℕ) (s : Symbol) (r : ReadingRow s) (k : List Symbol) (us : Vals (r.behind k)) → i < length xs → find (rows s) (terminal_at xs i) ≡ Some r → read (from xs (i + 1)) (i + 1) false (r.behind k) ≡ Some us → read (from xs i) i false (s ∷ k) ≡ Some (r.act k i (token_at xs i).text us)
+pub by_first : (xs : List Lexeme) (i : ℕ) (s : Symbol) (r : ReadingRow s) (k : List Symbol) (us : Vals (r.following k)) → i < length xs → find (rows s) (terminal_at xs i) ≡ Some r → read (from xs (i + 1)) (i + 1) false (r.following k) ≡ Some us → read (from xs i) i false (s ∷ k) ≡ Some (r.act k i (token_at xs i).text us)
 by_first xs i s r k us h e g = rw (from_cons xs i h, e, g) refl
 
 -- What is read by the row of another rule is read by that rule.
@@ -92,7 +92,7 @@ pub split_due : (xs : List Lexeme) (i : ℕ) (s a : Symbol) (ss : List Symbol) (
 split_due xs i s a ss f own k vs b is n g = let h = stands_within xs s i k vs b g in split xs i s a ss f own k vs h is n (λ e. unread xs i s k vs h b e g) g
 
 -- the row of the token that is first
-pub row_at : (xs : List Lexeme) (i : ℕ) (s : Symbol) (r : ReadingRow s) (k : List Symbol) (vs : Val s × Vals k) → blank s ≡ None → find (rows s) (terminal_at xs i) ≡ Some r → read (from xs i) i false (s ∷ k) ≡ Some vs → (us : Vals (r.behind k)) × (read (from xs (i + 1)) (i + 1) false (r.behind k) ≡ Some us) × (r.act k i (token_at xs i).text us ≡ vs)
+pub row_at : (xs : List Lexeme) (i : ℕ) (s : Symbol) (r : ReadingRow s) (k : List Symbol) (vs : Val s × Vals k) → blank s ≡ None → find (rows s) (terminal_at xs i) ≡ Some r → read (from xs i) i false (s ∷ k) ≡ Some vs → (us : Vals (r.following k)) × (read (from xs (i + 1)) (i + 1) false (r.following k) ≡ Some us) × (r.act k i (token_at xs i).text us ≡ vs)
 row_at xs i s r k vs b e g = first_row xs i s r k vs (stands_within xs s i k vs b g) e g
 
 -- After what ends open only tails are silent.

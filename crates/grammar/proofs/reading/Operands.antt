@@ -1,9 +1,9 @@
 -- Operands: where they end, and what comes after them.
-use Rattle.grammar.proofs.reading.Common.{◌≡◌, ℕ, ◌+◌, ◌≤◌, Bool, true, false, nat_le, cond, List, [], ◌∷◌, ◌++◌, Some, None, refl, sym, ap, ◌∙◌, append_assoc, arith, Terminal, Symbol, terminal_number, prec, need, right, is_infix, is_tail, same, same_refl, no_false, At, Lexeme, Word, mark, name, SyntaxForm, IsForm, IsPlaced, Own, infix_op, lower, past, prefix_op, scoped, star, type_forms, upper, write_called, write_form, write_own, Called, IsPlainTerm, access, AreAtoms, Branches, IsLevel, IsPlacedTree, OperatorToken, SyntaxTree, SyntaxTrees, apply, binary, binding, branch, cases, cast, choice, ends_open, falsity, group, literal, more, negation, no_branch, none, op, prefixed, quantified, terms_tail, tight, truth, write, write_op, write_others, write_row, write_tail, Chain, attach, cast_to, first_token, joined_trees, stop, Vals, row, expr_own, rows, find, read}
+use Rattle.grammar.proofs.reading.Common.{◌≡◌, ℕ, ◌+◌, ◌≤◌, Bool, true, false, nat_le, cond, List, [], ◌∷◌, ◌++◌, Some, None, refl, sym, ap, ◌∙◌, append_assoc, arith, Terminal, Symbol, terminal_number, prec, need, right, is_infix, is_tail, same, same_refl, no_false, At, Lexeme, Word, mark, name, SyntaxForm, IsForm, IsPlaced, Own, infix_op, lower, past, prefix_op, scoped, star, type_forms, upper, write_called, write_form, write_own, Called, IsPlainTerm, access, fielded_tree, tree_fields_tail, AreAtoms, Branches, IsLevel, IsPlacedTree, OperatorToken, SyntaxTree, SyntaxTrees, apply, binary, binding, branch, cases, cast, choice, ends_open, falsity, group, literal, more, negation, no_branch, none, op, prefixed, quantified, terms_tail, tight, truth, write, write_op, write_others, write_row, write_tail, Chain, attach, cast_to, first_token, joined_trees, stop, Vals, row, expr_own, rows, find, read}
 use Rattle.tokens_why.specs.declared.terminal.Terminal.TheVariants as t
 use Rattle.grammar.specs.declared.symbols.Symbol.TheVariants as s
 use Rattle.grammar.proofs.reading.Reading.{Reads, extended, passed, past-append}
-use Rattle.grammar.proofs.reading.FormsRead.{reads_type}
+use Rattle.grammar.proofs.reading.FormsRead.{close_fields, reads_type}
 use Rattle.grammar.proofs.reading.Operators.{Follow, NoDot, Rest, RestBy, low_zero, need_more, ops_weaker, reach, reads_by, right_more, tail_stops}
 use Rattle.grammar.proofs.reading.TermRowsRead.{expr_extend}
 
@@ -20,6 +20,7 @@ first_placed (binary a e o f) i p = p.0
 first_placed (choice a c e f) i p = ap (λ v. v.first) p.0
 first_placed (cases a es bar bs) i p = ap (λ v. v.first) p.0
 first_placed (access a e c) i p = ap (λ v. v.first) p.0
+first_placed (fielded_tree a cs es semi) i p = ap (λ v. v.first) p.0
 first_placed (binding a ps e f) i p = ap (λ v. v.first) p.0
 first_placed (quantified a all bs g e) i p = ap (λ v. v.first) p.0
 
@@ -54,6 +55,7 @@ plain_dots (apply a c none) zs p l = by_scopes c.scopes c.own
 plain_dots (group a ts) zs p l = refl
 plain_dots (cast a e f) zs p l = refl
 plain_dots (cases a ts bar bs) zs p l = refl
+plain_dots (fielded_tree a cs es semi) zs p l = refl
 plain_dots (access a e c) zs p l = rw (append_assoc (write e) (mark t.Dot ∷ write_called c) zs) (plain_dots e ((mark t.Dot ∷ write_called c) ++ zs) l.0 l.1)
 plain_dots (apply a c (more e es)) zs p l = elim p [ ]
 plain_dots _ zs p l = elim p [ ]
@@ -81,6 +83,7 @@ row_dots (more (negation a e) es) ys l n = elim l.0 [ ]
 row_dots (more (binary a e o f) es) ys l n = elim l.0 [ ]
 row_dots (more (choice a c e f) es) ys l n = elim l.0 [ ]
 row_dots (more (cases a ts bar bs) es) ys l n = refl
+row_dots (more (fielded_tree a cs fs semi) es) ys l n = refl
 row_dots (more (access a e c) es) ys l n = rw (append_assoc (write e ++ (mark t.Dot ∷ write_called c)) (write_row es) ys) (plain_dots (access a e c) (write_row es ++ ys) tt l.1)
 row_dots (more (binding a ps e f) es) ys l n = elim l.0 [ ]
 row_dots (more (quantified a all bs g e) es) ys l n = elim l.0 [ ]
@@ -169,3 +172,13 @@ terms_follow none bars zs = record { args = refl; dots = refl; ops = λ i. absur
 terms_follow (more e es) [] zs = record { args = refl; dots = refl; ops = λ i. absurd (no_false i) }
 terms_follow (more e es) (true ∷ bs) zs = record { args = refl; dots = refl; ops = λ i. absurd (no_false i) }
 terms_follow (more e es) (false ∷ bs) zs = record { args = refl; dots = refl; ops = λ i. absurd (no_false i) }
+
+-- and after a field of a record
+pub fields_follow : (cs : List Called) (es : SyntaxTrees) (semi : Bool) (zs : List Lexeme) → Follow 0 ((tree_fields_tail cs es ++ close_fields semi) ++ zs)
+fields_follow [] none true zs = record { args = refl; dots = refl; ops = λ i. absurd (no_false i) }
+fields_follow [] none false zs = record { args = refl; dots = refl; ops = λ i. absurd (no_false i) }
+fields_follow [] (more e es) true zs = record { args = refl; dots = refl; ops = λ i. absurd (no_false i) }
+fields_follow [] (more e es) false zs = record { args = refl; dots = refl; ops = λ i. absurd (no_false i) }
+fields_follow (c ∷ cs) none true zs = record { args = refl; dots = refl; ops = λ i. absurd (no_false i) }
+fields_follow (c ∷ cs) none false zs = record { args = refl; dots = refl; ops = λ i. absurd (no_false i) }
+fields_follow (c ∷ cs) (more e es) semi zs = record { args = refl; dots = refl; ops = λ i. absurd (no_false i) }

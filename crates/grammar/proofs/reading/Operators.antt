@@ -11,7 +11,7 @@ pub le_false : (a b : ℕ) → b < a → nat_le a b ≡ false
 le_false a b h = grind (arith, nat_tests)
 
 -- A symbol's row takes a token.
-pub reads_by : (s : Symbol) (x : Lexeme) (r : ReadingRow s) (xs : List Lexeme) (i : ℕ) (k : List Symbol) (us : Vals (r.behind k)) → find (rows s) x.terminal ≡ Some r → Reads (r.behind k) xs (i + 1) us → Reads (s ∷ k) (x ∷ xs) i (r.act k i x.text us)
+pub reads_by : (s : Symbol) (x : Lexeme) (r : ReadingRow s) (xs : List Lexeme) (i : ℕ) (k : List Symbol) (us : Vals (r.following k)) → find (rows s) x.terminal ≡ Some r → Reads (r.following k) xs (i + 1) us → Reads (s ∷ k) (x ∷ xs) i (r.act k i x.text us)
 reads_by s x r xs i k us e h = rw (e, h) refl
 
 -- how operators bind

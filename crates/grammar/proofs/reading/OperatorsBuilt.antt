@@ -11,7 +11,7 @@ pub record TailPart (e : Bool) (m u i : ℕ) (c : Chain) (xs : List Lexeme) (nex
   pub others : List Lexeme
   pub chain : ChainBehind e m u i c
   pub writes : xs ≡ write_chain c ++ others
-  pub behind : next (e || chain_open c) (past i (write_chain c)) others
+  pub following : next (e || chain_open c) (past i (write_chain c)) others
 
 pub tail_part : (e : Bool) (m u i : ℕ) (c : Chain) (xs : List Lexeme) (next : Bool → ℕ → List Lexeme → Type 0) → Piece (hushed e (s.Tail m u)) (s.Tail m u) next i xs c → TailPart e m u i c xs next
 tail_part true m u i c xs next g = by_stop c (some_is g.0) g.1
@@ -20,9 +20,9 @@ tail_part true m u i c xs next g = by_stop c (some_is g.0) g.1
     some_is h = cc
 
     by_stop : (c : Chain) → c ≡ stop → next true i xs → TailPart true m u i c xs next
-    by_stop stop h g = record { others = xs; chain = refl; writes = refl; behind = g }
+    by_stop stop h g = record { others = xs; chain = refl; writes = refl; following = g }
     by_stop (link o f d) h g = cc
-tail_part false m u i c xs next (ys, p, w, g) = record { others = ys; chain = p; writes = w; behind = g }
+tail_part false m u i c xs next (ys, p, w, g) = record { others = ys; chain = p; writes = w; following = g }
 
 -- A tree with the operators after it.
 pub record Attached (m i : ℕ) (e : SyntaxTree) (c : Chain) : Type 0 where
@@ -56,7 +56,7 @@ attach_ok (link q f c) m u i e l p o v w h = by_open (ends_open f) refl h.8
 
 -- A tree with what comes after it is an expression.
 pub attach_good : (m i u : ℕ) (k : List Symbol) (e : SyntaxTree) (c : Chain) (xs ys : List Lexeme) (vs : Vals k) → IsLevel e → IsPlacedTree i e → u ≤ tight e → (m ≤ 8 → m ≤ tight e) → xs ≡ write e ++ ys → TailPart (ends_open e) m u (past i (write e)) c ys (λ d j zs. Good d k j zs vs) → Good false (s.Expr m ∷ k) i xs (attach e c, vs)
-attach_good m i u k e c xs ys vs l p v w x r = by_open (ends_open e) refl r.chain r.behind
+attach_good m i u k e c xs ys vs l p v w x r = by_open (ends_open e) refl r.chain r.following
   where
     by_open : (b : Bool) → ends_open e ≡ b → ChainBehind b m u (past i (write e)) c → Good (b || chain_open c) k (past (past i (write e)) (write_chain c)) r.others vs → Good false (s.Expr m ∷ k) i xs (attach e c, vs)
     by_open true o y g = subst (λ d. Good false (s.Expr m ∷ k) i xs (attach e d, vs)) (sym y)
@@ -103,7 +103,7 @@ link_ok m u o h t k i w xs vs p (ys, q, e, g) = let r = tail_part (ends_open vs.
   r.others,
   (h, marked o w p, le_of m (prec o) (and_left (nat_le m (prec o)) (nat_le (need o) u) t), le_of (need o) u (and_right (nat_le m (prec o)) (nat_le (need o) u) t), refl, q.0, q.1, q.2 (right_small o h), last (ends_open vs.0) r.chain),
   ap (λ v. lx o w ∷ v) (e ∙ ap (λ v. write vs.0 ++ v) r.writes ∙ sym (append_assoc (write vs.0) (write_chain vs.1.0) r.others)),
-  subst (λ b. Good b k (past i (lx o w ∷ (write vs.0 ++ write_chain vs.1.0))) r.others vs.1.1) (sym (opens (ends_open vs.0) refl r.chain)) (rw past-append r.behind),
+  subst (λ b. Good b k (past i (lx o w ∷ (write vs.0 ++ write_chain vs.1.0))) r.others vs.1.1) (sym (opens (ends_open vs.0) refl r.chain)) (rw past-append r.following),
 )
   where
     opens : (b : Bool) → ends_open vs.0 ≡ b → ChainBehind b m (prec o) (past (i + 1) (write vs.0)) vs.1.0 → chain_open (link (op i o w) vs.0 vs.1.0) ≡ (ends_open vs.0 || chain_open vs.1.0)

@@ -129,10 +129,10 @@ module _ (a : Symbol) (i : ℕ) (is placed : Val a → Type 0) (write : Val a �
   -- Tokens begin a tree's where the stack takes them, and nowhere else.
   pub taken_begins : (xs : List Lexeme) (j : List Symbol) → AllProper xs → run (a ∷ []) (terminals xs) ≡ Some j → Begins is write xs
   taken_begins xs j p h = let r = read_accepted (xs ++ samples (complete j)) (ap (accepts (a ∷ [])) (terminals_append xs (samples (complete j)) ∙ ap (λ v. terminals xs ++ v) (samples_terminals (complete j))) ∙ begun_completes (a ∷ []) j (terminals xs) w.safe h) in
-      record { tree = r.0; behind = samples (complete j); stand = samples_stand (complete j); of = (only_read (xs ++ samples (complete j)) r.0 (proper_samples xs (complete j) p) r.1).of }
+      record { tree = r.0; following = samples (complete j); stand = samples_stand (complete j); of = (only_read (xs ++ samples (complete j)) r.0 (proper_samples xs (complete j) p) r.1).of }
 
   pub begins_taken : (xs : List Lexeme) → Begins is write xs → (j : List Symbol) × (run (a ∷ []) (terminals xs) ≡ Some j)
-  begins_taken xs b = accepted_begins (a ∷ []) (terminals xs) (terminals b.behind) (ap (accepts (a ∷ [])) (sym (ap terminals b.of.tokens ∙ terminals_append xs b.behind)) ∙ tree_accepted b.tree b.of.right)
+  begins_taken xs b = accepted_begins (a ∷ []) (terminals xs) (terminals b.following) (ap (accepts (a ∷ [])) (sym (ap terminals b.of.tokens ∙ terminals_append xs b.following)) ∙ tree_accepted b.tree b.of.right)
 
   begins_not : (xs : List Lexeme) → run (a ∷ []) (terminals xs) ≡ None → Begins is write xs → ⊥
   begins_not xs h b = let u = begins_taken xs b in no_stack u.0 (sym h ∙ u.1)

@@ -1,5 +1,5 @@
 -- What is read as part of a declaration is right.
-use Rattle.grammar.proofs.reading.Common.{◌≡◌, ℕ, ◌+◌, Bool, true, false, List, [], ◌∷◌, ◌++◌, Option, Some, None, refl, sym, ap, ◌∙◌, subst, append_assoc, Name, Lexeme, Word, lx, mark, name, Called, form_list, form_row, form_tail, more_forms, no_forms, past, scoped, write_called, write_form, IsOwn, OperatorToken, bar_before, type_part, write, algebraic_tail, constructor_list, constructor_tail, other_members, param_row, variable_row, write_algebraic, write_member, write_param, AreAlgebraic, IsSymbolName, IsTypedParam, PlacedAlgebraics, PlacedMembers, PlacedTyped, own_op, AlgPart, FieldsPart, NamePart, ParamPart, UpperPart, name_before, behind_paren, fields_of, name_names, name_types, new_algebraic, new_constructor, new_member, param, param_names, param_types, prop_called, scope_of, upper_type, extend, tmore_rows, pname_args, rows, no_false, Algebraic, Constructor, ParamGroup, IsTypeBody, PlacedTypeBody, next_field, write_field, field_tail, semicolon_after, write_type_body}
+use Rattle.grammar.proofs.reading.Common.{◌≡◌, ℕ, ◌+◌, Bool, true, false, List, [], ◌∷◌, ◌++◌, Option, Some, None, refl, sym, ap, ◌∙◌, subst, append_assoc, Name, Lexeme, Word, lx, mark, name, Called, form_list, form_row, form_tail, more_forms, no_forms, past, scoped, write_called, write_form, IsOwn, OperatorToken, bar_before, type_part, write, algebraic_tail, constructor_list, constructor_tail, other_members, param_row, variable_row, write_algebraic, write_member, write_param, AreAlgebraic, IsSymbolName, IsTypedParam, PlacedAlgebraics, PlacedMembers, PlacedTyped, own_op, AlgPart, FieldsPart, NamePart, ParamPart, UpperPart, name_before, after_paren, fields_of, name_names, name_types, new_algebraic, new_constructor, new_member, param, param_names, param_types, prop_called, scope_of, upper_type, extend, tmore_rows, pname_args, rows, no_false, Algebraic, Constructor, ParamGroup, IsTypeBody, PlacedTypeBody, next_field, write_field, field_tail, semicolon_after, write_type_body}
 use Rattle.tokens_why.specs.declared.terminal.Terminal.TheVariants as t
 use Rattle.grammar.specs.declared.symbols.Symbol.TheVariants as s
 use Rattle.grammar.proofs.reading.Reading.{past-append}
@@ -150,7 +150,7 @@ pub params_ok : AllRows s.Params (rows s.Params)
 params_ok = extend_ok s.Params s.Param (s.Params ∷ []) (λ v vs. v ∷ vs.0) (rows s.Param)
     (λ k i xs v vs (ys, m, e, (zs, n, d, g)). (zs, ((m.0, n.0), (m.1, n.1)), two_tokens (write_param v) (param_row vs.0) xs ys zs e d, subst (λ j. Good false k j zs vs.1) (sym (past-append (write_param v) (param_row vs.0) i)) g)) param_ok
 
-pub paren_is : (i : ℕ) (w : Word) (q : NamePart) → IsPname (i + 1) q → IsPparen i (behind_paren i w q) × (write_pparen (behind_paren i w q) ≡ lx t.Lident w ∷ write_pname q)
+pub paren_is : (i : ℕ) (w : Word) (q : NamePart) → IsPname (i + 1) q → IsPparen i (after_paren i w q) × (write_pparen (after_paren i w q) ≡ lx t.Lident w ∷ write_pname q)
 paren_is i w (name_names ns f) h = ((tt, (refl, h.0), h.1), refl)
 paren_is i w (name_types ts fs) h = ((((tt, h.0), h.2.0), ((refl, refl, h.1), h.2.1)), ap (λ v. lx t.Lident w ∷ v) (append_assoc (form_row ts) (form_tail fs) (mark t.RParen ∷ [])))
 

@@ -1,5 +1,5 @@
 -- The tokens of names, parameters, constructors and links are read as them.
-use Rattle.grammar.proofs.reading.Common.{◌≡◌, ℕ, ◌+◌, Bool, true, false, cond, List, [], ◌∷◌, ◌++◌, Option, Some, None, option_map, refl, sym, ap, subst, append_assoc, append-nil, same, same_true, Terminal, Symbol, Name, Lexeme, Word, at, lx, mark, name, Called, SyntaxForm, SyntaxForms, IsForm, IsHead, IsPlaced, Own, aliased, called, composed, enclosed, form_list, infix_op, lower, more_forms, no_forms, past, prefix_op, scoped, star, type_variable, type_forms, upper, variable, wild, write_called, write_form, write_own, HasSome, PlacedNames, bar_before, name_row, Algebraic, Constructor, ParamGroup, algebraic_tail, constructor_list, constructor_tail, param_row, path_from, renamed, typed_names, variable_row, write_param, AreAlgebraic, AreConstructors, AreParams, IsNewProp, IsNewSymbol, IsProp, IsSymbolName, IsTypedParam, PlacedAlgebraics, PlacedConstructors, PlacedParams, PlacedRenamed, PlacedTyped, ConPart, NamePart, behind_paren, lone, name_names, name_types, param_types, ReadingRow, Vals, row, opname_row, fields_own, pparen_own, qop_own, rows, find, read, with_blank, no_false, IsOneName, AreFields, IsTypeBody, PlacedFields, PlacedTypeBody, record_field, next_field, record_next_own, write_field, field_tail, semicolon_after, write_type_body, ◌∙◌}
+use Rattle.grammar.proofs.reading.Common.{◌≡◌, ℕ, ◌+◌, Bool, true, false, cond, List, [], ◌∷◌, ◌++◌, Option, Some, None, option_map, refl, sym, ap, subst, append_assoc, append-nil, same, same_true, Terminal, Symbol, Name, Lexeme, Word, at, lx, mark, name, Called, SyntaxForm, SyntaxForms, IsForm, IsHead, IsPlaced, Own, aliased, called, composed, enclosed, fielded_form, form_list, infix_op, lower, more_forms, no_forms, past, prefix_op, scoped, star, type_variable, type_forms, upper, variable, wild, write_called, write_form, write_own, HasSome, PlacedNames, bar_before, name_row, Algebraic, Constructor, ParamGroup, algebraic_tail, constructor_list, constructor_tail, param_row, path_from, renamed, typed_names, variable_row, write_param, AreAlgebraic, AreConstructors, AreParams, IsNewProp, IsNewSymbol, IsProp, IsSymbolName, IsTypedParam, PlacedAlgebraics, PlacedConstructors, PlacedParams, PlacedRenamed, PlacedTyped, ConPart, NamePart, after_paren, lone, name_names, name_types, param_types, ReadingRow, Vals, row, opname_row, fields_own, pparen_own, qop_own, rows, find, read, with_blank, no_false, IsOneName, AreFields, IsTypeBody, PlacedFields, PlacedTypeBody, record_field, next_field, record_next_own, write_field, field_tail, semicolon_after, write_type_body, ◌∙◌}
 use Rattle.tokens_why.specs.declared.terminal.Terminal.TheVariants as t
 use Rattle.grammar.specs.declared.symbols.Symbol.TheVariants as s
 use Rattle.grammar.proofs.reading.Reading.{Extends, Reads, Stops, extended, extended_at, passed, past-append, unmapped}
@@ -84,7 +84,7 @@ pparen_types (x ∷ xs) i k vs h = by_lident (same t.Lident x.terminal) refl
 
     by_lident : (b : Bool) → same t.Lident x.terminal ≡ b → Reads (s.Pparen ∷ k) (x ∷ xs) i (param_types vs.0, vs.1)
     by_lident true e = subst (λ y. Reads (s.Pparen ∷ k) (lx y x.text ∷ xs) i (param_types vs.0, vs.1)) (same_true t.Lident x.terminal e) (by_name x.text (subst (λ y. Reads (s.Ttuple ∷ k) (lx y x.text ∷ xs) i vs) (sym (same_true t.Lident x.terminal e)) h))
-    by_lident false e = extended_at s.Pparen s.Ttuple [] (λ v vs. param_types v) pparen_own refl refl (x ∷ xs) (λ r g. ap (λ b. cond b (Some (row s.Pparen t.Lident (s.Pname ∷ []) (λ i w vs. behind_paren i w vs.0))) None) e) i k vs.0 vs.1 h
+    by_lident false e = extended_at s.Pparen s.Ttuple [] (λ v vs. param_types v) pparen_own refl refl (x ∷ xs) (λ r g. ap (λ b. cond b (Some (row s.Pparen t.Lident (s.Pname ∷ []) (λ i w vs. after_paren i w vs.0))) None) e) i k vs.0 vs.1 h
 
 -- parameters
 pub pname_names : (ns : List Name) (f : SyntaxForm) (zs : List Lexeme) (i : ℕ) (k : List Symbol) (vs : Vals k) → PlacedNames i ns → IsForm type_forms f → IsPlaced (past i (name_row ns) + 1) f → Reads k zs (past (past i (name_row ns) + 1) (write_form f ++ (mark t.RParen ∷ []))) vs → Reads (s.Pname ∷ k) (name_row ns ++ (mark t.Colon ∷ ((write_form f ++ (mark t.RParen ∷ [])) ++ zs))) i (name_names ns f, vs)
@@ -105,6 +105,7 @@ reads_param [] (enclosed a ts) zs i k vs l p h = rw (p.0, pparen_types ((form_li
 reads_param [] (wild a) zs i k vs l p h = elim l.1 [ ]
 reads_param [] (variable a m) zs i k vs l p h = elim l.1 [ ]
 reads_param [] (aliased a f m) zs i k vs l p h = elim l.0 [ ]
+reads_param [] (fielded_form a cs ps semi) zs i k vs l p h = elim l.1.0 [ ]
 
 params_extend : Extends s.Params s.Param (s.Params ∷ []) (λ v vs. v ∷ vs.0) []
 params_extend = record { is = refl; due = refl; apart = λ x r h. refl }

@@ -61,7 +61,7 @@ extended_at s a ss f own is due (x ∷ xs) apart i k v vs h = by_found (find (ro
   where
     by_found : (o : Option (ReadingRow a)) → find (rows a) x.terminal ≡ o → by_row a (ss ++ k) (λ k'. read xs (i + 1) false k') i x.text o (with_blank a (ss ++ k) (blank a) (values_over (λ k'. read xs (i + 1) false k') i x (is_seal a) (ss ++ k))) ≡ Some (v, vs) → Reads (s ∷ k) (x ∷ xs) i (f v (front ss k vs), back ss k vs)
     by_found (Some r) e g = ap (λ o. by_row s k (λ k'. read xs (i + 1) false k') i x.text o (with_blank s k (blank s) (values_over (λ k'. read xs (i + 1) false k') i x (is_seal s) k))) (ap (λ rs. find rs x.terminal) is ∙ find_apart own (extend s a ss f (rows a)) x.terminal (apart r e) ∙ find_extend s a ss f (rows a) x.terminal ∙ ap (option_map (then_row s a ss f)) e)
-        ∙ fused (λ u. (f u.0 (front ss k u.1), back ss k u.1)) (λ u. r.act (ss ++ k) i x.text u) (read xs (i + 1) false (r.behind (ss ++ k)))
+        ∙ fused (λ u. (f u.0 (front ss k u.1), back ss k u.1)) (λ u. r.act (ss ++ k) i x.text u) (read xs (i + 1) false (r.following (ss ++ k)))
         ∙ ap (option_map (λ u. (f u.0 (front ss k u.1), back ss k u.1))) g
     by_found None e g = let q : with_blank a (ss ++ k) None (values_over (λ k'. read xs (i + 1) false k') i x (is_seal a) (ss ++ k)) ≡ Some (v, vs) = subst (λ o. with_blank a (ss ++ k) o (values_over (λ k'. read xs (i + 1) false k') i x (is_seal a) (ss ++ k)) ≡ Some (v, vs)) due g in cc
 
@@ -92,7 +92,7 @@ extended_over s a f own v0 is ba bs la ls xs n i k v vs h = by_tokens xs n h
     by_found x xs n o e g = ap (λ o. by_row s k (λ k'. read xs (i + 1) false k') i x.text o (with_blank s k (blank s) (values_over (λ k'. read xs (i + 1) false k') i x (is_seal s) k))) (ap (λ rs. find rs x.terminal) is ∙ find_apart own (extend s a [] (λ v vs. f v) (rows a)) x.terminal n ∙ find_extend s a [] (λ v vs. f v) (rows a) x.terminal ∙ ap (option_map (then_row s a [] (λ v vs. f v))) e) ∙ over o g
       where
         over : (o : Option (ReadingRow a)) → by_row a k (λ k'. read xs (i + 1) false k') i x.text o (with_blank a k (blank a) (values_over (λ k'. read xs (i + 1) false k') i x (is_seal a) k)) ≡ Some (v, vs) → by_row s k (λ k'. read xs (i + 1) false k') i x.text (option_map (then_row s a [] (λ v vs. f v)) o) (with_blank s k (blank s) (values_over (λ k'. read xs (i + 1) false k') i x (is_seal s) k)) ≡ Some (f v, vs)
-        over (Some r) g = fused {C = Val s × Vals k} (λ u. (f u.0, u.1)) (λ u. r.act k i x.text u) (read xs (i + 1) false (r.behind k)) ∙ ap (option_map {U = Val s × Vals k} (λ u. (f u.0, u.1))) g
+        over (Some r) g = fused {C = Val s × Vals k} (λ u. (f u.0, u.1)) (λ u. r.act k i x.text u) (read xs (i + 1) false (r.following k)) ∙ ap (option_map {U = Val s × Vals k} (λ u. (f u.0, u.1))) g
         over None g = ap (λ b. with_blank s k (blank s) (values_over (λ k'. read xs (i + 1) false k') i x b k)) ls ∙ blanks (values_over (λ k'. read xs (i + 1) false k') i x false k) (sym (ap (λ b. with_blank a k (blank a) (values_over (λ k'. read xs (i + 1) false k') i x b k)) la) ∙ g)
 
     by_tokens : (xs : List Lexeme) → NoneAt own xs → Reads (a ∷ k) xs i (v, vs) → Reads (s ∷ k) xs i (f v, vs)

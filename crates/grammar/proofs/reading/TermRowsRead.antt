@@ -1,9 +1,9 @@
 -- Rows of terms: names, what is in parentheses, and prefix operators.
-use Rattle.grammar.proofs.reading.Common.{◌≡◌, ℕ, ◌+◌, ◌∙◌, Bool, true, false, nat_le, cond, option_map, append_assoc, sym, subst, ⊤, List, [], ◌∷◌, ◌++◌, Some, None, refl, ap, Terminal, Symbol, no_false, Lexeme, Word, at, lx, mark, Own, called, infix_op, lower, more_forms, past, prefix_op, scoped, star, upper, write_own, is_operator, is_prefix, IsOwn, Called, write_called, IsLowerName, SyntaxTree, SyntaxTrees, apply, binding, cases, choice, group, more, negation, none, op, quantified, quantifier, CasesPart, NameRest, accessed, with_rest, args_rest, closed_group, dots_rest, scopes_name, lower_called, unscoped, Closing, attach, binder_with, holds, named_operator, operand, ReadingRow, Vals, applied_own, head_rest_own, extend, row, aminus_own, aop_row, aparen_own, expr_own, expr_rows, hminus_own, hop_row, hparen_own, opname_row, opname_rows, prefix_row, prim_rows, rows, find, read}
+use Rattle.grammar.proofs.reading.Common.{◌≡◌, ℕ, ◌+◌, ◌∙◌, Bool, true, false, nat_le, cond, option_map, append_assoc, sym, subst, ⊤, List, [], ◌∷◌, ◌++◌, Some, None, refl, ap, Terminal, Symbol, Name, Dotted, TreeFields, next_field_tree, record_tree, no_false, Lexeme, Word, at, lx, mark, Own, called, infix_op, lower, more_forms, past, prefix_op, scoped, star, upper, write_own, is_operator, is_prefix, IsOwn, Called, write_called, IsLowerName, SyntaxTree, SyntaxTrees, apply, binding, cases, choice, group, more, negation, none, op, quantified, quantifier, CasesPart, NameRest, accessed, with_rest, args_rest, closed_group, dots_rest, scopes_name, lower_called, unscoped, Closing, attach, binder_with, holds, named_operator, operand, ReadingRow, Vals, applied_own, head_rest_own, extend, row, aminus_own, aop_row, aparen_own, expr_own, expr_rows, hminus_own, hop_row, hparen_own, opname_row, opname_rows, prefix_row, prim_rows, rows, find, read}
 use Rattle.tokens_why.specs.declared.terminal.Terminal.TheVariants as t
 use Rattle.grammar.specs.declared.symbols.Symbol.TheVariants as s
 use Rattle.grammar.proofs.reading.Reading.{Extends, NoneAt, Reads, Stops, extended, extended_at, extended_over, fused, passed, past-append, unmapped}
-use Rattle.grammar.proofs.reading.FormsRead.{reads_qlid}
+use Rattle.grammar.proofs.reading.FormsRead.{lower_is, lower_tokens, reads_qlid}
 use Rattle.grammar.proofs.reading.TermsRight.{AreDots, write_dots}
 use Rattle.grammar.proofs.reading.Operators.{NoDot, reads_by}
 
@@ -321,3 +321,19 @@ reads_nothing false cs xs i k vs h = rw h refl
 pub reads_match : (b : Bool) (e : SyntaxTree) (c : CasesPart) (cs : List Called) (xs : List Lexeme) (i : ℕ) (k : List Symbol) (vs : Vals k) → Reads (s.Expr 0 ∷ s.Scrutinees ∷ s.Dots ∷ k) xs (i + 1) (e, (c, (cs, vs))) → TopReads b k (mark t.MatchWord ∷ xs) i (accessed i (cases (at i) (more e c.others) c.bar c.branches) cs) vs
 reads_match true e c cs xs i k vs h = rw h refl
 reads_match false e c cs xs i k vs h = rw h refl
+
+pub reads_record : (b : Bool) (d : Dotted) (m : Name) (e : SyntaxTree) (r : TreeFields) (cs : List Called) (xs : List Lexeme) (i : ℕ) (k : List Symbol) (vs : Vals k) → Reads (s.Qlid ∷ s.Take t.Equal ∷ s.Expr 0 ∷ s.ExprFields ∷ s.Dots ∷ k) xs (i + 1) (d, (m, (e, (r, (cs, vs))))) → TopReads b k (mark t.LBrace ∷ xs) i (accessed i (record_tree i (lower_called (i + 1) d) e r) cs) vs
+reads_record true d m e r cs xs i k vs h = rw h refl
+reads_record false d m e r cs xs i k vs h = rw h refl
+
+-- a field after others
+next_tree_field : (qs : List Word) (w : Word) (e : SyntaxTree) (r : TreeFields) (zs : List Lexeme) (i : ℕ) (k : List Symbol) (m : Name) (vs : Vals k) → Reads (s.Take t.Equal ∷ s.Expr 0 ∷ s.ExprFields ∷ k) zs (past i (scoped qs ++ (lx t.Lident w ∷ []))) (m, (e, (r, vs))) → Reads (s.ExprField ∷ k) ((scoped qs ++ (lx t.Lident w ∷ [])) ++ zs) i (next_field_tree (called i qs (lower w)) e r, vs)
+next_tree_field [] w e r zs i k m vs h = rw h refl
+next_tree_field (q ∷ qs) w e r zs i k m vs h = rw (reads_qlid qs w zs (i + 1 + 1) (s.Take t.Equal ∷ s.Expr 0 ∷ s.ExprFields ∷ k) (m, (e, (r, vs))) h) refl
+
+pub other_tree_field : (c : Called) (e : SyntaxTree) (r : TreeFields) (zs : List Lexeme) (i : ℕ) (k : List Symbol) (m : Name) (vs : Vals k) → IsLowerName c.own → c.at ≡ i → Reads (s.Take t.Equal ∷ s.Expr 0 ∷ s.ExprFields ∷ k) zs (past i (write_called c)) (m, (e, (r, vs))) → Reads (s.ExprField ∷ k) (write_called c ++ zs) i (next_field_tree c e r, vs)
+other_tree_field c e r zs i k m vs l q h = by_own c.own refl l
+  where
+    by_own : (o : Own) → c.own ≡ o → IsLowerName o → Reads (s.ExprField ∷ k) (write_called c ++ zs) i (next_field_tree c e r, vs)
+    by_own (lower w) n l = subst (λ d. Reads (s.ExprField ∷ k) (write_called c ++ zs) i (next_field_tree d e r, vs)) (lower_is i c w q n) (subst (λ v. Reads (s.ExprField ∷ k) (v ++ zs) i (next_field_tree (called i c.scopes (lower w)) e r, vs)) (sym (lower_tokens c w n)) (next_tree_field c.scopes w e r zs i k m vs (subst (λ v. Reads (s.Take t.Equal ∷ s.Expr 0 ∷ s.ExprFields ∷ k) zs (past i v) (m, (e, (r, vs)))) (lower_tokens c w n) h)))
+    by_own _ n l = elim l [ ]

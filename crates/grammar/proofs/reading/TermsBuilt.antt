@@ -1,11 +1,12 @@
 -- What is read as a term is right.
-use Rattle.grammar.proofs.reading.Common.{◌≡◌, ℕ, ◌+◌, Bool, true, false, cond, List, [], ◌∷◌, ◌++◌, Option, Some, None, refl, sym, ap, ◌∙◌, subst, append_assoc, append-nil, nat_le, arith, Terminal, Symbol, and_left, and_right, Lexeme, Word, at, lx, mark, past, write_called, write_form, write_own, is_infix, is_operator, is_prefix, AreAtoms, AreLevel, IsAtom, IsLevel, IsOwn, IsPlainTerm, NameRest, Called, CasesPart, Dotted, Scoped, scope_own, UpperRest, access, accessed, with_rest, apply, args_rest, args_rows, called, cases, cast, dots_rest, group, headed_tree, scopes_name, lower, no_false, scoped, unscoped, IsPlacedTree, MayBeMarked, OperatorToken, PlacedCommas, PlacedTrees, SyntaxTree, SyntaxTrees, ends_open, more, none, op, prefixed, tight, write, write_op, write_row, write_tail, Chain, Closing, Minus, Paren, attach, behind_minus, cast_to, closes_group, holds, dotted_name, named_operator, named_by, nothing, operand, own_op, paren, upper_head, ReadingRow, Vals, extend, aminus_own, aminus_row, aop_row, aparen_own, atom_rows, expr_own, expr_rows, hminus_own, hminus_row, hop_row, hparen_own, link_row, not_rows, open_rows, opname_row, prefix_row, prim_rows, tail_rows, takes_op, rows, all_infix}
+use Rattle.grammar.proofs.reading.Common.{◌≡◌, ℕ, ◌+◌, Bool, true, false, cond, List, [], ◌∷◌, ◌++◌, Option, Some, None, refl, sym, ap, ◌∙◌, subst, append_assoc, append-nil, nat_le, arith, Terminal, Symbol, and_left, and_right, Lexeme, Word, at, lx, mark, past, write_called, write_form, write_own, is_infix, is_operator, is_prefix, AreAtoms, AreLevel, IsAtom, IsLevel, IsOwn, IsPlainTerm, IsLowerName, fielded_tree, tree_fields, tree_fields_tail, record_tree, lower_called, TreeFields, NameRest, Called, CasesPart, Dotted, Scoped, scope_own, UpperRest, access, accessed, with_rest, apply, args_rest, args_rows, called, cases, cast, dots_rest, group, headed_tree, scopes_name, lower, no_false, scoped, unscoped, IsPlacedTree, MayBeMarked, OperatorToken, PlacedCommas, PlacedTrees, SyntaxTree, SyntaxTrees, ends_open, more, none, op, prefixed, tight, write, write_op, write_row, write_tail, Chain, Closing, Minus, Paren, attach, after_minus, cast_to, closes_group, holds, dotted_name, named_operator, named_by, nothing, operand, own_op, paren, upper_head, ReadingRow, Vals, extend, aminus_own, aminus_row, aop_row, aparen_own, atom_rows, expr_own, expr_rows, hminus_own, hminus_row, hop_row, hparen_own, link_row, not_rows, open_rows, opname_row, prefix_row, prim_rows, tail_rows, takes_op, rows, all_infix}
 use Rattle.tokens_why.specs.declared.terminal.Terminal.TheVariants as t
 use Rattle.grammar.specs.declared.symbols.Symbol.TheVariants as s
 use Rattle.grammar.proofs.reading.Reading.{past-append}
-use Rattle.grammar.proofs.reading.FormsRead.{regroup}
+use Rattle.grammar.proofs.reading.FormsRead.{close_fields, field_past, regroup}
+use Rattle.grammar.proofs.reading.FormsBuilt.{field_written}
 use Rattle.grammar.proofs.reading.Good.{◌▸◌, AllRows, ChainBehind, Good, HasNoArgs, HasNoneBy, IsApplied, IsClosing, IsHeaded, IsMinus, IsParen, IsRest, IsHeadRest, RowOk, extend_ok, opend, write_applied, write_chain, write_closing, write_head_rest, write_minus, write_paren, write_headed, write_scoped, own_dots, IsScoped}
-use Rattle.grammar.proofs.reading.TermsRight.{AreDots, IsCases, write_branch, write_cases, write_dots}
+use Rattle.grammar.proofs.reading.TermsRight.{IsTreeNext, IsTreeRest, next_trees, write_tree_rest, AreDots, IsCases, write_branch, write_cases, write_dots}
 use Rattle.grammar.proofs.reading.OperatorsBuilt.{TailPart, attach_good, attach_ok, le_of, link_ok, marked, not_ok, prefix_ok, tail_part}
 use Rattle.grammar.proofs.reading.OpenBuilt.{cases_past, cases_tokens, open_ok, opens_expr}
 
@@ -53,6 +54,7 @@ dots_ok b [] i e q l p h = record { level = l; placed = p; primary = (plain_is e
     plain_is (cast a e f) q = (refl, refl, tt)
     plain_is (cases a es bar bs) q = (refl, refl, tt)
     plain_is (access a e c) q = (refl, refl, tt)
+    plain_is (fielded_tree a cs es semi) q = (refl, refl, tt)
     plain_is (apply a c (more e es)) q = elim q [ ]
     plain_is _ q = elim q [ ]
 dots_ok b (c ∷ cs) i e q l p h = let r = dots_ok b cs i (access (at i) e c) tt (q, l, h.1) (refl, p, h.0) (rw past-append h.2) in
@@ -93,6 +95,38 @@ write_match e c = (write e ++ write_tail c.others) ++ (mark t.WithWord ∷ write
 match_ok : (b : Bool) (i : ℕ) (e : SyntaxTree) (c : CasesPart) (cs : List Called) → IsLevel e → IsPlacedTree (i + 1) e → IsCases (past (i + 1) (write e)) c → AreDots (past (past (i + 1) (write e)) (write_cases c)) cs → Primary b i (accessed i (cases (at i) (more e c.others) c.bar c.branches) cs) (mark t.MatchWord ∷ (write_match e c ++ write_dots cs))
 match_ok b i e c cs l p h d = dots_ok b cs i (cases (at i) (more e c.others) c.bar c.branches) tt (tt, (l, h.0), h.2.0, h.2.1) (refl, (p, h.1), rw past-append h.2.2) (subst (λ n. AreDots n cs) (cases_past e c (i + 1)) d)
 
+-- the tokens of a record after its brace
+abbrev write_braced : Called → SyntaxTree → TreeFields → List Lexeme
+write_braced c e r = tree_fields (c ∷ r.names) (more e r.trees) ++ close_fields r.semi
+
+-- A record is one.
+record_ok : (b : Bool) (i : ℕ) (c : Called) (e : SyntaxTree) (r : TreeFields) (cs : List Called) → c.at ≡ i + 1 → IsLowerName c.own → IsLevel e → IsPlacedTree (past (i + 1) (write_called c) + 1) e → IsTreeRest (past (past (i + 1) (write_called c) + 1) (write e)) r.names r.trees → AreDots (past (past (past (i + 1) (write_called c) + 1) (write e)) (write_tree_rest r)) cs → Primary b i (accessed i (record_tree i c e r) cs) (mark t.LBrace ∷ (write_braced c e r ++ write_dots cs))
+record_ok b i c e r cs a o l p h d = dots_ok b cs i (record_tree i c e r) tt (tt, (o, h.0), (l, h.1)) (refl, (a, p, h.2)) (subst (λ n. AreDots n cs) (sym (field_past (write_called c) (write e) (tree_fields_tail r.names r.trees) (close_fields r.semi) (i + 1))) d)
+
+record_tokens : (c : Called) (e : SyntaxTree) (r : TreeFields) (cs : List Called) (w : Word) (xs ys zs us ws ts : List Lexeme) → xs ≡ write_called c ++ ys → w ≡ [] → ys ≡ lx t.Equal w ∷ zs → zs ≡ write e ++ us → us ≡ write_tree_rest r ++ ws → ws ≡ write_dots cs ++ ts → xs ≡ (write_braced c e r ++ write_dots cs) ++ ts
+record_tokens c e r cs w xs ys zs us ws ts x m y z u v = x ∙ field_written (write_called c) (write e) (tree_fields_tail r.names r.trees) (close_fields r.semi) ys zs us (write_dots cs ++ ts) w m y z (u ∙ ap (λ q. write_tree_rest r ++ q) v) ∙ sym (append_assoc (write_braced c e r) (write_dots cs) ts)
+
+record_past : (c : Called) (e : SyntaxTree) (r : TreeFields) (cs : List Called) (i : ℕ) → past i (write_braced c e r ++ write_dots cs) ≡ past (past (past (past i (write_called c) + 1) (write e)) (write_tree_rest r)) (write_dots cs)
+record_past c e r cs i = past-append (write_braced c e r) (write_dots cs) i ∙ ap (λ n. past n (write_dots cs)) (field_past (write_called c) (write e) (tree_fields_tail r.names r.trees) (close_fields r.semi) i)
+
+tree_next : (i : ℕ) (cs : List Called) (es : SyntaxTrees) (semi : Bool) → IsTreeNext (i + 1) cs es semi → IsTreeRest i cs es × (tree_fields_tail cs es ++ close_fields semi ≡ mark t.Semi ∷ next_trees cs es semi)
+tree_next i [] none true h = ((tt, tt, tt), refl)
+tree_next i [] none false h = absurd (no_false h.1)
+tree_next i [] (more e es) semi h = cc
+tree_next i (c ∷ cs) none semi h = absurd h.0
+tree_next i (c ∷ cs) (more e es) semi h = (h, refl)
+
+pub expr_fields_ok : AllRows s.ExprFields (rows s.ExprFields)
+expr_fields_ok = (λ k i w xs vs p g. (xs, (tt, tt, tt), ap (λ v. lx t.RBrace v ∷ xs) p, g))
+    ▸ (λ k i w xs vs p (ys, m, e, g). (let r = tree_next i vs.0.names vs.0.trees vs.0.semi m in (ys, r.0, ap (λ v. lx t.Semi v ∷ xs) p ∙ ap (λ v. mark t.Semi ∷ v) e ∙ ap (λ v. v ++ ys) (sym r.1), subst (λ v. Good false k (past i v) ys vs.1) (sym r.1) g)))
+    ▸ tt
+
+pub expr_field_ok : AllRows s.ExprField (rows s.ExprField)
+expr_field_ok = (λ k i w xs vs p g. (xs, (refl, refl), ap (λ v. lx t.RBrace v ∷ xs) p, g))
+    ▸ (λ k i w xs vs p (ys, m, e, (zs, n, d, (us, q, c, g))). (us, ((tt, q.0), (n.0, q.1), (refl, n.1, q.2)), field_written (lx t.Lident w ∷ []) (write vs.1.0) (tree_fields_tail vs.1.1.0.names vs.1.1.0.trees) (close_fields vs.1.1.0.semi) xs ys zs us vs.0.text m.1 e d c, subst (λ j. Good false k j us vs.1.1.1) (sym (field_past (lx t.Lident w ∷ []) (write vs.1.0) (tree_fields_tail vs.1.1.0.names vs.1.1.0.trees) (close_fields vs.1.1.0.semi) i)) g))
+    ▸ (λ k i w xs vs p (ys, m, e, (zs, n, d, (us, q, c, (ws, o, b, (ts, r, f, g))))). (ts, ((tt, r.0), (o.0, r.1), (refl, o.1, r.2)), ap (λ v. lx t.Uident w ∷ v) (e ∙ ap (λ v. lx t.Dot v ∷ ys) m.1 ∙ ap (λ v. mark t.Dot ∷ v) d) ∙ field_written (write_called (called i (w ∷ vs.1.0.scopes) (lower vs.1.0.last))) (write vs.1.1.1.0) (tree_fields_tail vs.1.1.1.1.0.names vs.1.1.1.1.0.trees) (close_fields vs.1.1.1.1.0.semi) zs us ws ts vs.1.1.0.text q.1 c b f, subst (λ j. Good false k j ts vs.1.1.1.1.1) (sym (field_past (write_called (called i (w ∷ vs.1.0.scopes) (lower vs.1.0.last))) (write vs.1.1.1.0) (tree_fields_tail vs.1.1.1.1.0.names vs.1.1.1.1.0.trees) (close_fields vs.1.1.1.1.0.semi) i)) g))
+    ▸ tt
+
 -- It is what a rule of applications reads, or one of arguments.
 prim_by : (k : List Symbol) (i : ℕ) (e : SyntaxTree) (zs xs ys : List Lexeme) (vs : Vals k) → Primary true i e xs → zs ≡ xs ++ ys → Good false k (past i xs) ys vs → Good false (s.Prim ∷ k) i zs (e, vs)
 prim_by k i e zs xs ys vs r x g = (ys, (r.level, r.placed, r.primary, r.shut), x ∙ ap (λ v. v ++ ys) (sym r.writes), subst (λ v. Good false k (past i v) ys vs) (sym r.writes) g)
@@ -115,6 +149,7 @@ prim_ok = (λ k i w xs vs p (ys, q, e, g). prim_by k i (with_rest i (called i []
     ▸ (λ k i w xs vs p g. (xs, (tt, refl, refl, refl), ap (λ v. lx t.TrueWord v ∷ xs) p, g))
     ▸ (λ k i w xs vs p g. (xs, (tt, refl, refl, refl), ap (λ v. lx t.FalseWord v ∷ xs) p, g))
     ▸ (λ k i w xs vs p (ys, q, e, (zs, n, d, (ws, m, c, g))). prim_by k i (accessed i (cases (at i) (more vs.0 vs.1.0.others) vs.1.0.bar vs.1.0.branches) vs.1.1.0) (lx t.MatchWord w ∷ xs) (mark t.MatchWord ∷ (write_match vs.0 vs.1.0 ++ write_dots vs.1.1.0)) ws vs.1.1.1 (match_ok true i vs.0 vs.1.0 vs.1.1.0 q.0 q.1 n m) (ap (λ v. lx t.MatchWord v ∷ xs) p ∙ ap (λ v. mark t.MatchWord ∷ v) (match_tokens vs.0 vs.1.0 vs.1.1.0 xs ys zs ws e d c)) (subst (λ j. Good false k j ws vs.1.1.1) (sym (match_past vs.0 vs.1.0 vs.1.1.0 (i + 1))) g))
+    ▸ (λ k i w xs vs p (ys, m, e, (zs, n, d, (us, q, c, (ws, o, b, (ts, r, f, g))))). prim_by k i (accessed i (record_tree i (lower_called (i + 1) vs.0) vs.1.1.0 vs.1.1.1.0) vs.1.1.1.1.0) (lx t.LBrace w ∷ xs) (mark t.LBrace ∷ (write_braced (lower_called (i + 1) vs.0) vs.1.1.0 vs.1.1.1.0 ++ write_dots vs.1.1.1.1.0)) ts vs.1.1.1.1.1 (record_ok true i (lower_called (i + 1) vs.0) vs.1.1.0 vs.1.1.1.0 vs.1.1.1.1.0 refl tt q.0 q.1 o r) (ap (λ v. lx t.LBrace v ∷ xs) p ∙ ap (λ v. mark t.LBrace ∷ v) (record_tokens (lower_called (i + 1) vs.0) vs.1.1.0 vs.1.1.1.0 vs.1.1.1.1.0 vs.1.0.text xs ys zs us ws ts e n.1 d c b f)) (subst (λ j. Good false k j ts vs.1.1.1.1.1) (sym (record_past (lower_called (i + 1) vs.0) vs.1.1.0 vs.1.1.1.0 vs.1.1.1.1.0 (i + 1))) g))
     ▸ tt
   where
     lower_rest : (w : Word) (j : ℕ) (r : NameRest) → IsApplied j r → IsRest true (lower w) j r
@@ -130,6 +165,7 @@ atom_ok = (λ k i w xs vs p (ys, q, e, g). atom_by k i (accessed i (apply (at i)
     ▸ (λ k i w xs vs p g. (xs, (tt, tt, refl), ap (λ v. lx t.TrueWord v ∷ xs) p, g))
     ▸ (λ k i w xs vs p g. (xs, (tt, tt, refl), ap (λ v. lx t.FalseWord v ∷ xs) p, g))
     ▸ (λ k i w xs vs p (ys, q, e, (zs, n, d, (ws, m, c, g))). atom_by k i (accessed i (cases (at i) (more vs.0 vs.1.0.others) vs.1.0.bar vs.1.0.branches) vs.1.1.0) (lx t.MatchWord w ∷ xs) (mark t.MatchWord ∷ (write_match vs.0 vs.1.0 ++ write_dots vs.1.1.0)) ws vs.1.1.1 (match_ok false i vs.0 vs.1.0 vs.1.1.0 q.0 q.1 n m) (ap (λ v. lx t.MatchWord v ∷ xs) p ∙ ap (λ v. mark t.MatchWord ∷ v) (match_tokens vs.0 vs.1.0 vs.1.1.0 xs ys zs ws e d c)) (subst (λ j. Good false k j ws vs.1.1.1) (sym (match_past vs.0 vs.1.0 vs.1.1.0 (i + 1))) g))
+    ▸ (λ k i w xs vs p (ys, m, e, (zs, n, d, (us, q, c, (ws, o, b, (ts, r, f, g))))). atom_by k i (accessed i (record_tree i (lower_called (i + 1) vs.0) vs.1.1.0 vs.1.1.1.0) vs.1.1.1.1.0) (lx t.LBrace w ∷ xs) (mark t.LBrace ∷ (write_braced (lower_called (i + 1) vs.0) vs.1.1.0 vs.1.1.1.0 ++ write_dots vs.1.1.1.1.0)) ts vs.1.1.1.1.1 (record_ok false i (lower_called (i + 1) vs.0) vs.1.1.0 vs.1.1.1.0 vs.1.1.1.1.0 refl tt q.0 q.1 o r) (ap (λ v. lx t.LBrace v ∷ xs) p ∙ ap (λ v. mark t.LBrace ∷ v) (record_tokens (lower_called (i + 1) vs.0) vs.1.1.0 vs.1.1.1.0 vs.1.1.1.1.0 vs.1.0.text xs ys zs us ws ts e n.1 d c b f)) (subst (λ j. Good false k j ts vs.1.1.1.1.1) (sym (record_past (lower_called (i + 1) vs.0) vs.1.1.0 vs.1.1.1.0 vs.1.1.1.1.0 (i + 1))) g))
     ▸ tt
 
 pub args_ok : AllRows s.Args (rows s.Args)
@@ -210,8 +246,8 @@ aop_ok o h k i w xs vs p (ys, m, e, g) = (ys, (((refl, h, marked o w p), tt, tt)
 
 -- A prefix operator before what may be its operand or end its name.
 pub record MinusParen (i : ℕ) (o : OperatorToken) (n : Minus) : Type 0 where
-  pub is : IsParen i (behind_minus o n)
-  pub writes : write_paren (behind_minus o n) ≡ write_op o ∷ write_minus n
+  pub is : IsParen i (after_minus o n)
+  pub writes : write_paren (after_minus o n) ≡ write_op o ∷ write_minus n
 
 pub minus_paren : (i : ℕ) (o : OperatorToken) (n : Minus) → is_prefix o.terminal ≡ true → is_operator o.terminal ≡ true → MayBeMarked o.terminal o.text → o.at ≡ i → IsMinus (i + 1) n → MinusParen i o n
 minus_paren i o (named_by b ts) x y z a h = record { is = ((a, y, z), h.0, h.1); writes = refl }
@@ -233,7 +269,7 @@ minus_paren i o (operand e c z) x y w a h = by_open (ends_open e) refl h.3
 pub hminus_row_ok : (o : Terminal) → is_prefix o ≡ true → is_operator o ≡ true → RowOk s.Hparen (hminus_row o)
 hminus_row_ok o x y k i w xs vs p (ys, m, e, g) = let r = minus_paren i (op i o w) vs.0 x y (marked o w p) refl m in (ys, r.is, ap (λ v. lx o w ∷ v) e ∙ ap (λ v. v ++ ys) (sym r.writes), subst (λ v. Good false k (past i v) ys vs.1) (sym r.writes) g)
 
-pub no_args_of : (o : OperatorToken) (n : Minus) → HasNoneBy n → HasNoArgs (behind_minus o n)
+pub no_args_of : (o : OperatorToken) (n : Minus) → HasNoneBy n → HasNoArgs (after_minus o n)
 no_args_of o (named_by b ts) h = h
 no_args_of o (operand e c z) h = tt
 
@@ -265,7 +301,7 @@ aparen_ok = append_ok s.Aparen aparen_own (extend s.Aparen (s.Expr 0) (s.GroupRe
 
 pub operand_ok : (k : List Symbol) (i : ℕ) (xs : List Lexeme) (e : SyntaxTree) (vs : Chain × (Closing × Vals k)) → Good false (s.Expr 8 ∷ s.Tail 0 8 ∷ s.GroupRest ∷ k) i xs (e, vs) → Good false (s.Hminus ∷ k) i xs (operand e vs.0 vs.1.0, vs.1.1)
 operand_ok k i xs e vs (ys, q, x, g) = let r = tail_part (ends_open e) 0 8 (past i (write e)) vs.0 ys (λ d j zs. Good d (s.GroupRest ∷ k) j zs vs.1) g in
-    let f = r.behind in (
+    let f = r.following in (
       f.0,
       (q.0, q.1, q.2 (omega arith), r.chain, f.1),
       x ∙ ap (λ v. write e ++ v) (r.writes ∙ ap (λ v. write_chain vs.0 ++ v) f.2 ∙ sym (append_assoc (write_chain vs.0) (write_closing vs.1.0) f.0)) ∙ sym (append_assoc (write e) (write_chain vs.0 ++ write_closing vs.1.0) f.0),

@@ -1,6 +1,7 @@
 -- What the rules of branches, `let` and quantifiers may be read as, and the tokens of that.
-use Rattle.grammar.proofs.reading.Common.{◌≡◌, ⊤, ℕ, ◌+◌, Called, IsLowerName, write_called, List, [], ◌∷◌, ◌++◌, Option, Lexeme, mark, AreForms, SyntaxForm, SyntaxForms, PlacedList, form_tail, past, pattern_forms, AreAlternatives, AreBinders, AreBranches, AreLevel, AreTerms, Branches, HasBranch, IsLevel, IsPlacedTree, IsTrigger, IsTypePart, PlacedAlternatives, PlacedBinders, PlacedBranches, PlacedCommas, PlacedNames, PlacedPart, PlacedTrigger, SyntaxTree, SyntaxTrigger, alternative_tail, bar_before, binder_tail, name_row, terms_tail, type_part, write, write_branches, write_others, write_tail, write_trigger, ArmPart, BinderPart, BoundPart, BranchPart, CasesPart, LetPart, TermsPart}
+use Rattle.grammar.proofs.reading.Common.{◌≡◌, ⊤, ℕ, ◌+◌, Bool, true, Called, AreNamedForms, AreNamedTrees, PlacedFieldForms, PlacedFieldTrees, SyntaxTrees, no_forms, none, form_fields, form_fields_tail, tree_fields, tree_fields_tail, FormFields, TreeFields, IsLowerName, write_called, List, [], ◌∷◌, ◌++◌, Option, Lexeme, mark, AreForms, SyntaxForm, SyntaxForms, PlacedList, form_tail, past, pattern_forms, AreAlternatives, AreBinders, AreBranches, AreLevel, AreTerms, Branches, HasBranch, IsLevel, IsPlacedTree, IsTrigger, IsTypePart, PlacedAlternatives, PlacedBinders, PlacedBranches, PlacedCommas, PlacedNames, PlacedPart, PlacedTrigger, SyntaxTree, SyntaxTrigger, alternative_tail, bar_before, binder_tail, name_row, terms_tail, type_part, write, write_branches, write_others, write_tail, write_trigger, ArmPart, BinderPart, BoundPart, BranchPart, CasesPart, LetPart, TermsPart}
 use Rattle.tokens_why.specs.declared.terminal.Terminal.TheVariants as t
+use Rattle.grammar.proofs.reading.FormsRead.{close_fields}
 
 -- fields one after the other
 abbrev pub write_dots : List Called → List Lexeme
@@ -10,6 +11,35 @@ write_dots (c ∷ cs) = mark t.Dot ∷ (write_called c ++ write_dots cs)
 abbrev pub AreDots : ℕ → List Called → Type 0
 AreDots i [] = ⊤
 AreDots i (c ∷ cs) = (c.at ≡ i + 1) × IsLowerName c.own × AreDots (past (i + 1) (write_called c)) cs
+
+-- fields of a record after the first one, and after a `;`, where there may be none
+abbrev pub write_form_rest : FormFields → List Lexeme
+write_form_rest r = form_fields_tail r.names r.forms ++ close_fields r.semi
+
+abbrev pub next_forms : List Called → SyntaxForms → Bool → List Lexeme
+next_forms [] ps semi = mark t.RBrace ∷ []
+next_forms (c ∷ cs) ps semi = form_fields (c ∷ cs) ps ++ close_fields semi
+
+abbrev pub IsFormRest : ℕ → List Called → SyntaxForms → Type 0
+IsFormRest i cs ps = AreNamedForms cs ps × AreForms pattern_forms ps × PlacedFieldForms (i + 1) cs ps
+
+abbrev pub IsFormNext : ℕ → List Called → SyntaxForms → Bool → Type 0
+IsFormNext i [] ps semi = (ps ≡ no_forms) × (semi ≡ true)
+IsFormNext i (c ∷ cs) ps semi = AreNamedForms (c ∷ cs) ps × AreForms pattern_forms ps × PlacedFieldForms i (c ∷ cs) ps
+
+abbrev pub write_tree_rest : TreeFields → List Lexeme
+write_tree_rest r = tree_fields_tail r.names r.trees ++ close_fields r.semi
+
+abbrev pub next_trees : List Called → SyntaxTrees → Bool → List Lexeme
+next_trees [] es semi = mark t.RBrace ∷ []
+next_trees (c ∷ cs) es semi = tree_fields (c ∷ cs) es ++ close_fields semi
+
+abbrev pub IsTreeRest : ℕ → List Called → SyntaxTrees → Type 0
+IsTreeRest i cs es = AreNamedTrees cs es × AreLevel es × PlacedFieldTrees (i + 1) cs es
+
+abbrev pub IsTreeNext : ℕ → List Called → SyntaxTrees → Bool → Type 0
+IsTreeNext i [] es semi = (es ≡ none) × (semi ≡ true)
+IsTreeNext i (c ∷ cs) es semi = AreNamedTrees (c ∷ cs) es × AreLevel es × PlacedFieldTrees i (c ∷ cs) es
 
 abbrev pub write_arm : ArmPart → List Lexeme
 write_arm a = form_tail a.patterns ++ (alternative_tail a.alternatives ++ (mark t.Arrow ∷ (write a.body ++ (write_others a.others ++ (mark t.EndWord ∷ [])))))

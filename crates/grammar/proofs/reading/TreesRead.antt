@@ -1,15 +1,15 @@
 -- The tokens of a term are read as it.
-use Rattle.grammar.proofs.reading.Common.{◌≡◌, ℕ, ◌+◌, ◌≤◌, Bool, true, false, nat_le, cond, List, [], ◌∷◌, ◌++◌, Some, refl, sym, ap, ◌∙◌, subst, append_assoc, append-nil, arith, Symbol, operators, prec, need, right, Lexeme, at, lx, mark, name, called, lower, scoped, write_own, Own, Called, IsLowerName, IsPlainTerm, access, accessed, write_list, ⊤, form_tail, more_forms, no_forms, past, write_called, write_form, AreAtoms, AreBranches, AreLevel, AreTerms, Branches, HasBranch, IsAtom, IsLevel, IsPlacedTree, IsTrigger, PlacedBranches, PlacedCommas, PlacedTrees, PlacedTrigger, SyntaxTree, SyntaxTrees, SyntaxTrigger, alternative_list, apply, bar_before, binary, binder_tail, binding, binds, branch, cases, cast, choice, ends_open, falsity, group, literal, more, name_row, negation, no_branch, none, op, prefixed, quantified, quantifier, terms_tail, tight, triggered, truth, type_part, untriggered, write, write_branches, write_op, write_others, write_row, write_tail, write_trigger, Chain, attach, binder_with, cast_to, closes_group, link, stop, Vals, row, link_row, prefix_row, read, and_both, infix_among}
+use Rattle.grammar.proofs.reading.Common.{◌≡◌, ℕ, ◌+◌, ◌≤◌, Bool, true, false, nat_le, cond, List, [], ◌∷◌, ◌++◌, Some, refl, sym, ap, ◌∙◌, subst, append_assoc, append-nil, arith, Symbol, operators, prec, need, right, Lexeme, at, lx, mark, name, called, lower, scoped, write_own, Own, Called, IsLowerName, IsPlainTerm, access, accessed, fielded_tree, tree_fields, tree_fields_tail, record_tree, HasSomeTree, AreNamedTrees, PlacedFieldTrees, write_list, ⊤, form_tail, more_forms, no_forms, past, write_called, write_form, AreAtoms, AreBranches, AreLevel, AreTerms, Branches, HasBranch, IsAtom, IsLevel, IsPlacedTree, IsTrigger, PlacedBranches, PlacedCommas, PlacedTrees, PlacedTrigger, SyntaxTree, SyntaxTrees, SyntaxTrigger, alternative_list, apply, bar_before, binary, binder_tail, binding, binds, branch, cases, cast, choice, ends_open, falsity, group, literal, more, name_row, negation, no_branch, none, op, prefixed, quantified, quantifier, terms_tail, tight, triggered, truth, type_part, untriggered, write, write_branches, write_op, write_others, write_row, write_tail, write_trigger, Chain, attach, binder_with, cast_to, closes_group, link, stop, Vals, row, link_row, prefix_row, read, and_both, infix_among}
 use Rattle.tokens_why.specs.declared.terminal.Terminal.TheVariants as t
 use Rattle.grammar.specs.declared.symbols.Symbol.TheVariants as s
 use Rattle.grammar.proofs.reading.Reading.{Reads, Stops, extended, passed, past-append}
-use Rattle.grammar.proofs.reading.FormsRead.{reads_pat, regroup}
+use Rattle.grammar.proofs.reading.FormsRead.{close_fields, field_past, field_tokens, reads_lower, reads_pat, regroup, tail_past}
 use Rattle.grammar.proofs.reading.Operators.{Follow, NoDot, OpsBelow, Rest, RestBy, le_true, low_not, low_prefix, low_right, reach, reads_by, rest_within, tail_found}
-use Rattle.grammar.proofs.reading.TermRowsRead.{Closed, args_extend, atom_headed, dots_stop, name_dots, reads_dots, reads_inner, reads_match, reads_nothing, TopReads, expr_if, expr_let, expr_not, expr_prefix, expr_quantifier, prim_headed}
-use Rattle.grammar.proofs.reading.Operands.{as_prim, before_seal, both_right, cast_rest, comma_follow, follow_any, follow_within, joined_is, list_follow, mark_follow, op_follow, op_is, others_follow, past_op, reads_mark, row_dots, terms_follow, whole_by, within_left, within_right}
+use Rattle.grammar.proofs.reading.TermRowsRead.{other_tree_field, reads_record, Closed, args_extend, atom_headed, dots_stop, name_dots, reads_dots, reads_inner, reads_match, reads_nothing, TopReads, expr_if, expr_let, expr_not, expr_prefix, expr_quantifier, prim_headed}
+use Rattle.grammar.proofs.reading.Operands.{fields_follow, as_prim, before_seal, both_right, cast_rest, comma_follow, follow_any, follow_within, joined_is, list_follow, mark_follow, op_follow, op_is, others_follow, past_op, reads_mark, row_dots, terms_follow, whole_by, within_left, within_right}
 use Rattle.grammar.proofs.reading.TermsRight.{AreDots, write_dots}
 use Rattle.grammar.proofs.reading.Grouping.{branch_past, branch_tokens, let_past, let_tokens, match_tokens, quantifier_past, quantifier_tokens, trigger_stop}
-use Rattle.grammar.proofs.reading.ArmsRead.{binder_behind, binders_stop, reads_arms, reads_binders, reads_branch, reads_letpats, tail_stops_pat}
+use Rattle.grammar.proofs.reading.ArmsRead.{binder_after, binders_stop, reads_arms, reads_binders, reads_branch, reads_letpats, tail_stops_pat}
 
 -- a field after a term, and fields after it
 access_tokens : (xs : List Lexeme) (c : Called) (cs : List Called) (ys : List Lexeme) → (xs ++ (mark t.Dot ∷ write_called c)) ++ (write_dots cs ++ ys) ≡ xs ++ (write_dots (c ∷ cs) ++ ys)
@@ -28,8 +28,8 @@ MatchRead none bar bs cs zs i k vs = ⊤
 MatchRead (more e es) bar bs cs zs i k vs = Reads (s.Expr 0 ∷ s.Scrutinees ∷ s.Dots ∷ k) (((write e ++ write_tail es) ++ (mark t.WithWord ∷ (bar_before bar ++ (write_branches bs ++ (mark t.EndWord ∷ []))))) ++ zs) i (e, (record { others = es; bar = bar; branches = bs }, (cs, vs)))
 
 -- where the branches of a `match` end
-match_behind : (a b c d : List Lexeme) (i : ℕ) → past i ((a ++ b) ++ (mark t.WithWord ∷ (c ++ (d ++ (mark t.EndWord ∷ []))))) ≡ past (past (past i (a ++ b) + 1) c) (d ++ (mark t.EndWord ∷ []))
-match_behind a b c d i = past_op (a ++ b) (mark t.WithWord) (c ++ (d ++ (mark t.EndWord ∷ []))) i ∙ past-append c (d ++ (mark t.EndWord ∷ [])) (past i (a ++ b) + 1)
+match_after : (a b c d : List Lexeme) (i : ℕ) → past i ((a ++ b) ++ (mark t.WithWord ∷ (c ++ (d ++ (mark t.EndWord ∷ []))))) ≡ past (past (past i (a ++ b) + 1) c) (d ++ (mark t.EndWord ∷ []))
+match_after a b c d i = past_op (a ++ b) (mark t.WithWord) (c ++ (d ++ (mark t.EndWord ∷ []))) i ∙ past-append c (d ++ (mark t.EndWord ∷ [])) (past i (a ++ b) + 1)
 
 mutual
   pub reads_expr : (e : SyntaxTree) (m : ℕ) (ys : List Lexeme) (i : ℕ) (k : List Symbol) (c : Chain) (vs : Vals k) → IsLevel e → IsPlacedTree i e → m ≤ tight e → Follow (reach e) ys → Rest e m ys (past i (write e)) k c vs → Reads (s.Expr m ∷ k) (write e ++ ys) i (attach e c, vs)
@@ -45,6 +45,8 @@ mutual
       (rw (p.0, both_right (write e) (mark t.Colon) (write_form f ++ (mark t.RParen ∷ [])) ys) (reads_inner true (write e ++ (mark t.Colon ∷ ((write_form f ++ (mark t.RParen ∷ [])) ++ ys))) i (s.Tail m 9 ∷ k) e (cast_to f []) (c, vs) (whole_by e (mark t.Colon ∷ ((write_form f ++ (mark t.RParen ∷ [])) ++ ys)) (i + 1) s.GroupRest (s.Tail m 9 ∷ k) (cast_to f [], (c, vs)) (λ m zs j q c us. reads_expr e m zs j q c us) refl l.0 p.1 (mark_follow t.Colon ((write_form f ++ (mark t.RParen ∷ [])) ++ ys) refl refl refl) (cast_rest f [] ys (past (i + 1) (write e)) (s.Tail m 9 ∷ k) (c, vs) l.1 p.2 (no_dots ys (past (past (i + 1) (write e) + 1) (write_form f ++ (mark t.RParen ∷ []))) (s.Tail m 9 ∷ k) (c, vs) n.dots (rw past_op at h))))))
   reads_expr (access a e d) m ys i k c vs l p u n h = as_prim m ((write e ++ (mark t.Dot ∷ write_called d)) ++ ys) i k (access a e d) c vs
       (rw (p.0, access_tokens (write e) d [] ys) (reads_plain true e (d ∷ []) ys i (s.Tail m 9 ∷ k) (c, vs) l.0 l.1 p.1 (p.2, l.2, tt) n.args n.dots (rw (append-nil (write_called d)) (rw past_op at h))))
+  reads_expr (fielded_tree a ns ts semi) m ys i k c vs l p u n h = as_prim m (write (fielded_tree a ns ts semi) ++ ys) i k (fielded_tree a ns ts semi) c vs
+      (rw p.0 (reads_braced true ns ts semi [] ys i (s.Tail m 9 ∷ k) (c, vs) l.0 l.1 l.2 p.1 (no_dots ys (past (i + 1) (tree_fields ns ts ++ close_fields semi)) (s.Tail m 9 ∷ k) (c, vs) n.dots h)))
   reads_expr (prefixed a o e) m ys i k c vs l p u n h = reads_by (s.Expr m) (write_op o) (prefix_row m o.terminal) (write e ++ ys) i k (e, (c, vs)) (expr_prefix m (nat_le m 3) o.terminal l.0)
       (reads_expr e 8 ys (i + 1) (s.Tail m 8 ∷ k) stop (c, vs) l.3 p.2 l.2 (follow_within (ends_open e) 8 (tight e) ys l.2 n) (rest_within (ends_open e) m 8 8 (tight e) ys (past (i + 1) (write e)) k c vs (λ q. low_prefix ys) h))
       ∙ ap (λ v. Some (attach (prefixed v (op i o.terminal o.text) e) c, vs)) (sym p.0) ∙ ap (λ v. Some (attach (prefixed a v e) c, vs)) (op_is o i p.1)
@@ -68,7 +70,7 @@ mutual
       ∙ ap (λ v. Some (choice v d e f, vs)) (sym p.0) ∙ ap (λ v. Some (attach (choice a d e f) v, vs)) (sym h.0))
   reads_expr (cases a none bar bs) m ys i k c vs l p u n h = elim l.0 [ ]
   reads_expr (cases a (more e es) bar bs) m ys i k c vs l p u n h = as_prim m (write (cases a (more e es) bar bs) ++ ys) i k (cases a (more e es) bar bs) c vs
-      (rw p.0 (reads_match true e (record { others = es; bar = bar; branches = bs }) [] (((write e ++ write_tail es) ++ (mark t.WithWord ∷ (bar_before bar ++ (write_branches bs ++ (mark t.EndWord ∷ []))))) ++ ys) i (s.Tail m 9 ∷ k) (c, vs) (reads_matched (more e es) bar bs [] ys (i + 1) (s.Tail m 9 ∷ k) (c, vs) l.1 p.1 (reads_branches bs bar ys (past (i + 1) (write e ++ write_tail es) + 1) (s.Dots ∷ s.Tail m 9 ∷ k) ([], (c, vs)) l.2 l.3 p.2 (rw match_behind at (no_dots ys (past (i + 1) ((write e ++ write_tail es) ++ (mark t.WithWord ∷ (bar_before bar ++ (write_branches bs ++ (mark t.EndWord ∷ [])))))) (s.Tail m 9 ∷ k) (c, vs) n.dots h))))))
+      (rw p.0 (reads_match true e (record { others = es; bar = bar; branches = bs }) [] (((write e ++ write_tail es) ++ (mark t.WithWord ∷ (bar_before bar ++ (write_branches bs ++ (mark t.EndWord ∷ []))))) ++ ys) i (s.Tail m 9 ∷ k) (c, vs) (reads_matched (more e es) bar bs [] ys (i + 1) (s.Tail m 9 ∷ k) (c, vs) l.1 p.1 (reads_branches bs bar ys (past (i + 1) (write e ++ write_tail es) + 1) (s.Dots ∷ s.Tail m 9 ∷ k) ([], (c, vs)) l.2 l.3 p.2 (rw match_after at (no_dots ys (past (i + 1) ((write e ++ write_tail es) ++ (mark t.WithWord ∷ (bar_before bar ++ (write_branches bs ++ (mark t.EndWord ∷ [])))))) (s.Tail m 9 ∷ k) (c, vs) n.dots h))))))
   reads_expr (binding a no_forms e f) m ys i k c vs l p u n h = elim l.0 [ ]
   reads_expr (binding a (more_forms g gs) e f) m ys i k c vs l p u n h = rw (let_tokens (write_form g) (form_tail gs) (write e) (write f) ys)
       (reads_by (s.Expr m) (mark t.LetWord) (row (s.Expr m) t.LetWord (s.Pat ∷ s.Letpats ∷ []) (λ i w vs. binding (at i) (more_forms vs.0 vs.1.0.patterns) vs.1.0.value vs.1.0.body)) (write_form g ++ (form_tail gs ++ (mark t.Equal ∷ (write e ++ (mark t.InWord ∷ (write f ++ ys)))))) i k (g, (record { patterns = gs; value = e; body = f }, vs)) (expr_let m (nat_le m 3))
@@ -82,7 +84,7 @@ mutual
   reads_expr (quantified a all (binds [] ty ∷ bs) g e) m ys i k c vs l p u n h = elim l.1.0 [ ]
   reads_expr (quantified a all (binds (x ∷ ns) ty ∷ bs) g e) m ys i k c vs l p u n h = rw (quantifier_tokens (name_row ns) (type_part ty) (binder_tail bs) (write_trigger g) (write e) ys)
       (reads_by (s.Expr m) (mark (quantifier all)) (row (s.Expr m) (quantifier all) (s.Take t.Lident ∷ s.Binder ∷ []) (λ i w vs. quantified (at i) all (binder_with vs.0 vs.1.0 ∷ vs.1.0.bound.others) vs.1.0.bound.trigger vs.1.0.bound.body)) (lx t.Lident x.text ∷ (name_row ns ++ (type_part ty ++ (binder_tail bs ++ (write_trigger g ++ (mark t.Dot ∷ (write e ++ ys))))))) i k (x, (record { names = ns; of_type = ty; bound = record { others = bs; trigger = g; body = e } }, vs)) (expr_quantifier m (nat_le m 3) all)
-      (binder_behind x ns ty (record { others = bs; trigger = g; body = e }) (binder_tail bs ++ (write_trigger g ++ (mark t.Dot ∷ (write e ++ ys)))) (i + 1) k vs l.1.1 p.1.0.0 p.1.0.1 (binders_stop bs (write_trigger g ++ (mark t.Dot ∷ (write e ++ ys))) (trigger_stop g (write e ++ ys)))
+      (binder_after x ns ty (record { others = bs; trigger = g; body = e }) (binder_tail bs ++ (write_trigger g ++ (mark t.Dot ∷ (write e ++ ys)))) (i + 1) k vs l.1.1 p.1.0.0 p.1.0.1 (binders_stop bs (write_trigger g ++ (mark t.Dot ∷ (write e ++ ys))) (trigger_stop g (write e ++ ys)))
       (reads_binders bs g e (write_trigger g ++ (mark t.Dot ∷ (write e ++ ys))) (past (past (i + 1 + 1) (name_row ns)) (type_part ty)) k vs l.1.2 (rw past-append at p.1.1) (trigger_stop g (write e ++ ys))
       (reads_trigger g e ys (past (past (past (i + 1 + 1) (name_row ns)) (type_part ty)) (binder_tail bs)) k vs l.2 (rw (past-append, past-append) at p.2)
       (reads_expr e 0 ys (past (past (past (past (i + 1 + 1) (name_row ns)) (type_part ty)) (binder_tail bs)) (write_trigger g) + 1) (s.Seal ∷ k) stop (tt, vs) l.3 (rw (past-append, past-append) at p.3) (omega arith) (follow_any (reach e) ys n) (before_seal (ends_open e) (tight e) ys (past (past (past (past (past (i + 1 + 1) (name_row ns)) (type_part ty)) (binder_tail bs)) (write_trigger g) + 1) (write e)) k vs n (rw (quantifier_past (name_row ns) (type_part ty) (binder_tail bs) (write_trigger g) (write e) (i + 1 + 1)) at h.1)))))))
@@ -118,14 +120,14 @@ mutual
   reads_trigger : (g : SyntaxTrigger) (e : SyntaxTree) (ys : List Lexeme) (i : ℕ) (k : List Symbol) (vs : Vals k) → IsTrigger g → PlacedTrigger i g → Reads (s.Expr 0 ∷ s.Seal ∷ k) (write e ++ ys) (past i (write_trigger g) + 1) (e, (tt, vs)) → Reads (s.Binders ∷ k) (write_trigger g ++ (mark t.Dot ∷ (write e ++ ys))) i (record { others = []; trigger = g; body = e }, vs)
   reads_trigger untriggered e ys i k vs l p h = rw h refl
   reads_trigger (triggered none bars) e ys i k vs l p h = elim l [ ]
-  reads_trigger (triggered (more d ds) bars) e ys i k vs l p h = rw (regroup (write d) (terms_tail ds bars) (mark t.RBrack ∷ []) (mark t.Dot ∷ (write e ++ ys)), whole_by d ((terms_tail ds bars ++ (mark t.RBrack ∷ [])) ++ (mark t.Dot ∷ (write e ++ ys))) (i + 1) s.Trigger k (record { terms = ds; bars = bars; body = e }, vs) (λ m zs j q c us. reads_expr d m zs j q c us) refl l.0 p.0 (terms_follow ds bars (mark t.Dot ∷ (write e ++ ys))) (reads_terms ds bars e ys (past (i + 1) (write d)) k vs l.1 p.1 (rw (append_assoc, past-append) at h))) refl
+  reads_trigger (triggered (more d ds) bars) e ys i k vs l p h = rw (regroup (write d) (terms_tail ds bars) (mark t.RBrack ∷ []) (mark t.Dot ∷ (write e ++ ys)), whole_by d ((terms_tail ds bars ++ (mark t.RBrack ∷ [])) ++ (mark t.Dot ∷ (write e ++ ys))) (i + 1) s.Trigger k (record { terms = ds; bars = bars; body = e }, vs) (λ m zs j q c us. reads_expr d m zs j q c us) refl l.0 p.0 (terms_follow ds bars (mark t.Dot ∷ (write e ++ ys))) (reads_terms ds bars e ys (past (i + 1) (write d)) k vs l.1 p.1 (subst (λ n. Reads (s.Expr 0 ∷ s.Seal ∷ k) (write e ++ ys) (n + 1) (e, (tt, vs))) (tail_past (write d) (terms_tail ds bars) (mark t.RBrack ∷ []) i) h))) refl
 
   reads_terms : (ds : SyntaxTrees) (bars : List Bool) (e : SyntaxTree) (ys : List Lexeme) (i : ℕ) (k : List Symbol) (vs : Vals k) → AreTerms ds bars → PlacedCommas (i + 1) ds → Reads (s.Expr 0 ∷ s.Seal ∷ k) (write e ++ ys) (past i (terms_tail ds bars ++ (mark t.RBrack ∷ [])) + 1) (e, (tt, vs)) → Reads (s.Trigger ∷ k) ((terms_tail ds bars ++ (mark t.RBrack ∷ [])) ++ (mark t.Dot ∷ (write e ++ ys))) i (record { terms = ds; bars = bars; body = e }, vs)
   reads_terms none [] e ys i k vs l p h = rw h refl
   reads_terms none (b ∷ bs) e ys i k vs l p h = elim l [ ]
   reads_terms (more d ds) [] e ys i k vs l p h = elim l [ ]
-  reads_terms (more d ds) (true ∷ bs) e ys i k vs l p h = rw (regroup (write d) (terms_tail ds bs) (mark t.RBrack ∷ []) (mark t.Dot ∷ (write e ++ ys)), whole_by d ((terms_tail ds bs ++ (mark t.RBrack ∷ [])) ++ (mark t.Dot ∷ (write e ++ ys))) (i + 1) s.Trigger k (record { terms = ds; bars = bs; body = e }, vs) (λ m zs j q c us. reads_expr d m zs j q c us) refl l.0 p.0 (terms_follow ds bs (mark t.Dot ∷ (write e ++ ys))) (reads_terms ds bs e ys (past (i + 1) (write d)) k vs l.1 p.1 (rw (append_assoc, past-append) at h))) refl
-  reads_terms (more d ds) (false ∷ bs) e ys i k vs l p h = rw (regroup (write d) (terms_tail ds bs) (mark t.RBrack ∷ []) (mark t.Dot ∷ (write e ++ ys)), whole_by d ((terms_tail ds bs ++ (mark t.RBrack ∷ [])) ++ (mark t.Dot ∷ (write e ++ ys))) (i + 1) s.Trigger k (record { terms = ds; bars = bs; body = e }, vs) (λ m zs j q c us. reads_expr d m zs j q c us) refl l.0 p.0 (terms_follow ds bs (mark t.Dot ∷ (write e ++ ys))) (reads_terms ds bs e ys (past (i + 1) (write d)) k vs l.1 p.1 (rw (append_assoc, past-append) at h))) refl
+  reads_terms (more d ds) (true ∷ bs) e ys i k vs l p h = rw (regroup (write d) (terms_tail ds bs) (mark t.RBrack ∷ []) (mark t.Dot ∷ (write e ++ ys)), whole_by d ((terms_tail ds bs ++ (mark t.RBrack ∷ [])) ++ (mark t.Dot ∷ (write e ++ ys))) (i + 1) s.Trigger k (record { terms = ds; bars = bs; body = e }, vs) (λ m zs j q c us. reads_expr d m zs j q c us) refl l.0 p.0 (terms_follow ds bs (mark t.Dot ∷ (write e ++ ys))) (reads_terms ds bs e ys (past (i + 1) (write d)) k vs l.1 p.1 (subst (λ n. Reads (s.Expr 0 ∷ s.Seal ∷ k) (write e ++ ys) (n + 1) (e, (tt, vs))) (tail_past (write d) (terms_tail ds bs) (mark t.RBrack ∷ []) i) h))) refl
+  reads_terms (more d ds) (false ∷ bs) e ys i k vs l p h = rw (regroup (write d) (terms_tail ds bs) (mark t.RBrack ∷ []) (mark t.Dot ∷ (write e ++ ys)), whole_by d ((terms_tail ds bs ++ (mark t.RBrack ∷ [])) ++ (mark t.Dot ∷ (write e ++ ys))) (i + 1) s.Trigger k (record { terms = ds; bars = bs; body = e }, vs) (λ m zs j q c us. reads_expr d m zs j q c us) refl l.0 p.0 (terms_follow ds bs (mark t.Dot ∷ (write e ++ ys))) (reads_terms ds bs e ys (past (i + 1) (write d)) k vs l.1 p.1 (subst (λ n. Reads (s.Expr 0 ∷ s.Seal ∷ k) (write e ++ ys) (n + 1) (e, (tt, vs))) (tail_past (write d) (terms_tail ds bs) (mark t.RBrack ∷ []) i) h))) refl
 
   reads_args : (ts : SyntaxTrees) (ys : List Lexeme) (i : ℕ) (k : List Symbol) (vs : Vals k) → AreAtoms ts → PlacedTrees i ts → Stops s.Args ys → NoDot ys → Reads k ys (past i (write_row ts)) vs → Reads (s.Args ∷ k) (write_row ts ++ ys) i (ts, vs)
   reads_args none ys i k vs l p n o h = passed s.Args none k ys i vs refl refl n h
@@ -146,8 +148,9 @@ mutual
   reads_atom (binary a e o f) ys i k vs q l p n h = elim q [ ]
   reads_atom (choice a d e f) ys i k vs q l p n h = elim q [ ]
   reads_atom (cases a none bar bs) ys i k vs q l p n h = elim l.0 [ ]
-  reads_atom (cases a (more e es) bar bs) ys i k vs q l p n h = rw p.0 (reads_match false e (record { others = es; bar = bar; branches = bs }) [] (((write e ++ write_tail es) ++ (mark t.WithWord ∷ (bar_before bar ++ (write_branches bs ++ (mark t.EndWord ∷ []))))) ++ ys) i k vs (reads_matched (more e es) bar bs [] ys (i + 1) k vs l.1 p.1 (reads_branches bs bar ys (past (i + 1) (write e ++ write_tail es) + 1) (s.Dots ∷ k) ([], vs) l.2 l.3 p.2 (rw match_behind at (no_dots ys (past (i + 1) ((write e ++ write_tail es) ++ (mark t.WithWord ∷ (bar_before bar ++ (write_branches bs ++ (mark t.EndWord ∷ [])))))) k vs n h)))))
+  reads_atom (cases a (more e es) bar bs) ys i k vs q l p n h = rw p.0 (reads_match false e (record { others = es; bar = bar; branches = bs }) [] (((write e ++ write_tail es) ++ (mark t.WithWord ∷ (bar_before bar ++ (write_branches bs ++ (mark t.EndWord ∷ []))))) ++ ys) i k vs (reads_matched (more e es) bar bs [] ys (i + 1) k vs l.1 p.1 (reads_branches bs bar ys (past (i + 1) (write e ++ write_tail es) + 1) (s.Dots ∷ k) ([], vs) l.2 l.3 p.2 (rw match_after at (no_dots ys (past (i + 1) ((write e ++ write_tail es) ++ (mark t.WithWord ∷ (bar_before bar ++ (write_branches bs ++ (mark t.EndWord ∷ [])))))) k vs n h)))))
   reads_atom (access a e d) ys i k vs q l p n h = rw (p.0, access_tokens (write e) d [] ys) (reads_plain false e (d ∷ []) ys i k vs l.0 l.1 p.1 (p.2, l.2, tt) tt n (rw (append-nil (write_called d)) (rw past_op at h)))
+  reads_atom (fielded_tree a ns ts semi) ys i k vs q l p n h = rw p.0 (reads_braced false ns ts semi [] ys i k vs l.0 l.1 l.2 p.1 (no_dots ys (past (i + 1) (tree_fields ns ts ++ close_fields semi)) k vs n h))
   reads_atom (binding a ps e f) ys i k vs q l p n h = elim q [ ]
   reads_atom (quantified a all bs g e) ys i k vs q l p n h = elim q [ ]
 
@@ -165,9 +168,37 @@ mutual
   reads_plain b (group a (more e es)) cs ys i k vs q l p r m n h = rw p.0 (reads_inner b (((write e ++ write_tail es) ++ (mark t.RParen ∷ [])) ++ (write_dots cs ++ ys)) i k e (closes_group es cs) vs (reads_members (more e es) cs (write_dots cs ++ ys) (i + 1) k vs l p.1 (reads_dots cs ys (past (i + 1) ((write e ++ write_tail es) ++ (mark t.RParen ∷ []))) k vs r n h)))
   reads_plain b (cast a e f) cs ys i k vs q l p r m n h = rw (p.0, both_right (write e) (mark t.Colon) (write_form f ++ (mark t.RParen ∷ [])) (write_dots cs ++ ys)) (reads_inner b (write e ++ (mark t.Colon ∷ ((write_form f ++ (mark t.RParen ∷ [])) ++ (write_dots cs ++ ys)))) i k e (cast_to f cs) vs (whole_by e (mark t.Colon ∷ ((write_form f ++ (mark t.RParen ∷ [])) ++ (write_dots cs ++ ys))) (i + 1) s.GroupRest k (cast_to f cs, vs) (λ m zs j q c us. reads_expr e m zs j q c us) refl l.0 p.1 (mark_follow t.Colon ((write_form f ++ (mark t.RParen ∷ [])) ++ (write_dots cs ++ ys)) refl refl refl) (cast_rest f cs (write_dots cs ++ ys) (past (i + 1) (write e)) k vs l.1 p.2 (reads_dots cs ys (past (past (i + 1) (write e) + 1) (write_form f ++ (mark t.RParen ∷ []))) k vs (rw past_op at r) n (rw past_op at h)))))
   reads_plain b (cases a none bar bs) cs ys i k vs q l p r m n h = elim l.0 [ ]
-  reads_plain b (cases a (more e es) bar bs) cs ys i k vs q l p r m n h = rw p.0 (reads_match b e (record { others = es; bar = bar; branches = bs }) cs (((write e ++ write_tail es) ++ (mark t.WithWord ∷ (bar_before bar ++ (write_branches bs ++ (mark t.EndWord ∷ []))))) ++ (write_dots cs ++ ys)) i k vs (reads_matched (more e es) bar bs cs (write_dots cs ++ ys) (i + 1) k vs l.1 p.1 (reads_branches bs bar (write_dots cs ++ ys) (past (i + 1) (write e ++ write_tail es) + 1) (s.Dots ∷ k) (cs, vs) l.2 l.3 p.2 (rw match_behind at (reads_dots cs ys (past (i + 1) ((write e ++ write_tail es) ++ (mark t.WithWord ∷ (bar_before bar ++ (write_branches bs ++ (mark t.EndWord ∷ [])))))) k vs r n h)))))
+  reads_plain b (cases a (more e es) bar bs) cs ys i k vs q l p r m n h = rw p.0 (reads_match b e (record { others = es; bar = bar; branches = bs }) cs (((write e ++ write_tail es) ++ (mark t.WithWord ∷ (bar_before bar ++ (write_branches bs ++ (mark t.EndWord ∷ []))))) ++ (write_dots cs ++ ys)) i k vs (reads_matched (more e es) bar bs cs (write_dots cs ++ ys) (i + 1) k vs l.1 p.1 (reads_branches bs bar (write_dots cs ++ ys) (past (i + 1) (write e ++ write_tail es) + 1) (s.Dots ∷ k) (cs, vs) l.2 l.3 p.2 (rw match_after at (reads_dots cs ys (past (i + 1) ((write e ++ write_tail es) ++ (mark t.WithWord ∷ (bar_before bar ++ (write_branches bs ++ (mark t.EndWord ∷ [])))))) k vs r n h)))))
   reads_plain b (access a e d) cs ys i k vs q l p r m n h = rw (p.0, access_tokens (write e) d cs ys) (reads_plain b e (d ∷ cs) ys i k vs l.0 l.1 p.1 (p.2, l.2, rw past_op at r) m n (rw (past-append (write_called d) (write_dots cs) (past i (write e) + 1)) (rw past_op at h)))
+  reads_plain b (fielded_tree a ns ts semi) cs ys i k vs q l p r m n h = rw p.0 (reads_braced b ns ts semi cs (write_dots cs ++ ys) i k vs l.0 l.1 l.2 p.1 (reads_dots cs ys (past (i + 1) (tree_fields ns ts ++ close_fields semi)) k vs r n h))
   reads_plain b _ cs ys i k vs q l p r m n h = elim q [ ]
+
+  -- a record, with its fields and those of itself
+  reads_braced : (b : Bool) (ns : List Called) (ts : SyntaxTrees) (semi : Bool) (cs : List Called) (zs : List Lexeme) (i : ℕ) (k : List Symbol) (vs : Vals k) → HasSomeTree ts → AreNamedTrees ns ts → AreLevel ts → PlacedFieldTrees (i + 1) ns ts → Reads (s.Dots ∷ k) zs (past (i + 1) (tree_fields ns ts ++ close_fields semi)) (cs, vs) → TopReads b k (mark t.LBrace ∷ ((tree_fields ns ts ++ close_fields semi) ++ zs)) i (accessed i (fielded_tree (at i) ns ts semi) cs) vs
+  reads_braced b ns none semi cs zs i k vs q l m p h = elim q [ ]
+  reads_braced b [] (more e es) semi cs zs i k vs q l m p h = elim l [ ]
+  reads_braced b (c ∷ ns) (more e es) semi cs zs i k vs q l m p h =
+      let r = reads_lower c (mark t.Equal ∷ (write e ++ ((tree_fields_tail ns es ++ close_fields semi) ++ zs))) (i + 1) (s.Take t.Equal ∷ s.Expr 0 ∷ s.ExprFields ∷ s.Dots ∷ k) (name (past (i + 1) (write_called c)) [], (e, (record { names = ns; trees = es; semi = semi }, (cs, vs)))) l.0 p.0
+      (reads_mark t.Equal (write e ++ ((tree_fields_tail ns es ++ close_fields semi) ++ zs)) (past (i + 1) (write_called c)) (s.Expr 0 ∷ s.ExprFields ∷ s.Dots ∷ k) (e, (record { names = ns; trees = es; semi = semi }, (cs, vs)))
+      (whole_by e ((tree_fields_tail ns es ++ close_fields semi) ++ zs) (past (i + 1) (write_called c) + 1) s.ExprFields (s.Dots ∷ k) (record { names = ns; trees = es; semi = semi }, (cs, vs)) (λ m zs j q c us. reads_expr e m zs j q c us) refl m.0 p.1 (fields_follow ns es semi zs)
+      (reads_fields ns es semi zs (past (past (i + 1) (write_called c) + 1) (write e)) (s.Dots ∷ k) (cs, vs) l.1 m.1 p.2 (rw field_past at h)))) in
+      rw (field_tokens (write_called c) (write e) (tree_fields_tail ns es) (close_fields semi) zs)
+      (subst (λ d. TopReads b k (mark t.LBrace ∷ (write_called c ++ (mark t.Equal ∷ (write e ++ ((tree_fields_tail ns es ++ close_fields semi) ++ zs))))) i (accessed i (record_tree i d e (record { names = ns; trees = es; semi = semi })) cs) vs) r.1
+      (reads_record b r.0 (name (past (i + 1) (write_called c)) []) e (record { names = ns; trees = es; semi = semi }) cs (write_called c ++ (mark t.Equal ∷ (write e ++ ((tree_fields_tail ns es ++ close_fields semi) ++ zs)))) i k vs r.2))
+
+  -- fields after the first one
+  reads_fields : (ns : List Called) (ts : SyntaxTrees) (semi : Bool) (zs : List Lexeme) (i : ℕ) (k : List Symbol) (vs : Vals k) → AreNamedTrees ns ts → AreLevel ts → PlacedFieldTrees (i + 1) ns ts → Reads k zs (past i (tree_fields_tail ns ts ++ close_fields semi)) vs → Reads (s.ExprFields ∷ k) ((tree_fields_tail ns ts ++ close_fields semi) ++ zs) i (record { names = ns; trees = ts; semi = semi }, vs)
+  reads_fields [] none true zs i k vs l m p h = rw h refl
+  reads_fields [] none false zs i k vs l m p h = rw h refl
+  reads_fields [] (more e es) semi zs i k vs l m p h = elim l [ ]
+  reads_fields (c ∷ ns) none semi zs i k vs l m p h = elim l [ ]
+  reads_fields (c ∷ ns) (more e es) semi zs i k vs l m p h = rw (
+    field_tokens (write_called c) (write e) (tree_fields_tail ns es) (close_fields semi) zs,
+    other_tree_field c e (record { names = ns; trees = es; semi = semi }) (mark t.Equal ∷ (write e ++ ((tree_fields_tail ns es ++ close_fields semi) ++ zs))) (i + 1) k (name (past (i + 1) (write_called c)) []) vs l.0 p.0
+        (reads_mark t.Equal (write e ++ ((tree_fields_tail ns es ++ close_fields semi) ++ zs)) (past (i + 1) (write_called c)) (s.Expr 0 ∷ s.ExprFields ∷ k) (e, (record { names = ns; trees = es; semi = semi }, vs))
+        (whole_by e ((tree_fields_tail ns es ++ close_fields semi) ++ zs) (past (i + 1) (write_called c) + 1) s.ExprFields k (record { names = ns; trees = es; semi = semi }, vs) (λ m zs j q c us. reads_expr e m zs j q c us) refl m.0 p.1 (fields_follow ns es semi zs)
+        (reads_fields ns es semi zs (past (past (i + 1) (write_called c) + 1) (write e)) k vs l.1 m.1 p.2 (rw field_past at h)))),
+  ) refl
 
   -- what is in parentheses
   reads_members : (ts : SyntaxTrees) (cs : List Called) (zs : List Lexeme) (i : ℕ) (k : List Symbol) (vs : Vals k) → AreLevel ts → PlacedCommas i ts → Reads (s.Dots ∷ k) zs (past i (write_list ts ++ (mark t.RParen ∷ []))) (cs, vs) → MembersRead ts cs zs i k vs
@@ -183,11 +214,11 @@ mutual
   -- after the first expression in parentheses
   reads_close : (es : SyntaxTrees) (cs : List Called) (ys : List Lexeme) (i : ℕ) (k : List Symbol) (vs : Vals k) → AreLevel es → PlacedCommas (i + 1) es → Reads (s.Dots ∷ k) ys (past i (write_tail es ++ (mark t.RParen ∷ []))) (cs, vs) → Reads (s.GroupRest ∷ k) ((write_tail es ++ (mark t.RParen ∷ [])) ++ ys) i (closes_group es cs, vs)
   reads_close none cs ys i k vs l p h = rw h refl
-  reads_close (more e es) cs ys i k vs l p h = rw (regroup (write e) (write_tail es) (mark t.RParen ∷ []) ys, whole_by e ((write_tail es ++ (mark t.RParen ∷ [])) ++ ys) (i + 1) s.More (s.Dots ∷ k) (es, (cs, vs)) (λ m zs j q c us. reads_expr e m zs j q c us) refl l.0 p.0 (comma_follow es ys) (reads_more es ys (past (i + 1) (write e)) (s.Dots ∷ k) (cs, vs) l.1 p.1 (rw (append_assoc, past-append) at h))) refl
+  reads_close (more e es) cs ys i k vs l p h = rw (regroup (write e) (write_tail es) (mark t.RParen ∷ []) ys, whole_by e ((write_tail es ++ (mark t.RParen ∷ [])) ++ ys) (i + 1) s.More (s.Dots ∷ k) (es, (cs, vs)) (λ m zs j q c us. reads_expr e m zs j q c us) refl l.0 p.0 (comma_follow es ys) (reads_more es ys (past (i + 1) (write e)) (s.Dots ∷ k) (cs, vs) l.1 p.1 (subst (λ n. Reads (s.Dots ∷ k) ys n (cs, vs)) (tail_past (write e) (write_tail es) (mark t.RParen ∷ []) i) h))) refl
 
   reads_more : (es : SyntaxTrees) (ys : List Lexeme) (i : ℕ) (k : List Symbol) (vs : Vals k) → AreLevel es → PlacedCommas (i + 1) es → Reads k ys (past i (write_tail es ++ (mark t.RParen ∷ []))) vs → Reads (s.More ∷ k) ((write_tail es ++ (mark t.RParen ∷ [])) ++ ys) i (es, vs)
   reads_more none ys i k vs l p h = rw h refl
-  reads_more (more e es) ys i k vs l p h = rw (regroup (write e) (write_tail es) (mark t.RParen ∷ []) ys, whole_by e ((write_tail es ++ (mark t.RParen ∷ [])) ++ ys) (i + 1) s.More k (es, vs) (λ m zs j q c us. reads_expr e m zs j q c us) refl l.0 p.0 (comma_follow es ys) (reads_more es ys (past (i + 1) (write e)) k vs l.1 p.1 (rw (append_assoc, past-append) at h))) refl
+  reads_more (more e es) ys i k vs l p h = rw (regroup (write e) (write_tail es) (mark t.RParen ∷ []) ys, whole_by e ((write_tail es ++ (mark t.RParen ∷ [])) ++ ys) (i + 1) s.More k (es, vs) (λ m zs j q c us. reads_expr e m zs j q c us) refl l.0 p.0 (comma_follow es ys) (reads_more es ys (past (i + 1) (write e)) k vs l.1 p.1 (subst (λ n. Reads k ys n vs) (tail_past (write e) (write_tail es) (mark t.RParen ∷ []) i) h))) refl
 
 end_rest : (b : Bool) (u : ℕ) (j : ℕ) → RestBy b 0 u [] j [] stop tt
 end_rest true u j = (refl, refl)

@@ -2,9 +2,9 @@
 use Rattle.grammar.proofs.reading.Common.{◌≡◌, ℕ, ◌+◌, Bool, true, false, ◌&&◌, cond, List, [], ◌∷◌, ◌++◌, Option, Some, None, refl, sym, ap, ◌∙◌, subst, Terminal, Symbol, same, operators, is_seal, is_tail, sealed, same_true, Lexeme, lx, no_forms, none, args_rest, unscoped, stop, fields_of, ReadingRow, Val, Vals, rows, at_end, blank, by_row, find, values_over, read, with_blank}
 use Rattle.grammar.specs.declared.symbols.Symbol.TheVariants as s
 use Rattle.grammar.proofs.reading.Good.{AllProper, AllRows, Good, Is, Piece, Proper, RowOk, flag, hushed, writes}
-use Rattle.grammar.proofs.reading.FormsBuilt.{as_ok, atype_ok, pat_ok, patom_ok, patoms_ok, pmore_ok, ptuple_ok, qlid_ok, quids_ok, targs_ok, tmore_ok, ttuple_ok, type_ok}
+use Rattle.grammar.proofs.reading.FormsBuilt.{pat_field_ok, pat_fields_ok, as_ok, atype_ok, pat_ok, patom_ok, patoms_ok, pmore_ok, ptuple_ok, qlid_ok, quids_ok, targs_ok, tmore_ok, ttuple_ok, type_ok}
 use Rattle.grammar.proofs.reading.OpenBuilt.{arm_ok, binder_ok, binders_ok, branch_ok, branches_ok, letpats_ok, open_ok, opens_form, scrutinees_ok, terms_ok}
-use Rattle.grammar.proofs.reading.TermsBuilt.{scoped_ok, qhead_ok, aminus_ok, aparen_ok, applied_rows_ok, args_ok, dots_rows_ok, atom_ok, expr_ok, hminus_ok, hparen_ok, more_ok, opend_ok, opname_ok, prim_ok, head_ok, rest_ok, head_rest_ok, tail_ok}
+use Rattle.grammar.proofs.reading.TermsBuilt.{expr_field_ok, expr_fields_ok, scoped_ok, qhead_ok, aminus_ok, aparen_ok, applied_rows_ok, args_ok, dots_rows_ok, atom_ok, expr_ok, hminus_ok, hparen_ok, more_ok, opend_ok, opname_ok, prim_ok, head_ok, rest_ok, head_rest_ok, tail_ok}
 use Rattle.grammar.proofs.reading.PartsBuilt.{algvars_ok, axioms_ok, body_ok, con_ok, fields_ok, id_ok, member_ok, members_ok, op_ok, param_ok, params_ok, pname_ok, pparen_ok, qid_ok, qids_ok, qop_ok, tvars_ok, typedef_ok, upper_ok, value_ok, algs_ok, record_field_ok, record_next_ok, record_rest_ok}
 use Rattle.grammar.proofs.reading.DeclsBuilt.{clause_ok, clauses_ok, cloned_ok, decls_ok, elem_ok, elems_ok, elvars_ok, file_ok, path_ok, renamed_ok, subst_ok, used_ok}
 use Rattle.grammar.proofs.reading.Reading.{unmapped}
@@ -35,6 +35,10 @@ all_ok s.Scoped = scoped_ok
 all_ok s.Qhead = qhead_ok
 all_ok s.Applied = applied_rows_ok
 all_ok s.Dots = dots_rows_ok
+all_ok s.PatFields = pat_fields_ok
+all_ok s.PatField = pat_field_ok
+all_ok s.ExprFields = expr_fields_ok
+all_ok s.ExprField = expr_field_ok
 all_ok s.Opname = opname_ok
 all_ok s.Opend = opend_ok
 all_ok s.Hparen = hparen_ok
@@ -171,12 +175,12 @@ over_good xs x i p f b [] vs h = cc
 over_good xs x i p f b (s ∷ k) vs h = by_seal (sealed b s) (hush b s) h (λ c us e. over_good xs x i p f c k us e)
   where
     by_row_found : (o : Option (ReadingRow s)) → find (rows s) x.terminal ≡ o → hushed b s ≡ false → by_row s k (λ k'. read xs (i + 1) false k') i x.text o (with_blank s k (blank s) (values_over (λ k'. read xs (i + 1) false k') i x (is_seal s) k)) ≡ Some vs → ((c : Bool) (us : Vals k) → values_over (λ k'. read xs (i + 1) false k') i x c k ≡ Some us → Good c k i (x ∷ xs) us) → Good b (s ∷ k) i (x ∷ xs) vs
-    by_row_found (Some r) e n g q = let m = unmapped (λ us. r.act k i x.text us) (read xs (i + 1) false (r.behind k)) vs g in
+    by_row_found (Some r) e n g q = let m = unmapped (λ us. r.act k i x.text us) (read xs (i + 1) false (r.following k)) vs g in
         let d = found s (rows s) x.terminal r (all_ok s) e in
         subst (λ v. Piece (hushed b s) s (λ c j ys. Good c k j ys v.1) i (x ∷ xs) v.0) m.2
         (subst (λ v. Piece v s (λ c j ys. Good c k j ys (r.act k i x.text m.0).1) i (x ∷ xs) (r.act k i x.text m.0).0) (hush false s ∙ sym n)
         (subst (λ y. Good false (s ∷ k) i (lx y x.text ∷ xs) (r.act k i x.text m.0)) d.first
-        (d.ok k i x.text xs m.0 (subst (λ y. Proper y x.text) (sym d.first) p) (f (r.behind k) m.0 m.1))))
+        (d.ok k i x.text xs m.0 (subst (λ y. Proper y x.text) (sym d.first) p) (f (r.following k) m.0 m.1))))
     by_row_found None e n g q = let w = both s k (blank s) (values_over (λ k'. read xs (i + 1) false k') i x (is_seal s) k) vs g in
         passed_good b s k i (x ∷ xs) vs w.value (subst (λ v. Good (cond v true (is_seal s)) k i (x ∷ xs) vs.1) (sym n) (q (is_seal s) vs.1 w.others))
 

@@ -137,4 +137,4 @@ module _ (a : Symbol) (i : ℕ) (is placed : Val a → Type 0) (write : Val a �
       subst (CompletesWith is write xs) (sym e) (record { strings = map string ys; are = are_strings ys; tree = r.0; of = (only_read a i is placed write w (xs ++ more) r.0 (proper_spelled xs ys p) r.1).of })
 
   pub completable : Begins is write xs → (ys : List Terminal) × (accepts (a ∷ []) (found ++ ys) ≡ true)
-  completable b = (terminals b.behind, ap (λ v. accepts (a ∷ []) (v ++ terminals b.behind)) (sym same) ∙ ap (accepts (a ∷ [])) (sym (ap terminals b.of.tokens ∙ terminals_append xs b.behind)) ∙ tree_accepted a i is placed write w b.tree b.of.right)
+  completable b = (terminals b.following, ap (λ v. accepts (a ∷ []) (v ++ terminals b.following)) (sym same) ∙ ap (accepts (a ∷ [])) (sym (ap terminals b.of.tokens ∙ terminals_append xs b.following)) ∙ tree_accepted a i is placed write w b.tree b.of.right)

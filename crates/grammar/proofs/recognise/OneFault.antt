@@ -11,8 +11,8 @@ module _ (text : List ℕ) (ts : List Token) where
   -- a source begins with fewer tokens too
   begins_front : (m k : ℕ) → Begins IsLevelFile write_file (take (m + k) tokens) → Begins IsLevelFile write_file (take m tokens)
   begins_front m k b =
-      let more : List Lexeme = take k (drop m tokens) ++ b.behind in
-      let is : write_file b.tree ≡ take m tokens ++ more = b.of.tokens ∙ ap (λ v. v ++ b.behind) (take-add m k tokens) ∙ append_assoc (take m tokens) (take k (drop m tokens)) b.behind in
+      let more : List Lexeme = take k (drop m tokens) ++ b.following in
+      let is : write_file b.tree ≡ take m tokens ++ more = b.of.tokens ∙ ap (λ v. v ++ b.following) (take-add m k tokens) ∙ append_assoc (take m tokens) (take k (drop m tokens)) b.following in
       let whole : accepts (s.File ∷ []) (terminals (take m tokens) ++ terminals more) ≡ true = ap (accepts (s.File ∷ [])) (sym (ap terminals is ∙ terminals_append (take m tokens) more)) ∙ tree_accepted s.File 0 IsLevelFile (PlacedFile 0) write_file (whole_file 0) b.tree b.of.right in
       let r = accepted_begins (s.File ∷ []) (terminals (take m tokens)) (terminals more) whole in
       taken_begins s.File 0 IsLevelFile (PlacedFile 0) write_file (whole_file 0) (take m tokens) r.0 (proper_take m tokens (proper_rest text ts 0)) r.1

@@ -142,9 +142,9 @@ param i (param_types fs) = record { names = []; of_type = enclosed (at i) fs }
 abbrev pub lone : ℕ → Word → SyntaxForm
 lone i w = composed (at i) (called i [] (lower w)) no_forms
 
-abbrev pub behind_paren : ℕ → Word → NamePart → ParamPart
-behind_paren i w (name_names ns f) = param_names (name i w ∷ ns) f
-behind_paren i w (name_types ts fs) =
+abbrev pub after_paren : ℕ → Word → NamePart → ParamPart
+after_paren i w (name_names ns f) = param_names (name i w ∷ ns) f
+after_paren i w (name_types ts fs) =
     param_types (more_forms (composed (at i) (called i [] (lower w)) ts) fs)
 
 abbrev pub name_before : ℕ → Word → NamePart → NamePart

@@ -1,5 +1,5 @@
 -- What the rules of terms are read as, before it is part of a tree.
-use Rattle.grammar.specs.reading.Common.{Name, Word, access, at, Called, SyntaxForm, SyntaxForms, Own, aliased, called, lower, infix_op, more_forms, no_forms, prefix_op, upper, TypedBinder, Branches, OperatorToken, SyntaxTree, SyntaxTrees, SyntaxTrigger, apply, binary, binding, binds, branch, cases, cast, choice, falsity, group, literal, more, negation, none, prefixed, quantified, truth}
+use Rattle.grammar.specs.reading.Common.{Name, Word, access, fielded_form, fielded_tree, at, Called, SyntaxForm, SyntaxForms, Own, aliased, called, lower, infix_op, more_forms, no_forms, prefix_op, upper, TypedBinder, Branches, OperatorToken, SyntaxTree, SyntaxTrees, SyntaxTrigger, apply, binary, binding, binds, branch, cases, cast, choice, falsity, group, literal, more, negation, none, prefixed, quantified, truth}
 use Rattle.std.specs.Prelude.{Bool, true, Option, ℕ, false, List, [], ◌∷◌, Some, None}
 
 pub record Dotted : Type 0 where
@@ -80,6 +80,7 @@ first_token (binary a e o f) = a.first
 first_token (choice a c e f) = a.first
 first_token (cases a es bar bs) = a.first
 first_token (access a e c) = a.first
+first_token (fielded_tree a cs es semi) = a.first
 first_token (binding a ps e f) = a.first
 first_token (quantified a all bs g e) = a.first
 
@@ -113,9 +114,9 @@ paren i (nothing cs) = accessed i (group (at i) none) cs
 paren i (named_operator o p ts) = apply (at i) (called i [] (own_op p o)) ts
 paren i (holds e c) = closed_group i e c
 
-abbrev pub behind_minus : OperatorToken → Minus → Paren
-behind_minus o (named_by p ts) = named_operator o p ts
-behind_minus o (operand e c z) = holds (attach (prefixed (at o.at) o e) c) z
+abbrev pub after_minus : OperatorToken → Minus → Paren
+after_minus o (named_by p ts) = named_operator o p ts
+after_minus o (operand e c z) = holds (attach (prefixed (at o.at) o e) c) z
 
 abbrev pub scope_own : Word → Option Scoped → Scoped
 scope_own w None = record { scopes = []; own = upper w }
@@ -138,6 +139,29 @@ pub record ArmPart : Type 0 where
   pub alternatives : List SyntaxForms
   pub body : SyntaxTree
   pub others : Branches
+
+-- the fields of a record after the first one, with their patterns or values
+pub record FormFields : Type 0 where
+  pub names : List Called
+  pub forms : SyntaxForms
+  pub semi : Bool
+
+pub record TreeFields : Type 0 where
+  pub names : List Called
+  pub trees : SyntaxTrees
+  pub semi : Bool
+
+abbrev pub next_form : Called → SyntaxForm → FormFields → FormFields
+next_form c p r = record { names = c ∷ r.names; forms = more_forms p r.forms; semi = r.semi }
+
+abbrev pub next_field_tree : Called → SyntaxTree → TreeFields → TreeFields
+next_field_tree c e r = record { names = c ∷ r.names; trees = more e r.trees; semi = r.semi }
+
+abbrev pub record_form : ℕ → Called → SyntaxForm → FormFields → SyntaxForm
+record_form i c p r = fielded_form (at i) (c ∷ r.names) (more_forms p r.forms) r.semi
+
+abbrev pub record_tree : ℕ → Called → SyntaxTree → TreeFields → SyntaxTree
+record_tree i c e r = fielded_tree (at i) (c ∷ r.names) (more e r.trees) r.semi
 
 -- after `with`
 pub record BranchPart : Type 0 where

@@ -3,7 +3,7 @@ use Rattle.std.specs.Prelude.{◌++◌}
 use Rattle.grammar.specs.reading.Common.{Algebraic, Bool, Option, refl, sym, ◌∙◌, append_assoc, Terminal, Symbol, Name, Word, Called, SyntaxForm, SyntaxForms, Branches, SyntaxTree, SyntaxTrees, Path, SyntaxDeclarations, Element, Member, ParamGroup, SyntaxTheory}
 use Rattle.std.proofs.Common.{◌≡◌, ℕ, List, [], ◌∷◌}
 use Rattle.grammar.specs.declared.symbols.Symbol.TheVariants as s
-use Rattle.grammar.specs.reading.Parts.{NameRest, ArmPart, BinderPart, BoundPart, BranchPart, CasesPart, Chain, Closing, Dotted, Headed, LetPart, Minus, OperatorName, Paren, Scoped, TermsPart, UpperRest}
+use Rattle.grammar.specs.reading.Parts.{FormFields, TreeFields, NameRest, ArmPart, BinderPart, BoundPart, BranchPart, CasesPart, Chain, Closing, Dotted, Headed, LetPart, Minus, OperatorName, Paren, Scoped, TermsPart, UpperRest}
 use Rattle.grammar.specs.reading.DeclParts.{AlgPart, BodyPart, ClausePart, ClausesPart, ClonedPart, ConPart, FieldsPart, MemberPart, NamePart, ParamPart, TvarsPart, TypePart, UpperPart, UsedPart, VarsPart, RecordPart}
 
 -- what a symbol is read as
@@ -33,6 +33,10 @@ Val s.Scoped = Option Scoped
 Val s.Qhead = Scoped
 Val s.Applied = NameRest
 Val s.Dots = List Called
+Val s.PatFields = FormFields
+Val s.PatField = FormFields
+Val s.ExprFields = TreeFields
+Val s.ExprField = TreeFields
 Val s.Opname = OperatorName
 Val s.Opend = Bool
 Val s.Hparen = Paren
@@ -103,16 +107,16 @@ back (s ∷ ss) k vs = back ss k vs.1
 -- A row reads its token, number i, and the values of what comes after it as a value of the rule.
 pub record ReadingRow (s : Symbol) : Type 0 where
   pub first : Terminal
-  pub behind : List Symbol → List Symbol
+  pub following : List Symbol → List Symbol
   pub symbols : List Symbol
-  pub flat : (k : List Symbol) → behind k ≡ symbols ++ k
-  pub act : (k : List Symbol) → ℕ → Word → Vals (behind k) → Val s × Vals k
+  pub flat : (k : List Symbol) → following k ≡ symbols ++ k
+  pub act : (k : List Symbol) → ℕ → Word → Vals (following k) → Val s × Vals k
 
 abbrev pub row : (s : Symbol) → Terminal → (ss : List Symbol) → (ℕ → Word → Vals ss → Val s)
     → ReadingRow s
 row s x ss f = record {
   first = x;
-  behind = λ k. ss ++ k;
+  following = λ k. ss ++ k;
   symbols = ss;
   flat = λ k. refl;
   act =
@@ -124,7 +128,7 @@ abbrev pub then_row : (s a : Symbol) (ss : List Symbol) → (Val a → Vals ss �
     → ReadingRow s
 then_row s a ss f r = record {
   first = r.first;
-  behind = λ k. r.behind (ss ++ k);
+  following = λ k. r.following (ss ++ k);
   symbols =
       r.symbols ++ ss;
   flat = λ k. r.flat (ss ++ k) ∙ sym (append_assoc r.symbols ss k);

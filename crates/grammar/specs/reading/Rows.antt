@@ -3,11 +3,11 @@ use Rattle.std.specs.Prelude.{◌&&◌, ◌++◌, ◌+◌}
 use Rattle.grammar.specs.reading.Common.{Bool, true, cond, nat_le, Option, Terminal, Symbol, at, name, Word, called, composed, enclosed, lower, more_forms, no_forms, star, type_variable, variable, wild, Called, upper, SyntaxTree, apply, binding, cases, choice, falsity, literal, more, negation, no_branch, none, op, prefixed, quantified, triggered, truth, untriggered, Name, Link, Path, Element, all_axioms, clone_decl, constant_decl, function_decl, inductive_decl, more_decls, no_decls, predicate_decl, prop_decl, prop_element, scope_decl, symbol_element, type_element, use_decl, operators}
 use Rattle.std.proofs.Common.{ℕ, false, List, [], ◌∷◌, Some, None}
 use Rattle.tokens_why.specs.Operators.{prec, need, right}
-use Rattle.grammar.specs.reading.Parts.{scope_own, accessed, with_rest, args_rest, attach, behind_minus, dots_rest, headed_tree, scopes_name, lower_called, unscoped, binder_with, branch_of, link, named_operator, named_at, named_by, next_alternative, next_pattern, next_term, nothing, own_op, paren, upper_head, upper_called, cast_to, closes_group, holds, operand, scope_on}
+use Rattle.grammar.specs.reading.Parts.{next_form, next_field_tree, record_form, record_tree, scope_own, accessed, with_rest, args_rest, attach, after_minus, dots_rest, headed_tree, scopes_name, lower_called, unscoped, binder_with, branch_of, link, named_operator, named_at, named_by, next_alternative, next_pattern, next_term, nothing, own_op, paren, upper_head, upper_called, cast_to, closes_group, holds, operand, scope_on}
 use Rattle.grammar.specs.reading.Row.{ReadingRow, Val, extend, row}
 use Rattle.surface.specs.declared.declarations.PropKind.{PropKind}
 use Rattle.surface.specs.declared.declarations.SymbolWord.{SymbolWord}
-use Rattle.grammar.specs.reading.DeclParts.{ClonedPart, UsedPart, name_before, behind_paren, fields_of, is_algebraic, is_alias, name_names, name_types, new_algebraic, new_constructor, new_inductive, new_member, param, path_on, prop_called, scope_called, scope_of, typed_as, upper_type, with_clause, with_constructor, param_types, record_field, next_field, with_fields}
+use Rattle.grammar.specs.reading.DeclParts.{ClonedPart, UsedPart, name_before, after_paren, fields_of, is_algebraic, is_alias, name_names, name_types, new_algebraic, new_constructor, new_inductive, new_member, param, path_on, prop_called, scope_called, scope_of, typed_as, upper_type, with_clause, with_constructor, param_types, record_field, next_field, with_fields}
 use Rattle.tokens_why.specs.declared.terminal.Terminal.TheVariants as t
 use Rattle.grammar.specs.declared.symbols.Symbol.TheVariants as s
 use Rattle.surface.specs.declared.declarations.PropKind.TheVariants as pk
@@ -41,7 +41,9 @@ patom_rows = row s.Patom t.Wild [] (λ i w vs. wild (at i))
     ∷ row s.Patom t.Lident [] (λ i w vs. variable (at i) (name i w))
     ∷ row s.Patom t.Uident (s.Quids ∷ [])
     (λ i w vs. composed (at i) (upper_called i w vs.0) no_forms)
-    ∷ row s.Patom t.LParen (s.Ptuple ∷ []) (λ i w vs. enclosed (at i) vs.0) ∷ []
+    ∷ row s.Patom t.LParen (s.Ptuple ∷ []) (λ i w vs. enclosed (at i) vs.0)
+    ∷ row s.Patom t.LBrace (s.Qlid ∷ s.Take t.Equal ∷ s.Pat ∷ s.PatFields ∷ [])
+    (λ i w vs. record_form i (lower_called (i + 1) vs.0) vs.1.1.0 vs.1.1.1.0) ∷ []
 
 abbrev pub pat_rows : List (ReadingRow s.Pat)
 pat_rows = row s.Pat t.Wild (s.AsPart ∷ []) (λ i w vs. named_at i (wild (at i)) vs.0)
@@ -49,7 +51,10 @@ pat_rows = row s.Pat t.Wild (s.AsPart ∷ []) (λ i w vs. named_at i (wild (at i
     ∷ row s.Pat t.Uident (s.Quids ∷ s.Patoms ∷ s.AsPart ∷ [])
     (λ i w vs. named_at i (composed (at i) (upper_called i w vs.0) vs.1.0) vs.1.1.0)
     ∷ row s.Pat t.LParen (s.Ptuple ∷ s.AsPart ∷ [])
-    (λ i w vs. named_at i (enclosed (at i) vs.0) vs.1.0) ∷ []
+    (λ i w vs. named_at i (enclosed (at i) vs.0) vs.1.0)
+    ∷ row s.Pat t.LBrace (s.Qlid ∷ s.Take t.Equal ∷ s.Pat ∷ s.PatFields ∷ s.AsPart ∷ [])
+    (λ i w vs. named_at i
+    (record_form i (lower_called (i + 1) vs.0) vs.1.1.0 vs.1.1.1.0) vs.1.1.1.1.0) ∷ []
 
 abbrev pub prim_rows : List (ReadingRow s.Prim)
 prim_rows =
@@ -62,7 +67,10 @@ prim_rows =
     ∷ row s.Prim t.FalseWord [] (λ i w vs. falsity (at i))
     ∷ row s.Prim t.MatchWord (s.Expr 0 ∷ s.Scrutinees ∷ s.Dots ∷ [])
     (λ i w vs. accessed i
-    (cases (at i) (more vs.0 vs.1.0.others) vs.1.0.bar vs.1.0.branches) vs.1.1.0) ∷ []
+    (cases (at i) (more vs.0 vs.1.0.others) vs.1.0.bar vs.1.0.branches) vs.1.1.0)
+    ∷ row s.Prim t.LBrace (s.Qlid ∷ s.Take t.Equal ∷ s.Expr 0 ∷ s.ExprFields ∷ s.Dots ∷ [])
+    (λ i w vs. accessed i
+    (record_tree i (lower_called (i + 1) vs.0) vs.1.1.0 vs.1.1.1.0) vs.1.1.1.1.0) ∷ []
 
 abbrev pub atom_rows : List (ReadingRow s.Atom)
 atom_rows = row s.Atom t.Lident (s.Dots ∷ [])
@@ -75,7 +83,10 @@ atom_rows = row s.Atom t.Lident (s.Dots ∷ [])
     ∷ row s.Atom t.FalseWord [] (λ i w vs. falsity (at i))
     ∷ row s.Atom t.MatchWord (s.Expr 0 ∷ s.Scrutinees ∷ s.Dots ∷ [])
     (λ i w vs. accessed i
-    (cases (at i) (more vs.0 vs.1.0.others) vs.1.0.bar vs.1.0.branches) vs.1.1.0) ∷ []
+    (cases (at i) (more vs.0 vs.1.0.others) vs.1.0.bar vs.1.0.branches) vs.1.1.0)
+    ∷ row s.Atom t.LBrace (s.Qlid ∷ s.Take t.Equal ∷ s.Expr 0 ∷ s.ExprFields ∷ s.Dots ∷ [])
+    (λ i w vs. accessed i
+    (record_tree i (lower_called (i + 1) vs.0) vs.1.1.0 vs.1.1.1.0) vs.1.1.1.1.0) ∷ []
 
 abbrev pub args_rows : List (ReadingRow s.Args)
 args_rows = extend s.Args s.Atom (s.Args ∷ []) (λ v vs. more v vs.0) atom_rows
@@ -173,7 +184,7 @@ abbrev pub hop_row : Terminal → ReadingRow s.Hparen
 hop_row o = row s.Hparen o (s.Opend ∷ s.Args ∷ []) (λ i w vs. named_operator (op i o w) vs.0 vs.1.0)
 
 abbrev pub hminus_row : Terminal → ReadingRow s.Hparen
-hminus_row o = row s.Hparen o (s.Hminus ∷ []) (λ i w vs. behind_minus (op i o w) vs.0)
+hminus_row o = row s.Hparen o (s.Hminus ∷ []) (λ i w vs. after_minus (op i o w) vs.0)
 
 abbrev pub hparen_own : List (ReadingRow s.Hparen)
 hparen_own = row s.Hparen t.RParen (s.Dots ∷ []) (λ i w vs. nothing vs.0) ∷ hop_row t.Equal
@@ -189,7 +200,7 @@ abbrev pub aop_row : Terminal → ReadingRow s.Aparen
 aop_row o = row s.Aparen o (s.Opend ∷ []) (λ i w vs. named_operator (op i o w) vs.0 none)
 
 abbrev pub aminus_row : Terminal → ReadingRow s.Aparen
-aminus_row o = row s.Aparen o (s.Aminus ∷ []) (λ i w vs. behind_minus (op i o w) vs.0)
+aminus_row o = row s.Aparen o (s.Aminus ∷ []) (λ i w vs. after_minus (op i o w) vs.0)
 
 abbrev pub aparen_own : List (ReadingRow s.Aparen)
 aparen_own = row s.Aparen t.RParen (s.Dots ∷ []) (λ i w vs. nothing vs.0) ∷ aop_row t.Equal
@@ -286,7 +297,7 @@ op_rows = row s.Op t.Lident [] (λ i w vs. called i [] (lower w))
     ∷ row s.Op t.LParen (s.Opname ∷ []) (λ i w vs. called i [] (own_op vs.0.prefix vs.0.op)) ∷ []
 
 abbrev pub pparen_own : List (ReadingRow s.Pparen)
-pparen_own = row s.Pparen t.Lident (s.Pname ∷ []) (λ i w vs. behind_paren i w vs.0) ∷ []
+pparen_own = row s.Pparen t.Lident (s.Pname ∷ []) (λ i w vs. after_paren i w vs.0) ∷ []
 
 abbrev pub pname_own : List (ReadingRow s.Pname)
 pname_own = row s.Pname t.Colon (s.TypeOf ∷ s.Take t.RParen ∷ []) (λ i w vs. name_names [] vs.0)
@@ -348,6 +359,28 @@ rows (s.Tail m u) = tail_rows m u operators
 rows s.Prim = prim_rows
 rows s.Atom = atom_rows
 rows s.Args = args_rows
+rows s.PatFields = row s.PatFields t.RBrace []
+    (λ i w vs. record { names = []; forms = no_forms; semi = false })
+    ∷ row s.PatFields t.Semi (s.PatField ∷ []) (λ i w vs. vs.0) ∷ []
+rows s.PatField = row s.PatField t.RBrace []
+    (λ i w vs. record { names = []; forms = no_forms; semi = true })
+    ∷ row s.PatField t.Lident (s.Take t.Equal ∷ s.Pat ∷ s.PatFields ∷ [])
+    (λ i w vs. next_form (called i [] (lower w)) vs.1.0 vs.1.1.0)
+    ∷ row s.PatField t.Uident
+    (s.Take t.Dot ∷ s.Qlid ∷ s.Take t.Equal ∷ s.Pat ∷ s.PatFields ∷ [])
+    (λ i w vs. next_form
+    (called i (w ∷ vs.1.0.scopes) (lower vs.1.0.last)) vs.1.1.1.0 vs.1.1.1.1.0) ∷ []
+rows s.ExprFields = row s.ExprFields t.RBrace []
+    (λ i w vs. record { names = []; trees = none; semi = false })
+    ∷ row s.ExprFields t.Semi (s.ExprField ∷ []) (λ i w vs. vs.0) ∷ []
+rows s.ExprField = row s.ExprField t.RBrace []
+    (λ i w vs. record { names = []; trees = none; semi = true })
+    ∷ row s.ExprField t.Lident (s.Take t.Equal ∷ s.Expr 0 ∷ s.ExprFields ∷ [])
+    (λ i w vs. next_field_tree (called i [] (lower w)) vs.1.0 vs.1.1.0)
+    ∷ row s.ExprField t.Uident
+    (s.Take t.Dot ∷ s.Qlid ∷ s.Take t.Equal ∷ s.Expr 0 ∷ s.ExprFields ∷ [])
+    (λ i w vs. next_field_tree
+    (called i (w ∷ vs.1.0.scopes) (lower vs.1.0.last)) vs.1.1.1.0 vs.1.1.1.1.0) ∷ []
 rows s.Dots = row s.Dots t.Dot (s.Qlid ∷ s.Dots ∷ [])
     (λ i w vs. lower_called (i + 1) vs.0 ∷ vs.1.0) ∷ []
 rows s.Applied = applied_own ++ extend s.Applied s.Args [] (λ v vs. args_rest v) args_rows

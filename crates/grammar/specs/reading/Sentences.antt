@@ -40,9 +40,9 @@ pub record IsOnly {V : Type 0} (is stands : V → Type 0) (write : V → List Le
 pub record Begins {V : Type 0} (is : V → Type 0) (write : V → List Lexeme)
     (xs : List Lexeme) : Type 0 where
   pub tree : V
-  pub behind : List Lexeme
-  pub stand : AllStand behind
-  pub of : IsOf is write (xs ++ behind) tree
+  pub following : List Lexeme
+  pub stand : AllStand following
+  pub of : IsOf is write (xs ++ following) tree
 
 -- Where tokens that are of no right tree go wrong: the first n begin one, and with the next one, if
 -- there is one, they begin none.

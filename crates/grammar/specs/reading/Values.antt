@@ -50,7 +50,7 @@ with_blank s k (Some v) None = None
 
 abbrev pub by_row : (s : Symbol) (k : List Symbol) → ((k : List Symbol) → Option (Vals k)) → ℕ
     → Word → Option (ReadingRow s) → Option (Val s × Vals k) → Option (Val s × Vals k)
-by_row s k rest i w (Some r) other = option_map (λ vs. r.act k i w vs) (rest (r.behind k))
+by_row s k rest i w (Some r) other = option_map (λ vs. r.act k i w vs) (rest (r.following k))
 by_row s k rest i w None other = other
 
 abbrev pub values_over : ((k : List Symbol) → Option (Vals k)) → ℕ → Lexeme → Bool

@@ -8,12 +8,12 @@ pub use Rattle.parser.specs.parse_decls.Clauses.{clauses_part, IsClause, IsReadI
 pub use Rattle.parser.specs.parse_decls.Clones.{symbol_word_of, begins_symbol, prop_kind}
 pub use Rattle.parser.specs.parse_decls.Files.{IsReadFile, begins_theory, IsTheory}
 pub use Rattle.parser.specs.parse_decls.Params.{IsParam, begins_names, names_before_colon}
-pub use Rattle.parser.specs.parse_decls.Types.{constructor_at, IsReadAlgebraic, IsCon, fields_part, begins_constructor, IsConstructor, alg_part, con_part, AreTypeVariablesAt, IsReadNames, IsConstructors, IsReadBody, IsRecord, begins_algebraic, goes_on_with_field, record_part}
+pub use Rattle.parser.specs.parse_decls.Types.{constructor_at, IsReadAlgebraic, IsCon, fields_part, begins_constructor, IsConstructor, alg_part, con_part, AreTypeVariablesAt, IsReadNames, IsConstructors, IsReadBody, IsRecord, begins_algebraic, record_part}
 pub use Rattle.parser.proofs.parse_terms.Steps.{stands, pass, missed, again, take, next_expr, can_run, stands_by, reread, begins, only, many, extended, start, next_within, stands_due, can_next, and_cases, many_more, next, done, extended_due, follow, none_of, unexpand, expand}
 pub use Rattle.parser.proofs.parse_terms.TextsRead.{lower_own, variable_text, upper_text}
-pub use Rattle.parser.specs.parse_terms.Reading.{from}
+pub use Rattle.parser.specs.parse_terms.Reading.{from, goes_on_with_field}
 pub use Rattle.grammar.proofs.reading.Inverse.{from_end}
-pub use Rattle.grammar.specs.reading.DeclParts.{new_member, name_names, NamePart, TvarsPart, param, AlgPart, ClausesPart, with_constructor, behind_paren, param_types, FieldsPart, is_algebraic, with_clause, scope_of, prop_called, typed_as, upper_type, name_before, new_inductive, new_algebraic, scope_called, param_names, ParamPart, name_types, is_alias, VarsPart, fields_of, record_field, next_field, with_fields}
+pub use Rattle.grammar.specs.reading.DeclParts.{new_member, name_names, NamePart, TvarsPart, param, AlgPart, ClausesPart, with_constructor, after_paren, param_types, FieldsPart, is_algebraic, with_clause, scope_of, prop_called, typed_as, upper_type, name_before, new_inductive, new_algebraic, scope_called, param_names, ParamPart, name_types, is_alias, VarsPart, fields_of, record_field, next_field, with_fields}
 pub use Rattle.grammar.specs.reading.Rows.{axioms_own, pparen_own, use_part, param_own, upper_own, fields_rows, fields_own, cloned, axioms_of, record_next_own}
 pub use Rattle.surface.proofs.DeclLemmas.{decl_of_node-Function, decl_of_node-Inductive, decl_of_node-Algebraic, decl_of_node-Prop, decl_of_node-Constant, decl_of_node-Predicate, decl_of_node-TypeDecl, decl_of_node-CloneTheory, decl_of_node-UseTheory, decl_of_node-ScopeDecl}
 pub use Rattle.surface.specs.Declarations.{ParamGroup, Member, inductive_decl, algebraic_decl, type_element, prop_word, Element, clone_decl, no_decls, use_decl, more_decls, scope_decl, type_decl, function_decl, Constructor, Algebraic, prop_decl, SyntaxDeclarations, prop_element, symbol_element, constant_decl, Inductive, all_axioms, predicate_decl, SyntaxDeclaration, SyntaxTheory, Clause}

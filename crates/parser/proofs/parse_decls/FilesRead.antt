@@ -60,7 +60,7 @@ abbrev pub Theories : List Lexeme → List SyntaxTheory → ℕ → Type 0
 Theories xs ts j = Begun xs 0 (λ k. s.File ∷ k) 0 (λ k. s.File ∷ k) (λ k us. (ts ++ us.0, us.1)) j
 
 pub can_file : {xs : List Lexeme} → IsReadFile xs → CanRead xs s.File 0
-can_file f = record { within = omega arith; behind = []; values = f.value; reads = f.reads }
+can_file f = record { within = omega arith; following = []; values = f.value; reads = f.reads }
 
 module _ (xs : List Lexeme) (ts : List SyntaxTheory) (j : ℕ) (g : Theories xs ts j) where
   pub theories_done : begins_theory (terminal_at xs j) ≡ false → IsReadFile xs → read xs 0 false (s.File ∷ []) ≡ Some (ts, tt)

@@ -1,5 +1,5 @@
 -- What follows where parameters are read.
-use Rattle.parser.proofs.parse_decls.Common.{◌≡◌, ℕ, zero, suc, ◌+◌, ◌<◌, ◌≤◌, ◌⊎◌, inl, inr, Bool, true, false, ◌&&◌, if◌then◌else◌, List, [], ◌∷◌, ◌++◌, length, Some, None, refl, sym, ap, ◌∙◌, subst, arith, get_or_past, Terminal, Symbol, same, same_true, Name, Lexeme, at, name, SyntaxForm, SyntaxForms, called, composed, enclosed, lower, more_forms, no_forms, type_variable, ParamGroup, NamePart, ParamPart, name_before, behind_paren, name_names, name_types, param, param_types, ReadingRow, Vals, row, then_row, param_own, pparen_own, rows, find, read, below_or, by_first, first_row, from_cons, from_end, stands_within, Begun, CanRead, CanRun, IsRead, begins_atype, from, nowhere, lexemes_from, terminal_at, token_at, again, and_cases, done, expand, extended, extended_due, many, many_more, missed, next, only, reread, stands, stands_by, start, unexpand, IsParam, begins_names, names_before_colon}
+use Rattle.parser.proofs.parse_decls.Common.{◌≡◌, ℕ, zero, suc, ◌+◌, ◌<◌, ◌≤◌, ◌⊎◌, inl, inr, Bool, true, false, ◌&&◌, if◌then◌else◌, List, [], ◌∷◌, ◌++◌, length, Some, None, refl, sym, ap, ◌∙◌, subst, arith, get_or_past, Terminal, Symbol, same, same_true, Name, Lexeme, at, name, SyntaxForm, SyntaxForms, called, composed, enclosed, lower, more_forms, no_forms, type_variable, ParamGroup, NamePart, ParamPart, name_before, after_paren, name_names, name_types, param, param_types, ReadingRow, Vals, row, then_row, param_own, pparen_own, rows, find, read, below_or, by_first, first_row, from_cons, from_end, stands_within, Begun, CanRead, CanRun, IsRead, begins_atype, from, nowhere, lexemes_from, terminal_at, token_at, again, and_cases, done, expand, extended, extended_due, many, many_more, missed, next, only, reread, stands, stands_by, start, unexpand, IsParam, begins_names, names_before_colon}
 use Rattle.tokens_why.specs.declared.terminal.Terminal.TheVariants as t
 use Rattle.grammar.specs.declared.symbols.Symbol.TheVariants as s
 use Rattle.grammar.proofs.reading.Common.{no_false}
@@ -36,7 +36,7 @@ pname_types (suc n) xs j l c k vs g = by_name (same t.Lident (terminal_at xs j))
     h = stands_within xs s.Pname j k vs refl g
 
     runs : CanRun xs (λ k. s.Pname ∷ k) j
-    runs = let l = h in record { within = omega arith; behind = k; values = vs; reads = g }
+    runs = let l = h in record { within = omega arith; following = k; values = vs; reads = g }
 
     by_row : (y : Terminal) → same y (terminal_at xs j) ≡ true → (ra : ReadingRow s.Atype) → find (rows s.Pname) y ≡ Some (then_row s.Pname s.Atype (s.Targs ∷ s.Tmore ∷ []) (λ v vs. name_types (more_forms v vs.0) vs.1.0) ra) → find (rows s.Targs) y ≡ Some (then_row s.Targs s.Atype (s.Targs ∷ []) (λ v vs. more_forms v vs.0) ra) → (us : SyntaxForms × (SyntaxForms × Vals k)) × (read (lexemes_from xs j) j false (s.Targs ∷ s.Tmore ∷ k) ≡ Some us) × ((name_types us.0 us.1.0, us.1.1) ≡ vs)
     by_row y e ra f a = let p = first_row xs j s.Pname (then_row s.Pname s.Atype (s.Targs ∷ s.Tmore ∷ []) (λ v vs. name_types (more_forms v vs.0) vs.1.0) ra) k vs h (ap (find (rows s.Pname)) (sym (same_true y (terminal_at xs j) e)) ∙ f) g in (
@@ -77,24 +77,24 @@ module _ {xs : List Lexeme} {i : ℕ} (c : CanRead xs s.Pparen i) where
     where
       by_name : (b : Bool) → same t.Lident (terminal_at xs i) ≡ b → Begun xs 0 (λ k. s.Pparen ∷ k) i (λ k. s.Ttuple ∷ k) (λ k us. (param_types us.0, us.1)) i
       by_name true e = let p = expand (start c) t.Lident e refl refl in
-          let q : Begun xs 1 (λ k. s.Pparen ∷ k) i (λ k. s.Targs ∷ s.Tmore ∷ k) (λ k us. (behind_paren i (token_at xs i).text (name_types us.0 us.1.0), us.1.1)) (i + 1) = reread p (λ k. s.Targs ∷ s.Tmore ∷ k) (λ k us. (behind_paren i (token_at xs i).text (name_types us.0 us.1.0), us.1.1)) (λ k us g. (let w = pname_types (length xs) xs (i + 1) (omega arith) (subst (λ b. (b && names_before_colon (from xs (i + 1))) ≡ false) e n) k us g in (w.0, w.1, ap (λ v. (behind_paren i (token_at xs i).text v.0, v.1)) w.2))) in
+          let q : Begun xs 1 (λ k. s.Pparen ∷ k) i (λ k. s.Targs ∷ s.Tmore ∷ k) (λ k us. (after_paren i (token_at xs i).text (name_types us.0 us.1.0), us.1.1)) (i + 1) = reread p (λ k. s.Targs ∷ s.Tmore ∷ k) (λ k us. (after_paren i (token_at xs i).text (name_types us.0 us.1.0), us.1.1)) (λ k us g. (let w = pname_types (length xs) xs (i + 1) (omega arith) (subst (λ b. (b && names_before_colon (from xs (i + 1))) ≡ false) e n) k us g in (w.0, w.1, ap (λ v. (after_paren i (token_at xs i).text v.0, v.1)) w.2))) in
           unexpand s.Ttuple (λ k. k) (λ k us. (param_types us.0, us.1)) i t.Lident e refl refl (omega arith) q
-      by_name false e = extended_due (start c) s.Ttuple [] (λ v vs. param_types v) pparen_own refl refl (missed (row s.Pparen t.Lident (s.Pname ∷ []) (λ i w vs. behind_paren i w vs.0)) [] (terminal_at xs i) e refl)
+      by_name false e = extended_due (start c) s.Ttuple [] (λ v vs. param_types v) pparen_own refl refl (missed (row s.Pparen t.Lident (s.Pname ∷ []) (λ i w vs. after_paren i w vs.0)) [] (terminal_at xs i) e refl)
 
 -- names of a parameter
-abbrev pub behind_each : Name → NamePart → NamePart
-behind_each n p = name_before n.at n.text p
+abbrev pub after_each : Name → NamePart → NamePart
+after_each n p = name_before n.at n.text p
 
-pub named_all : (ns : List Name) (f : SyntaxForm) → many behind_each ns (name_names [] f) ≡ name_names ns f
+pub named_all : (ns : List Name) (f : SyntaxForm) → many after_each ns (name_names [] f) ≡ name_names ns f
 named_all [] f = refl
-named_all (n ∷ ns) f = ap (behind_each n) (named_all ns f)
+named_all (n ∷ ns) f = ap (after_each n) (named_all ns f)
 
 pub record Naming (xs : List Lexeme) (i : ℕ) (ns : List Name) (j : ℕ) : Type 0 where
   pub first : Name
   pub others : List Name
   pub spelled : first ∷ others ≡ ns
   pub names : names_before_colon (from xs j) ≡ true
-  pub is : Begun xs 1 (λ k. s.Pparen ∷ k) i (λ k. s.Pname ∷ k) (λ k us. (behind_paren first.at first.text (many behind_each others us.0), us.1)) j
+  pub is : Begun xs 1 (λ k. s.Pparen ∷ k) i (λ k. s.Pname ∷ k) (λ k us. (after_paren first.at first.text (many after_each others us.0), us.1)) j
 
 pub naming_start : {xs : List Lexeme} {i : ℕ} → CanRead xs s.Pparen i → begins_names xs i ≡ true → Naming xs i (name i (token_at xs i).text ∷ []) (i + 1)
 naming_start {xs} {i} c n = let q = and_cases (same t.Lident (terminal_at xs i)) (names_before_colon (from xs (i + 1))) n in let p = expand (start c) t.Lident q.0 refl refl in record {
@@ -112,14 +112,14 @@ module _ (xs : List Lexeme) (i : ℕ) (ns : List Name) (j : ℕ) (g : Naming xs 
     others = g.others ++ name j (token_at xs j).text ∷ [];
     spelled = ap (λ v. v ++ name j (token_at xs j).text ∷ []) g.spelled;
     names = sym (names_over xs j e) ∙ g.names;
-    is = again p 1 refl (λ k us. ap (λ v. (behind_paren g.first.at g.first.text v, us.1)) (many_more behind_each g.others (name j (token_at xs j).text) us.0));
+    is = again p 1 refl (λ k us. ap (λ v. (after_paren g.first.at g.first.text v, us.1)) (many_more after_each g.others (name j (token_at xs j).text) us.0));
   }
 
   module _ (n : same t.Lident (terminal_at xs j) ≡ false) where
     colon_there : same t.Colon (terminal_at xs j) ≡ true
     colon_there = sym (names_end xs j n) ∙ g.names
 
-    pub type_start : Begun xs 1 (λ k. s.Pparen ∷ k) i (λ k. s.TypeOf ∷ s.Take t.RParen ∷ k) (λ k us. (behind_paren g.first.at g.first.text (many behind_each g.others (name_names [] us.0)), us.1.1)) (j + 1)
+    pub type_start : Begun xs 1 (λ k. s.Pparen ∷ k) i (λ k. s.TypeOf ∷ s.Take t.RParen ∷ k) (λ k us. (after_paren g.first.at g.first.text (many after_each g.others (name_names [] us.0)), us.1.1)) (j + 1)
     type_start = let p = expand g.is t.Colon colon_there refl refl in again p 1 refl (λ k us. refl)
 
 -- a parameter, or fields of one type

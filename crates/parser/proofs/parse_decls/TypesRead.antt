@@ -1,10 +1,11 @@
 -- What follows where type variables, constructors and algebraic types are read.
-use Rattle.parser.proofs.parse_decls.Common.{◌≡◌, ℕ, ◌+◌, ◌<◌, ◌≤◌, ◌⊎◌, inl, inr, Bool, true, false, not, ◌&&◌, ◌||◌, nat_le, List, [], ◌∷◌, ◌++◌, length, Option, Some, None, option_map, refl, sym, ap, ◌∙◌, subst, arith, append_assoc, append-nil, get_or_past, Terminal, Symbol, same, Name, Lexeme, at, name, called, composed, lower, ParamGroup, Algebraic, Constructor, algebraic_decl, more_decls, type_decl, AlgPart, FieldsPart, TvarsPart, VarsPart, fields_of, is_algebraic, is_alias, new_algebraic, scope_of, typed_as, upper_type, with_constructor, fields_own, fields_rows, upper_own, rows, ReadingRow, Val, Vals, extend, row, then_row, blank, find, read, below_or, from_cons, from_end, Begun, CanRead, CanRun, begins_atype, nowhere, lexemes_from, terminal_at, token_at, again, expand, extended, follow, many, missed, only, pass, stands_by, start, take, unexpand, IsDecl, IsReadAlgebraic, IsCon, IsConstructor, IsConstructors, IsReadNames, AreTypeVariablesAt, alg_part, begins_constructor, con_part, constructor_at, fields_part, IsRead, next, IsReadBody, IsRecord, begins_algebraic, goes_on_with_field, record_part, record_field, next_field, record_next_own, with_fields, extended_due}
+use Rattle.parser.proofs.parse_decls.Common.{◌≡◌, ℕ, ◌+◌, ◌<◌, ◌≤◌, ◌⊎◌, inl, inr, Bool, true, false, not, ◌&&◌, ◌||◌, if◌then◌else◌, nat_le, List, [], ◌∷◌, ◌++◌, length, Option, Some, None, option_map, refl, sym, ap, ◌∙◌, subst, arith, append_assoc, append-nil, get_or_past, Terminal, Symbol, same, Name, Lexeme, at, name, called, composed, lower, ParamGroup, Algebraic, Constructor, algebraic_decl, more_decls, type_decl, AlgPart, FieldsPart, TvarsPart, VarsPart, fields_of, is_algebraic, is_alias, new_algebraic, scope_of, typed_as, upper_type, with_constructor, fields_own, fields_rows, upper_own, rows, ReadingRow, Val, Vals, extend, row, then_row, blank, find, read, below_or, from_cons, from_end, Begun, CanRead, CanRun, begins_atype, nowhere, lexemes_from, terminal_at, token_at, again, expand, extended, follow, many, missed, only, pass, stands_by, start, take, unexpand, IsDecl, IsReadAlgebraic, IsCon, IsConstructor, IsConstructors, IsReadNames, AreTypeVariablesAt, alg_part, begins_constructor, con_part, constructor_at, fields_part, IsRead, next, IsReadBody, IsRecord, begins_algebraic, goes_on_with_field, record_part, record_field, next_field, record_next_own, with_fields, extended_due}
 use Rattle.tokens_why.specs.declared.terminal.Terminal.TheVariants as t
 use Rattle.grammar.specs.declared.symbols.Symbol.TheVariants as s
 use Rattle.grammar.specs.Machine.{is_seal}
 use Rattle.grammar.proofs.reading.Reading.{Stops, find_apart, find_extend, passed}
 use Rattle.grammar.proofs.reading.Common.{no_false}
+use Rattle.parser.proofs.parse_terms.RecordsRead.{off_field, on_field}
 use Rattle.parser.proofs.parse_terms.Steps.{all_apart, none_by, none_of, none_where}
 
 le_self : (n : ℕ) → nat_le n n ≡ true
@@ -15,7 +16,7 @@ zero_le n = search (arith)
 
 -- what can be read of the symbols that come next
 pub run_of : {xs : List Lexeme} {n : ℕ} {from : List Symbol → List Symbol} {i : ℕ} (to K : List Symbol → List Symbol) {act : (k : List Symbol) → Vals (to (K k)) → Vals (from k)} {j : ℕ} → Begun xs n from i (λ k. to (K k)) act j → CanRun xs to j
-run_of {xs} {n} {from} {i} to K {act} {j} g = let q = g.reads g.can.behind g.can.values g.can.reads in record { within = g.within; behind = K g.can.behind; values = q.0; reads = q.1 }
+run_of {xs} {n} {from} {i} to K {act} {j} g = let q = g.reads g.can.following g.can.values g.can.reads in record { within = g.within; following = K g.can.following; values = q.0; reads = q.1 }
 
 passed_at : (xs : List Lexeme) (j : ℕ) (a : Symbol) (v : Val a) (k : List Symbol) (us : Vals k) → blank a ≡ Some v → is_seal a ≡ false → find (rows a) (terminal_at xs j) ≡ None → read (lexemes_from xs j) j false k ≡ Some us → read (lexemes_from xs j) j false (a ∷ k) ≡ Some (v, us)
 passed_at xs j a v k us b l f h = passed a v k (lexemes_from xs j) j us b l (by_length (below_or j (length xs))) h
@@ -99,8 +100,8 @@ module _ {xs : List Lexeme} {n : ℕ} {from : List Symbol → List Symbol} {i : 
   abbrev OnlyOthers : Type 0
   OnlyOthers = Begun xs 0 from i (λ k. s.Algs ∷ K k) (λ k us. act k (fields_part [] [] us.0, us.1)) j
 
-  behind_all : (by : (k : List Symbol) → Vals (s.Fields ∷ K k) → Vals (from k)) → ((k : List Symbol) (us : Vals (K k)) → act k (fields_part [] [] [], us) ≡ by k (fields_part [] [] [], us)) → same t.Bar (terminal_at xs j) ≡ false → same t.WithWord (terminal_at xs j) ≡ false → Begun xs 0 from i (λ k. s.Fields ∷ K k) by j
-  behind_all by f b w = let e = fields_none (terminal_at xs j) o b w in let p = pass g refl refl e in
+  after_all : (by : (k : List Symbol) → Vals (s.Fields ∷ K k) → Vals (from k)) → ((k : List Symbol) (us : Vals (K k)) → act k (fields_part [] [] [], us) ≡ by k (fields_part [] [] [], us)) → same t.Bar (terminal_at xs j) ≡ false → same t.WithWord (terminal_at xs j) ≡ false → Begun xs 0 from i (λ k. s.Fields ∷ K k) by j
+  after_all by f b w = let e = fields_none (terminal_at xs j) o b w in let p = pass g refl refl e in
       unpass s.Fields (fields_part [] [] []) K by refl refl e (again p 0 (zero_le n) f)
 
   pub no_fields : NoFields
@@ -108,7 +109,7 @@ module _ {xs : List Lexeme} {n : ℕ} {from : List Symbol → List Symbol} {i : 
     where
       by_with : (b : Bool) → same t.Bar (terminal_at xs j) ≡ false → same t.WithWord (terminal_at xs j) ≡ b → NoFields
       by_with true h w = let l = g.ahead in let p = expand g t.WithWord w refl refl in unexpand s.Fields K (λ k us. act k (fields_part [] us.0.constructors us.0.others, us.1)) j t.WithWord w refl refl (omega arith) p
-      by_with false h w = behind_all (λ k us. act k (fields_part [] us.0.constructors us.0.others, us.1)) (λ k us. refl) h w
+      by_with false h w = after_all (λ k us. act k (fields_part [] us.0.constructors us.0.others, us.1)) (λ k us. refl) h w
 
       by_bar : (b : Bool) → same t.Bar (terminal_at xs j) ≡ b → NoFields
       by_bar true h = let l = g.ahead in let p = expand g t.Bar h refl refl in unexpand s.Fields K (λ k us. act k (fields_part [] us.0.constructors us.0.others, us.1)) j t.Bar h refl refl (omega arith) p
@@ -193,13 +194,8 @@ module _ (xs : List Lexeme) (i : ℕ) (ps : List ParamGroup) (j : ℕ) (g : Reco
   semi_read : same t.Semi (terminal_at xs j) ≡ true → Begun xs 1 (λ k. s.RecordField ∷ s.RecordRest ∷ k) i (λ k. s.RecordNext ∷ k) (λ k us. (g.first, (record_part (g.others ++ us.0.fields) us.0.semi us.0.others, us.1))) (j + 1)
   semi_read e = expand g.is t.Semi e refl refl
 
-  split_test : (b d : Bool) → (b && not d) ≡ true → (b ≡ true) × (d ≡ false)
-  split_test true false h = (refl, refl)
-  split_test true true h = cc
-  split_test false d h = cc
-
   pub record_item : goes_on_with_field (terminal_at xs j) (terminal_at xs (j + 1)) ≡ true → Begun xs 1 (λ k. s.RecordField ∷ s.RecordRest ∷ k) i (λ k. s.RecordField ∷ s.RecordRest ∷ k) (λ k us. (g.first, (record_part (g.others ++ (us.0 ∷ us.1.0.fields)) us.1.0.semi us.1.0.others, us.1.1))) (j + 1)
-  record_item h = let q = split_test (same t.Semi (terminal_at xs j)) (same t.RBrace (terminal_at xs (j + 1))) h in
+  record_item h = let q = on_field (terminal_at xs j) (terminal_at xs (j + 1)) h in
       extended_due (semi_read q.0) s.RecordField (s.RecordRest ∷ []) (λ v vs. next_field v vs.0) record_next_own refl refl (none_by record_next_own (t.RBrace ∷ []) (terminal_at xs (j + 1)) refl (q.1, tt))
 
   pub record_more : goes_on_with_field (terminal_at xs j) (terminal_at xs (j + 1)) ≡ true → (p : ParamGroup) (m : ℕ) → IsRead xs s.RecordField (j + 1) p m → RecordFields xs i (ps ++ p ∷ []) m
@@ -210,28 +206,20 @@ module _ (xs : List Lexeme) (i : ℕ) (ps : List ParamGroup) (j : ℕ) (g : Reco
     is = again (next (record_item h) r) 1 refl (λ k us. ap (λ v. (g.first, (record_part v us.0.semi us.0.others, us.1))) (sym (append_assoc g.others (p ∷ []) us.0.fields)));
   }
 
-  pub record_done : same t.Semi (terminal_at xs j) ≡ false → IsRecord xs i ps false (j + 1)
-  record_done e = record {
+  -- the other brace, after a semicolon or not
+  pub record_closed : goes_on_with_field (terminal_at xs j) (terminal_at xs (j + 1)) ≡ false → (b : Bool) (m : ℕ) → b ≡ same t.Semi (terminal_at xs j) → m ≡ (if b then j + 1 else j) → IsRecord xs i ps b (m + 1)
+  record_closed h true m e q = subst (λ v. IsRecord xs i ps true (v + 1)) (sym q) (record {
     first = g.first;
     others = g.others;
     spelled = g.spelled;
-    is = again (expand g.is t.RBrace (only g.is t.RBrace (t.Semi ∷ []) refl refl (e, tt)) refl refl) 1 refl (λ k us. ap (λ v. (g.first, (record_part v false us.0, us.1))) (append-nil g.others));
-  }
-
-  pub brace_after : same t.Semi (terminal_at xs j) ≡ true → goes_on_with_field (terminal_at xs j) (terminal_at xs (j + 1)) ≡ false → same t.RBrace (terminal_at xs (j + 1)) ≡ true
-  brace_after e h = by_test (same t.RBrace (terminal_at xs (j + 1))) (subst (λ b. (b && not (same t.RBrace (terminal_at xs (j + 1)))) ≡ false) e h)
-    where
-      by_test : (b : Bool) → (true && not b) ≡ false → b ≡ true
-      by_test true h = refl
-      by_test false h = cc
-
-  pub record_done_semi : same t.Semi (terminal_at xs j) ≡ true → goes_on_with_field (terminal_at xs j) (terminal_at xs (j + 1)) ≡ false → IsRecord xs i ps true (j + 1 + 1)
-  record_done_semi e h = record {
+    is = again (expand (semi_read (sym e)) t.RBrace (off_field (terminal_at xs j) (terminal_at xs (j + 1)) (sym e) h) refl refl) 1 refl (λ k us. ap (λ v. (g.first, (record_part v true us.0, us.1))) (append-nil g.others));
+  })
+  record_closed h false m e q = subst (λ v. IsRecord xs i ps false (v + 1)) (sym q) (record {
     first = g.first;
     others = g.others;
     spelled = g.spelled;
-    is = again (expand (semi_read e) t.RBrace (brace_after e h) refl refl) 1 refl (λ k us. ap (λ v. (g.first, (record_part v true us.0, us.1))) (append-nil g.others));
-  }
+    is = again (expand g.is t.RBrace (only g.is t.RBrace (t.Semi ∷ []) refl refl (sym e, tt)) refl refl) 1 refl (λ k us. ap (λ v. (g.first, (record_part v false us.0, us.1))) (append-nil g.others));
+  })
 
 -- constructors or a record after an equality sign
 module _ {xs : List Lexeme} {i : ℕ} (c : CanRead xs s.Con i) where
@@ -335,11 +323,11 @@ module _ {xs : List Lexeme} {n : ℕ} {from : List Symbol → List Symbol} {i : 
     where
       by_upper : (b d : Bool) → same t.Uident (terminal_at xs j) ≡ b → same t.Dot (terminal_at xs (j + 1)) ≡ d → (b && not d) ≡ false → same t.Bar (terminal_at xs j) ≡ false → same t.TyVar (terminal_at xs j) ≡ false → same t.LParen (terminal_at xs j) ≡ false → Alias
       by_upper true true u d q h v l = let p = expand (upper_found u) t.Dot d refl refl in
-          let z = unexpand (s.Take t.Dot) (λ k. s.Qlid ∷ s.Targs ∷ K k) (λ k us. act k (is_alias (composed (at j) (called j ((token_at xs j).text ∷ us.1.0.scopes) (lower us.1.0.last)) us.1.1.0), us.1.1.1)) (j + 1) t.Dot d refl refl (behind_of ahead_of) p in
+          let z = unexpand (s.Take t.Dot) (λ k. s.Qlid ∷ s.Targs ∷ K k) (λ k us. act k (is_alias (composed (at j) (called j ((token_at xs j).text ∷ us.1.0.scopes) (lower us.1.0.last)) us.1.1.0), us.1.1.1)) (j + 1) t.Dot d refl refl (after_of ahead_of) p in
           unexpand s.TypeOf K (λ k us. act k (is_alias us.0, us.1)) j t.Uident u refl refl ahead_of z
         where
-          behind_of : i ≤ j → i ≤ j + 1
-          behind_of a = omega arith
+          after_of : i ≤ j → i ≤ j + 1
+          after_of a = omega arith
       by_upper true false u d q h v l = cc
       by_upper false d u f q h v l = let w = only g t.Lident (t.LBrace ∷ t.Bar ∷ t.TyVar ∷ t.LParen ∷ t.Uident ∷ []) refl refl (z, (h, (v, (l, (u, tt))))) in let p = expand g t.Lident w refl refl in unexpand s.TypeOf K (λ k us. act k (is_alias us.0, us.1)) j t.Lident w refl refl ahead_of p
 

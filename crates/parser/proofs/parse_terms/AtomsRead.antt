@@ -21,10 +21,11 @@ atom_some t.Int h e = cc
 atom_some t.TrueWord h e = cc
 atom_some t.FalseWord h e = cc
 atom_some t.MatchWord h e = cc
+atom_some t.LBrace h e = cc
 atom_some _ h e = no_false h
 
 pub atom_none : (x : Terminal) → begins_atom x ≡ false → find (rows s.Atom) x ≡ None
-atom_none x h = none_where (rows s.Atom) begins_atom (t.Lident ∷ t.Uident ∷ t.StarName ∷ t.LParen ∷ t.Int ∷ t.TrueWord ∷ t.FalseWord ∷ t.MatchWord ∷ []) x refl refl h
+atom_none x h = none_where (rows s.Atom) begins_atom (t.Lident ∷ t.Uident ∷ t.StarName ∷ t.LParen ∷ t.Int ∷ t.TrueWord ∷ t.FalseWord ∷ t.MatchWord ∷ t.LBrace ∷ []) x refl refl h
 
 abbrev pub Arguments : List Lexeme → ℕ → List SyntaxTree → ℕ → Type 0
 Arguments xs i es j = SideBySide s.Args s.Atom more none refl xs i es j
@@ -34,9 +35,9 @@ module _ {xs : List Lexeme} {i : ℕ} (c : CanRead xs s.Atom i) where
   named_apart : (x o d : Terminal) → is_name x o d ≡ false → (same t.Lident x ≡ false) × (same t.Uident x ≡ false) × (same t.StarName x ≡ false)
   named_apart x o d n = (apart (λ y. is_name y o d) t.Lident x refl n, apart (λ y. is_name y o d) t.Uident x refl n, apart (λ y. is_name y o d) t.StarName x refl n)
 
-  pub only_paren : is_name_at xs i ≡ false → same t.Int (terminal_at xs i) ≡ false → same t.TrueWord (terminal_at xs i) ≡ false → same t.FalseWord (terminal_at xs i) ≡ false → same t.MatchWord (terminal_at xs i) ≡ false → same t.LParen (terminal_at xs i) ≡ true
-  only_paren n a b d f = let q = named_apart (terminal_at xs i) (terminal_at xs (i + 1)) (terminal_at xs (i + 1 + 1)) n in
-      only (start c) t.LParen (t.Lident ∷ t.Uident ∷ t.StarName ∷ t.Int ∷ t.TrueWord ∷ t.FalseWord ∷ t.MatchWord ∷ []) refl refl (q.0, (q.1, (q.2, (a, (b, (d, (f, tt)))))))
+  pub only_paren : is_name_at xs i ≡ false → same t.Int (terminal_at xs i) ≡ false → same t.TrueWord (terminal_at xs i) ≡ false → same t.FalseWord (terminal_at xs i) ≡ false → same t.MatchWord (terminal_at xs i) ≡ false → same t.LBrace (terminal_at xs i) ≡ false → same t.LParen (terminal_at xs i) ≡ true
+  only_paren n a b d f h = let q = named_apart (terminal_at xs i) (terminal_at xs (i + 1)) (terminal_at xs (i + 1 + 1)) n in
+      only (start c) t.LParen (t.Lident ∷ t.Uident ∷ t.StarName ∷ t.Int ∷ t.TrueWord ∷ t.FalseWord ∷ t.MatchWord ∷ t.LBrace ∷ []) refl refl (q.0, (q.1, (q.2, (a, (b, (d, (f, (h, tt))))))))
 
   module _ (l : same t.LParen (terminal_at xs i) ≡ true) where
     pub paren_start : Begun xs 1 (λ k. s.Atom ∷ k) i (λ k. s.Aparen ∷ k) (λ k us. (paren i us.0, us.1)) (i + 1)

@@ -15,3 +15,9 @@ pub use Rattle.parser.proofs.parse_terms.TermSteps.{trees_many, under}
 pub use Rattle.parser.proofs.parse_terms.TextsRead.{upper_own, upper_words_within, lower_own, upper_words_more, lower_word, infix_own, UpperWords, upto, upper_words_start, named_there, upper_words_done, lower_text, value_there, upper_text, prefix_own, inside}
 pub use Rattle.parser.specs.parse_terms.Binders.{IsNaming}
 pub use Rattle.parser.specs.parse_terms.Patterns.{IsBare}
+pub use Rattle.parser.proofs.parse_terms.RecordsRead.{FormsFrom, TreesFrom, form_field_can, form_item, form_opened, forms_closed, forms_more, forms_start, tree_field_can, tree_item, tree_opened, trees_closed, trees_more, trees_start}
+pub use Rattle.parser.specs.parse_terms.Records.{IsReadFormField, IsReadTreeField}
+pub use Rattle.surface.specs.Forms.{fielded_form}
+pub use Rattle.surface.specs.Trees.{fielded_tree}
+pub use Rattle.surface.specs.Surface.{form_names, form_part_of, form_values, tree_names, tree_part_of, tree_values}
+pub use Rattle.surface.proofs.TreeLemmas.{form_part_of-fields, pattern_of_node-Fields, tree_of_node-Fields, tree_part_of-fields}

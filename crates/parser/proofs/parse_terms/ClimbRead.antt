@@ -45,7 +45,7 @@ module _ {xs : List Lexeme} {m i : ℕ} (c : CanRead xs (s.Expr m) i) where
       ahead = omega arith;
       within = g.within;
       first = w.first;
-      can = (let q = g.reads g.can.behind g.can.values g.can.reads in (g.can.behind, q.0, subst (λ b. read (lexemes_from xs j) j b (s.Tail m 9 ∷ g.can.behind) ≡ Some q.0) (sym w.closed) q.1));
+      can = (let q = g.reads g.can.following g.can.values g.can.reads in (g.can.following, q.0, subst (λ b. read (lexemes_from xs j) j b (s.Tail m 9 ∷ g.can.following) ≡ Some q.0) (sym w.closed) q.1));
       reads = λ k vs y. (let q = g.reads k vs y in (q.0.0, ap (λ v. v.0) (sym q.2), subst (λ b. read (lexemes_from xs j) j b (s.Tail m 9 ∷ k) ≡ Some (q.0.0, vs.1)) (sym w.closed) (q.1 ∙ ap (λ v. Some (q.0.0, v.1)) q.2)));
     }
 
@@ -77,7 +77,7 @@ module _ (xs : List Lexeme) (m i : ℕ) (e : SyntaxTree) (u j : ℕ) (g : Climb 
     operator_within = stands xs j (terminal_at xs j) refl (infix_some (terminal_at xs j) follows.1)
 
     pub right_can : CanRead xs (s.Expr (right (terminal_at xs j))) (j + 1)
-    right_can = let q = link_split g.can.0 g.can.1 g.can.2 in let w = operator_within in record { within = omega arith; behind = s.Tail m (prec (terminal_at xs j)) ∷ g.can.0; values = q.0; reads = q.1 }
+    right_can = let q = link_split g.can.0 g.can.1 g.can.2 in let w = operator_within in record { within = omega arith; following = s.Tail m (prec (terminal_at xs j)) ∷ g.can.0; values = q.0; reads = q.1 }
 
     pub climb_more : (f : SyntaxTree) (n : ℕ) → IsExpr xs (right (terminal_at xs j)) (j + 1) f n → Climb xs m i (joined_trees e (op j (terminal_at xs j) (token_at xs j).text) f) (prec (terminal_at xs j)) n
     climb_more f n r = let a = g.ahead in let b = r.ahead in record {

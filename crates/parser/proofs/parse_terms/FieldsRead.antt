@@ -144,7 +144,7 @@ apart_at b xs j k vs g = apart_name (length xs) b xs j k vs (omega arith) g
 module _ {xs : List Lexeme} {n : ℕ} {from : List Symbol → List Symbol} {i : ℕ} {b : Bool} {act : (k : List Symbol) → Vals (s.Head b ∷ k) → Vals (from k)} {j : ℕ} (g : Begun xs n from i (λ k. s.Head b ∷ k) act j) where
   -- the name can be read
   pub name_there : CanRead xs s.Qhead j
-  name_there = let q = g.reads g.can.behind g.can.values g.can.reads in let a = apart_at b xs j g.can.behind q.0 q.1 in record { within = g.within; behind = name_rest b (is_lower_name a.name.own) ++ g.can.behind; values = (a.name, a.rest); reads = a.reads }
+  name_there = let q = g.reads g.can.following g.can.values g.can.reads in let a = apart_at b xs j g.can.following q.0 q.1 in record { within = g.within; following = name_rest b (is_lower_name a.name.own) ++ g.can.following; values = (a.name, a.rest); reads = a.reads }
 
   abbrev After : Scoped → ℕ → Bool → Type 0
   After d m l = Begun xs (n + 1) from i (λ k. name_rest b l ++ k) (λ k us. act k (record { scopes = d.scopes; own = d.own; rest = name_rest_of b l (front (name_rest b l) k us) }, back (name_rest b l) k us)) m

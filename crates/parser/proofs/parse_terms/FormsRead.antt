@@ -65,9 +65,13 @@ module _ {xs : List Lexeme} {i : ℕ} (c : CanRead xs s.Pat i) where
   pub atom_start : same t.Uident (terminal_at xs i) ≡ false → Begun xs 0 (λ k. s.Pat ∷ k) i (λ k. s.Patom ∷ s.AsPart ∷ k) (λ k us. (named_at i us.0 us.1.0, us.1.1)) i
   atom_start n = by_wild (same t.Wild (terminal_at xs i)) refl
     where
+      by_brace : (b : Bool) → same t.Wild (terminal_at xs i) ≡ false → same t.Lident (terminal_at xs i) ≡ false → same t.LBrace (terminal_at xs i) ≡ b → Begun xs 0 (λ k. s.Pat ∷ k) i (λ k. s.Patom ∷ s.AsPart ∷ k) (λ k us. (named_at i us.0 us.1.0, us.1.1)) i
+      by_brace true w l e = let p = expand (start c) t.LBrace e refl refl in unexpand s.Patom (λ k. s.AsPart ∷ k) (λ k us. (named_at i us.0 us.1.0, us.1.1)) i t.LBrace e refl refl (omega arith) p
+      by_brace false w l e = let f = only (start c) t.LParen (t.Uident ∷ t.Wild ∷ t.Lident ∷ t.LBrace ∷ []) refl refl (n, (w, (l, (e, tt)))) in let p = expand (start c) t.LParen f refl refl in unexpand s.Patom (λ k. s.AsPart ∷ k) (λ k us. (named_at i us.0 us.1.0, us.1.1)) i t.LParen f refl refl (omega arith) p
+
       by_name : (b : Bool) → same t.Wild (terminal_at xs i) ≡ false → same t.Lident (terminal_at xs i) ≡ b → Begun xs 0 (λ k. s.Pat ∷ k) i (λ k. s.Patom ∷ s.AsPart ∷ k) (λ k us. (named_at i us.0 us.1.0, us.1.1)) i
       by_name true w e = let p = expand (start c) t.Lident e refl refl in unexpand s.Patom (λ k. s.AsPart ∷ k) (λ k us. (named_at i us.0 us.1.0, us.1.1)) i t.Lident e refl refl (omega arith) p
-      by_name false w e = let f = only (start c) t.LParen (t.Uident ∷ t.Wild ∷ t.Lident ∷ []) refl refl (n, (w, (e, tt))) in let p = expand (start c) t.LParen f refl refl in unexpand s.Patom (λ k. s.AsPart ∷ k) (λ k us. (named_at i us.0 us.1.0, us.1.1)) i t.LParen f refl refl (omega arith) p
+      by_name false w e = by_brace (same t.LBrace (terminal_at xs i)) w e refl
 
       by_wild : (b : Bool) → same t.Wild (terminal_at xs i) ≡ b → Begun xs 0 (λ k. s.Pat ∷ k) i (λ k. s.Patom ∷ s.AsPart ∷ k) (λ k us. (named_at i us.0 us.1.0, us.1.1)) i
       by_wild true e = let p = expand (start c) t.Wild e refl refl in unexpand s.Patom (λ k. s.AsPart ∷ k) (λ k us. (named_at i us.0 us.1.0, us.1.1)) i t.Wild e refl refl (omega arith) p
@@ -78,18 +82,19 @@ module _ {xs : List Lexeme} {i : ℕ} (c : CanRead xs s.Patom i) where
   pub constant_start : same t.Uident (terminal_at xs i) ≡ true → Begun xs 1 (λ k. s.Patom ∷ k) i (λ k. s.Quids ∷ k) (λ k us. (composed (at i) (upper_called i (token_at xs i).text us.0) no_forms, us.1)) (i + 1)
   constant_start e = let p = expand (start c) t.Uident e refl refl in again p 1 refl (λ k us. refl)
 
-  pub pattern_group_start : same t.Wild (terminal_at xs i) ≡ false → same t.Lident (terminal_at xs i) ≡ false → same t.Uident (terminal_at xs i) ≡ false → Begun xs 1 (λ k. s.Patom ∷ k) i (λ k. s.Ptuple ∷ k) (λ k us. (enclosed (at i) us.0, us.1)) (i + 1)
-  pattern_group_start w l u = let p = expand (start c) t.LParen (only (start c) t.LParen (t.Wild ∷ t.Lident ∷ t.Uident ∷ []) refl refl (w, (l, (u, tt)))) refl refl in again p 1 refl (λ k us. refl)
+  pub pattern_group_start : same t.Wild (terminal_at xs i) ≡ false → same t.Lident (terminal_at xs i) ≡ false → same t.Uident (terminal_at xs i) ≡ false → same t.LBrace (terminal_at xs i) ≡ false → Begun xs 1 (λ k. s.Patom ∷ k) i (λ k. s.Ptuple ∷ k) (λ k us. (enclosed (at i) us.0, us.1)) (i + 1)
+  pattern_group_start w l u b = let p = expand (start c) t.LParen (only (start c) t.LParen (t.Wild ∷ t.Lident ∷ t.Uident ∷ t.LBrace ∷ []) refl refl (w, (l, (u, (b, tt))))) refl refl in again p 1 refl (λ k us. refl)
 
 pub patom_some : (x : Terminal) → begins_patom x ≡ true → find (rows s.Patom) x ≡ None → ⊥
 patom_some t.Wild h e = cc
 patom_some t.Lident h e = cc
 patom_some t.Uident h e = cc
 patom_some t.LParen h e = cc
+patom_some t.LBrace h e = cc
 patom_some _ h e = no_false h
 
 pub patom_none : (x : Terminal) → begins_patom x ≡ false → find (rows s.Patom) x ≡ None
-patom_none x h = none_where (rows s.Patom) begins_patom (t.Wild ∷ t.Lident ∷ t.Uident ∷ t.LParen ∷ []) x refl refl h
+patom_none x h = none_where (rows s.Patom) begins_patom (t.Wild ∷ t.Lident ∷ t.Uident ∷ t.LParen ∷ t.LBrace ∷ []) x refl refl h
 
 abbrev pub Patterns : List Lexeme → ℕ → List SyntaxForm → ℕ → Type 0
 Patterns xs i fs j = SideBySide s.Patoms s.Patom more_forms no_forms refl xs i fs j

@@ -1,7 +1,8 @@
 -- What follows where applications and atoms are read.
-use Rattle.parser.proofs.parse_terms.Common.{◌≡◌, ℕ, ◌+◌, ◌<◌, Bool, true, false, ◌&&◌, List, [], ◌∷◌, length, Some, None, refl, sym, ap, ◌∙◌, subst, Terminal, is_operator, Symbol, same, same_true, no_false, Lexeme, at, lower, star, called, op, SyntaxTree, SyntaxTrees, Headed, accessed, with_rest, apply, args_rest, cases, dots_rest, upper_head, headed_tree, literal, truth, falsity, none, more, Closing, Paren, nothing, named_operator, holds, Minus, named_by, operand, own_op, paren, behind_minus, Vals, row, prim_rows, atom_rows, opname_row, prefix_row, hparen_own, hminus_own, aparen_own, aminus_own, hop_row, hminus_row, aop_row, aminus_row, rows, find, read, opname_found, reads_aparen, by_first, begins_atom, is_other, row_at, split_due, stands, stands_within, unread, Begun, CanRead, ends_name, is_name, is_name_at, lexemes_from, terminal_at, token_at}
+use Rattle.parser.proofs.parse_terms.Common.{◌≡◌, ℕ, ◌+◌, ◌<◌, Bool, true, false, ◌&&◌, List, [], ◌∷◌, length, Some, None, refl, sym, ap, ◌∙◌, subst, Terminal, is_operator, Symbol, same, same_true, no_false, Lexeme, at, lower, star, called, op, SyntaxTree, SyntaxTrees, Headed, accessed, with_rest, apply, args_rest, cases, dots_rest, upper_head, headed_tree, literal, truth, falsity, none, more, Closing, Paren, nothing, named_operator, holds, Minus, named_by, operand, own_op, paren, after_minus, Vals, row, prim_rows, atom_rows, opname_row, prefix_row, hparen_own, hminus_own, aparen_own, aminus_own, hop_row, hminus_row, aop_row, aminus_row, rows, find, read, opname_found, reads_aparen, by_first, begins_atom, is_other, row_at, split_due, stands, stands_within, unread, Begun, CanRead, ends_name, is_name, is_name_at, lexemes_from, terminal_at, token_at}
 use Rattle.tokens_why.specs.declared.terminal.Terminal.TheVariants as t
 use Rattle.grammar.specs.declared.symbols.Symbol.TheVariants as s
+use Rattle.grammar.specs.reading.Parts.{lower_called, record_tree}
 use Rattle.parser.proofs.parse_terms.Steps.{all_apart, none_by, none_where, reread, start}
 
 rparen_true : (x : Terminal) → same t.RParen x ≡ true → x ≡ t.RParen
@@ -31,10 +32,10 @@ prim_inner xs j k us n o g = by_operator (is_operator (terminal_at xs j)) refl
     by_terminal t.Operator4 e n o = let p = row_at xs j s.Hparen (hop_row t.Operator4) k us refl (ap (find (rows s.Hparen)) e) g in absurd (opend_ends xs (j + 1) (s.Args ∷ k) p.0 o p.1)
     by_terminal t.Minus e n o = let p = row_at xs j s.Hparen (hminus_row t.Minus) k us refl (ap (find (rows s.Hparen)) e) g in
         let q = split_due xs (j + 1) s.Hminus (s.Expr 8) (s.Tail 0 8 ∷ s.GroupRest ∷ []) (λ v vs. operand v vs.0 vs.1.0) hminus_own k p.0 refl refl (prim_minus_none (terminal_at xs (j + 1)) o) p.1 in
-        ((prefix_row 0 t.Minus).act (s.GroupRest ∷ k) j (token_at xs j).text q.0, by_first xs j (s.Expr 0) (prefix_row 0 t.Minus) (s.GroupRest ∷ k) q.0 (stands xs j t.Minus e refl) (ap (find (rows (s.Expr 0))) e) q.1, ap (λ m. (behind_minus (op j t.Minus (token_at xs j).text) m.0, m.1)) q.2 ∙ p.2)
+        ((prefix_row 0 t.Minus).act (s.GroupRest ∷ k) j (token_at xs j).text q.0, by_first xs j (s.Expr 0) (prefix_row 0 t.Minus) (s.GroupRest ∷ k) q.0 (stands xs j t.Minus e refl) (ap (find (rows (s.Expr 0))) e) q.1, ap (λ m. (after_minus (op j t.Minus (token_at xs j).text) m.0, m.1)) q.2 ∙ p.2)
     by_terminal t.PrefixOperator e n o = let p = row_at xs j s.Hparen (hminus_row t.PrefixOperator) k us refl (ap (find (rows s.Hparen)) e) g in
         let q = split_due xs (j + 1) s.Hminus (s.Expr 8) (s.Tail 0 8 ∷ s.GroupRest ∷ []) (λ v vs. operand v vs.0 vs.1.0) hminus_own k p.0 refl refl (prim_minus_none (terminal_at xs (j + 1)) o) p.1 in
-        ((prefix_row 0 t.PrefixOperator).act (s.GroupRest ∷ k) j (token_at xs j).text q.0, by_first xs j (s.Expr 0) (prefix_row 0 t.PrefixOperator) (s.GroupRest ∷ k) q.0 (stands xs j t.PrefixOperator e refl) (ap (find (rows (s.Expr 0))) e) q.1, ap (λ m. (behind_minus (op j t.PrefixOperator (token_at xs j).text) m.0, m.1)) q.2 ∙ p.2)
+        ((prefix_row 0 t.PrefixOperator).act (s.GroupRest ∷ k) j (token_at xs j).text q.0, by_first xs j (s.Expr 0) (prefix_row 0 t.PrefixOperator) (s.GroupRest ∷ k) q.0 (stands xs j t.PrefixOperator e refl) (ap (find (rows (s.Expr 0))) e) q.1, ap (λ m. (after_minus (op j t.PrefixOperator (token_at xs j).text) m.0, m.1)) q.2 ∙ p.2)
     by_terminal _ e n o = absurd (no_false n)
 
     by_operator : (b : Bool) → is_operator (terminal_at xs j) ≡ b → (v : SyntaxTree × (Closing × Vals k)) × (read (lexemes_from xs j) j false (s.Expr 0 ∷ s.GroupRest ∷ k) ≡ Some v) × ((holds v.0 v.1.0, v.1.1) ≡ us)
@@ -62,9 +63,9 @@ prim_name xs j k us o g = by_terminal (terminal_at xs j) refl o
     by_terminal t.Operator3 e o = row_at xs j s.Hparen (hop_row t.Operator3) k us refl (ap (find (rows s.Hparen)) e) g
     by_terminal t.Operator4 e o = row_at xs j s.Hparen (hop_row t.Operator4) k us refl (ap (find (rows s.Hparen)) e) g
     by_terminal t.Minus e o = let p = row_at xs j s.Hparen (hminus_row t.Minus) k us refl (ap (find (rows s.Hparen)) e) g in let q = of_minus t.Minus p.0 p.1 o in
-        (q.0, q.1, ap (λ m. (behind_minus (op j t.Minus (token_at xs j).text) m.0, m.1)) q.2 ∙ p.2)
+        (q.0, q.1, ap (λ m. (after_minus (op j t.Minus (token_at xs j).text) m.0, m.1)) q.2 ∙ p.2)
     by_terminal t.PrefixOperator e o = let p = row_at xs j s.Hparen (hminus_row t.PrefixOperator) k us refl (ap (find (rows s.Hparen)) e) g in let q = of_minus t.PrefixOperator p.0 p.1 o in
-        (q.0, q.1, ap (λ m. (behind_minus (op j t.PrefixOperator (token_at xs j).text) m.0, m.1)) q.2 ∙ p.2)
+        (q.0, q.1, ap (λ m. (after_minus (op j t.PrefixOperator (token_at xs j).text) m.0, m.1)) q.2 ∙ p.2)
     by_terminal _ e o = absurd (no_false o)
 
 -- the operator that is named after a parenthesis
@@ -112,10 +113,10 @@ atom_inner xs j k us n o g = by_operator (is_operator (terminal_at xs j)) refl
     by_terminal t.Operator4 e n o = let p = row_at xs j s.Aparen (aop_row t.Operator4) k us refl (ap (find (rows s.Aparen)) e) g in absurd (opend_ends xs (j + 1) (k) p.0 o p.1)
     by_terminal t.Minus e n o = let p = row_at xs j s.Aparen (aminus_row t.Minus) k us refl (ap (find (rows s.Aparen)) e) g in
         let q = split_due xs (j + 1) s.Aminus (s.Expr 8) (s.Tail 0 8 ∷ s.GroupRest ∷ []) (λ v vs. operand v vs.0 vs.1.0) aminus_own k p.0 refl refl (atom_minus_none (terminal_at xs (j + 1)) o) p.1 in
-        ((prefix_row 0 t.Minus).act (s.GroupRest ∷ k) j (token_at xs j).text q.0, by_first xs j (s.Expr 0) (prefix_row 0 t.Minus) (s.GroupRest ∷ k) q.0 (stands xs j t.Minus e refl) (ap (find (rows (s.Expr 0))) e) q.1, ap (λ m. (behind_minus (op j t.Minus (token_at xs j).text) m.0, m.1)) q.2 ∙ p.2)
+        ((prefix_row 0 t.Minus).act (s.GroupRest ∷ k) j (token_at xs j).text q.0, by_first xs j (s.Expr 0) (prefix_row 0 t.Minus) (s.GroupRest ∷ k) q.0 (stands xs j t.Minus e refl) (ap (find (rows (s.Expr 0))) e) q.1, ap (λ m. (after_minus (op j t.Minus (token_at xs j).text) m.0, m.1)) q.2 ∙ p.2)
     by_terminal t.PrefixOperator e n o = let p = row_at xs j s.Aparen (aminus_row t.PrefixOperator) k us refl (ap (find (rows s.Aparen)) e) g in
         let q = split_due xs (j + 1) s.Aminus (s.Expr 8) (s.Tail 0 8 ∷ s.GroupRest ∷ []) (λ v vs. operand v vs.0 vs.1.0) aminus_own k p.0 refl refl (atom_minus_none (terminal_at xs (j + 1)) o) p.1 in
-        ((prefix_row 0 t.PrefixOperator).act (s.GroupRest ∷ k) j (token_at xs j).text q.0, by_first xs j (s.Expr 0) (prefix_row 0 t.PrefixOperator) (s.GroupRest ∷ k) q.0 (stands xs j t.PrefixOperator e refl) (ap (find (rows (s.Expr 0))) e) q.1, ap (λ m. (behind_minus (op j t.PrefixOperator (token_at xs j).text) m.0, m.1)) q.2 ∙ p.2)
+        ((prefix_row 0 t.PrefixOperator).act (s.GroupRest ∷ k) j (token_at xs j).text q.0, by_first xs j (s.Expr 0) (prefix_row 0 t.PrefixOperator) (s.GroupRest ∷ k) q.0 (stands xs j t.PrefixOperator e refl) (ap (find (rows (s.Expr 0))) e) q.1, ap (λ m. (after_minus (op j t.PrefixOperator (token_at xs j).text) m.0, m.1)) q.2 ∙ p.2)
     by_terminal _ e n o = absurd (no_false n)
 
     by_operator : (b : Bool) → is_operator (terminal_at xs j) ≡ b → (v : SyntaxTree × (Closing × Vals k)) × (read (lexemes_from xs j) j false (s.Expr 0 ∷ s.GroupRest ∷ k) ≡ Some v) × ((holds v.0 v.1.0, v.1.1) ≡ us)
@@ -143,9 +144,9 @@ atom_name xs j k us o g = by_terminal (terminal_at xs j) refl o
     by_terminal t.Operator3 e o = row_at xs j s.Aparen (aop_row t.Operator3) k us refl (ap (find (rows s.Aparen)) e) g
     by_terminal t.Operator4 e o = row_at xs j s.Aparen (aop_row t.Operator4) k us refl (ap (find (rows s.Aparen)) e) g
     by_terminal t.Minus e o = let p = row_at xs j s.Aparen (aminus_row t.Minus) k us refl (ap (find (rows s.Aparen)) e) g in let q = of_minus t.Minus p.0 p.1 o in
-        (q.0, q.1, ap (λ m. (behind_minus (op j t.Minus (token_at xs j).text) m.0, m.1)) q.2 ∙ p.2)
+        (q.0, q.1, ap (λ m. (after_minus (op j t.Minus (token_at xs j).text) m.0, m.1)) q.2 ∙ p.2)
     by_terminal t.PrefixOperator e o = let p = row_at xs j s.Aparen (aminus_row t.PrefixOperator) k us refl (ap (find (rows s.Aparen)) e) g in let q = of_minus t.PrefixOperator p.0 p.1 o in
-        (q.0, q.1, ap (λ m. (behind_minus (op j t.PrefixOperator (token_at xs j).text) m.0, m.1)) q.2 ∙ p.2)
+        (q.0, q.1, ap (λ m. (after_minus (op j t.PrefixOperator (token_at xs j).text) m.0, m.1)) q.2 ∙ p.2)
     by_terminal _ e o = absurd (no_false o)
 
 -- a name and what comes after it
@@ -189,12 +190,13 @@ prim_atom xs i k vs n g = by_start (begins_atom (terminal_at xs i)) refl
     by_terminal t.TrueWord e b n = let p = row_at xs i s.Prim (row s.Prim t.TrueWord [] (λ i w vs. truth (at i))) k vs refl (ap (find prim_rows) e) g in by_first xs i s.Atom (row s.Atom t.TrueWord [] (λ i w vs. truth (at i))) k p.0 (stands xs i t.TrueWord e refl) (ap (find atom_rows) e) p.1 ∙ ap (λ m. Some m) p.2
     by_terminal t.FalseWord e b n = let p = row_at xs i s.Prim (row s.Prim t.FalseWord [] (λ i w vs. falsity (at i))) k vs refl (ap (find prim_rows) e) g in by_first xs i s.Atom (row s.Atom t.FalseWord [] (λ i w vs. falsity (at i))) k p.0 (stands xs i t.FalseWord e refl) (ap (find atom_rows) e) p.1 ∙ ap (λ m. Some m) p.2
     by_terminal t.MatchWord e b n = let p = row_at xs i s.Prim (row s.Prim t.MatchWord (s.Expr 0 ∷ s.Scrutinees ∷ s.Dots ∷ []) (λ i w vs. accessed i (cases (at i) (more vs.0 vs.1.0.others) vs.1.0.bar vs.1.0.branches) vs.1.1.0)) k vs refl (ap (find prim_rows) e) g in by_first xs i s.Atom (row s.Atom t.MatchWord (s.Expr 0 ∷ s.Scrutinees ∷ s.Dots ∷ []) (λ i w vs. accessed i (cases (at i) (more vs.0 vs.1.0.others) vs.1.0.bar vs.1.0.branches) vs.1.1.0)) k p.0 (stands xs i t.MatchWord e refl) (ap (find atom_rows) e) p.1 ∙ ap (λ m. Some m) p.2
+    by_terminal t.LBrace e b n = let p = row_at xs i s.Prim (row s.Prim t.LBrace (s.Qlid ∷ s.Take t.Equal ∷ s.Expr 0 ∷ s.ExprFields ∷ s.Dots ∷ []) (λ i w vs. accessed i (record_tree i (lower_called (i + 1) vs.0) vs.1.1.0 vs.1.1.1.0) vs.1.1.1.1.0)) k vs refl (ap (find prim_rows) e) g in by_first xs i s.Atom (row s.Atom t.LBrace (s.Qlid ∷ s.Take t.Equal ∷ s.Expr 0 ∷ s.ExprFields ∷ s.Dots ∷ []) (λ i w vs. accessed i (record_tree i (lower_called (i + 1) vs.0) vs.1.1.0 vs.1.1.1.0) vs.1.1.1.1.0)) k p.0 (stands xs i t.LBrace e refl) (ap (find atom_rows) e) p.1 ∙ ap (λ m. Some m) p.2
     by_terminal t.LParen e b n = by_paren (same t.RParen (terminal_at xs (i + 1))) refl e n
     by_terminal _ e b n = absurd (no_false b)
 
     by_start : (b : Bool) → begins_atom (terminal_at xs i) ≡ b → read (lexemes_from xs i) i false (s.Atom ∷ k) ≡ Some vs
     by_start true h = by_terminal (terminal_at xs i) refl h n
-    by_start false h = absurd (unread xs i s.Prim k vs (stands_within xs s.Prim i k vs refl g) refl (none_where prim_rows begins_atom (t.Lident ∷ t.Uident ∷ t.StarName ∷ t.LParen ∷ t.Int ∷ t.TrueWord ∷ t.FalseWord ∷ t.MatchWord ∷ []) (terminal_at xs i) refl refl h) g)
+    by_start false h = absurd (unread xs i s.Prim k vs (stands_within xs s.Prim i k vs refl g) refl (none_where prim_rows begins_atom (t.Lident ∷ t.Uident ∷ t.StarName ∷ t.LParen ∷ t.Int ∷ t.TrueWord ∷ t.FalseWord ∷ t.MatchWord ∷ t.LBrace ∷ []) (terminal_at xs i) refl refl h) g)
 
 -- A term where a name stands is the name with what comes after it.
 pub head_start : {xs : List Lexeme} {i : ℕ} → CanRead xs s.Prim i → is_name_at xs i ≡ true → Begun xs 0 (λ k. s.Prim ∷ k) i (λ k. s.Head true ∷ k) (λ k us. (headed_tree i us.0, us.1)) i

@@ -106,7 +106,7 @@ upper_words [] l w [] e = ap (λ v. dotted [] v) (sym same_word)
 upper_words [] l w (v ∷ ws) e = cc
 upper_words (q ∷ []) l w [] e = cc
 upper_words (q ∷ p ∷ qs) l w [] e = cc
-upper_words (q ∷ qs) l w (v ∷ ws) e = ap (λ d. scoped w d) (upper_words qs l v ws behind) ∙ ap (λ u. dotted (u ∷ qs) l) (sym first)
+upper_words (q ∷ qs) l w (v ∷ ws) e = ap (λ d. scoped w d) (upper_words qs l v ws following) ∙ ap (λ u. dotted (u ∷ qs) l) (sym first)
   where
     dotted : List Word → Word → Dotted
     dotted vs u = record { scopes = vs; last = u }
@@ -117,5 +117,5 @@ upper_words (q ∷ qs) l w (v ∷ ws) e = ap (λ d. scoped w d) (upper_words qs 
     first : q ≡ w
     first = cc
 
-    behind : qs ++ l ∷ [] ≡ v ∷ ws
-    behind = cc
+    following : qs ++ l ∷ [] ≡ v ∷ ws
+    following = cc

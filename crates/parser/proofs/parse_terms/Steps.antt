@@ -20,7 +20,7 @@ stands xs j y e n = stands_by (same y) xs j n e
 
 -- a symbol that is not empty is at a token
 pub stands_due : {xs : List Lexeme} {a : Symbol} {K : List Symbol → List Symbol} {i : ℕ} → CanRun xs (λ k. a ∷ K k) i → blank a ≡ None → i < length xs
-stands_due {xs} {a} {K} {i} c b = stands_within xs a i (K c.behind) c.values b c.reads
+stands_due {xs} {a} {K} {i} c b = stands_within xs a i (K c.following) c.values b c.reads
 
 -- one terminal
 take_on : (xs : List Lexeme) (i : ℕ) (y : Terminal) (k : List Symbol) (vs : Name × Vals k) → i < length xs → read (lexemes_from xs i) i false (s.Take y ∷ k) ≡ Some vs → (us : Vals k) × (read (lexemes_from xs (i + 1)) (i + 1) false k ≡ Some us) × ((name i (token_at xs i).text, us) ≡ vs)
@@ -102,7 +102,7 @@ left rs y ys x r c d e = by_test (same y x) refl
 
 -- What can be read before further symbols can be read.
 pub run_over : {xs : List Lexeme} {from : List Symbol → List Symbol} (K : List Symbol → List Symbol) {i : ℕ} → CanRun xs (λ k. from (K k)) i → CanRun xs from i
-run_over {xs} {from} K {i} c = record { within = c.within; behind = K c.behind; values = c.values; reads = c.reads }
+run_over {xs} {from} K {i} c = record { within = c.within; following = K c.following; values = c.values; reads = c.reads }
 
 -- Nothing is read yet.
 pub start : {xs : List Lexeme} {from : List Symbol → List Symbol} {i : ℕ} → CanRun xs from i → Begun xs 0 from i from (λ k us. us) i
@@ -111,7 +111,7 @@ start {xs} {from} {i} c = record { ahead = omega arith; within = c.within; can =
 module _ {xs : List Lexeme} {n : ℕ} {from : List Symbol → List Symbol} {i : ℕ} {to : List Symbol → List Symbol} {act : (k : List Symbol) → Vals (to k) → Vals (from k)} {j : ℕ} (g : Begun xs n from i to act j) where
   -- what can be read of it all
   pub can_run : CanRun xs to j
-  can_run = let q = g.reads g.can.behind g.can.values g.can.reads in record { within = g.within; behind = g.can.behind; values = q.0; reads = q.1 }
+  can_run = let q = g.reads g.can.following g.can.values g.can.reads in record { within = g.within; following = g.can.following; values = q.0; reads = q.1 }
 
   -- said by another action
   pub again : {by : (k : List Symbol) → Vals (to k) → Vals (from k)} → (p : ℕ) → nat_le p n ≡ true → ((k : List Symbol) (us : Vals (to k)) → act k us ≡ by k us) → Begun xs p from i to by j
@@ -134,7 +134,7 @@ module _ {xs : List Lexeme} {n : ℕ} {from : List Symbol → List Symbol} {i : 
 module _ {xs : List Lexeme} {n : ℕ} {from : List Symbol → List Symbol} {i : ℕ} {a : Symbol} {K : List Symbol → List Symbol} {act : (k : List Symbol) → Vals (a ∷ K k) → Vals (from k)} {j : ℕ} (g : Begun xs n from i (λ k. a ∷ K k) act j) where
   -- what can be read next
   pub can_next : CanRead xs a j
-  can_next = let q = g.reads g.can.behind g.can.values g.can.reads in record { within = g.within; behind = K g.can.behind; values = q.0; reads = q.1 }
+  can_next = let q = g.reads g.can.following g.can.values g.can.reads in record { within = g.within; following = K g.can.following; values = q.0; reads = q.1 }
 
   -- where the next symbol is not empty
   pub next_within : blank a ≡ None → j < length xs
@@ -150,7 +150,7 @@ module _ {xs : List Lexeme} {n : ℕ} {from : List Symbol → List Symbol} {i : 
   }
 
   -- The next symbol is read by the row of the terminal that is there.
-  pub expand_by : {r : ReadingRow a} → j < length xs → find (rows a) (terminal_at xs j) ≡ Some r → Begun xs 1 from i (λ k. r.behind (K k)) (λ k us. act k (r.act (K k) j (token_at xs j).text us)) (j + 1)
+  pub expand_by : {r : ReadingRow a} → j < length xs → find (rows a) (terminal_at xs j) ≡ Some r → Begun xs 1 from i (λ k. r.following (K k)) (λ k us. act k (r.act (K k) j (token_at xs j).text us)) (j + 1)
   expand_by {r} h f = let l = g.ahead in record {
     ahead = omega arith;
     within = omega arith;
@@ -158,7 +158,7 @@ module _ {xs : List Lexeme} {n : ℕ} {from : List Symbol → List Symbol} {i : 
     reads = λ k vs e. (let q = g.reads k vs e in let w = first_row xs j a r (K k) q.0 h f q.1 in (w.0, w.1, ap (act k) w.2 ∙ q.2));
   }
 
-  pub expand : {r : ReadingRow a} → (y : Terminal) → same y (terminal_at xs j) ≡ true → same y t.OtherWord ≡ false → find (rows a) y ≡ Some r → Begun xs 1 from i (λ k. r.behind (K k)) (λ k us. act k (r.act (K k) j (token_at xs j).text us)) (j + 1)
+  pub expand : {r : ReadingRow a} → (y : Terminal) → same y (terminal_at xs j) ≡ true → same y t.OtherWord ≡ false → find (rows a) y ≡ Some r → Begun xs 1 from i (λ k. r.following (K k)) (λ k us. act k (r.act (K k) j (token_at xs j).text us)) (j + 1)
   expand {r} y e o f = expand_by {r = r} (stands xs j y e o) (ap (find (rows a)) (sym (same_true y (terminal_at xs j) e)) ∙ f)
 
   -- The next symbol may be empty, and is.
@@ -169,13 +169,13 @@ module _ {xs : List Lexeme} {n : ℕ} {from : List Symbol → List Symbol} {i : 
   pub extended : (b : Symbol) (ss : List Symbol) (f : Val b → Vals ss → Val a) (own : List (ReadingRow a)) → rows a ≡ own ++ extend a b ss f (rows b) → j < length xs → find own (terminal_at xs j) ≡ None → (find (rows a) (terminal_at xs j) ≡ None → ⊥) → Begun xs n from i (λ k. b ∷ (ss ++ K k)) (λ k us. act k (f us.0 (front ss (K k) us.1), back ss (K k) us.1)) j
   extended b ss f own is h o some = reread g (λ k. b ∷ (ss ++ K k)) (λ k us. act k (f us.0 (front ss (K k) us.1), back ss (K k) us.1)) (λ k us e. (let w = split xs j a b ss f own (K k) us h is o some e in (w.0, w.1, ap (act k) w.2)))
 
-  -- The same of a symbol that is not empty.
+  -- The next symbol, which is not empty, reads what another one reads and symbols after it.
   pub extended_due : (b : Symbol) (ss : List Symbol) (f : Val b → Vals ss → Val a) (own : List (ReadingRow a)) → rows a ≡ own ++ extend a b ss f (rows b) → blank a ≡ None → find own (terminal_at xs j) ≡ None → Begun xs n from i (λ k. b ∷ (ss ++ K k)) (λ k us. act k (f us.0 (front ss (K k) us.1), back ss (K k) us.1)) j
-  extended_due b ss f own is d o = let h = stands_due can_next d in extended b ss f own is h o (λ e. (let q = can_next in unread xs j a q.behind q.values h d e q.reads))
+  extended_due b ss f own is d o = let h = stands_due can_next d in extended b ss f own is h o (λ e. (let q = can_next in unread xs j a q.following q.values h d e q.reads))
 
   -- What is there begins one of the rows of a symbol that is not empty.
   pub begins : blank a ≡ None → find (rows a) (terminal_at xs j) ≡ None → ⊥
-  begins b e = let q = can_next in unread xs j a q.behind q.values (stands_due q b) b e q.reads
+  begins b e = let q = can_next in unread xs j a q.following q.values (stands_due q b) b e q.reads
 
   -- Only one of the terminals is left.
   pub only : (y : Terminal) (ys : List Terminal) → blank a ≡ None → covered (rows a) (y ∷ ys) ≡ true → Differ ys (terminal_at xs j) → same y (terminal_at xs j) ≡ true
@@ -222,7 +222,7 @@ done {xs} {n} {a} {i} {act} {j} g v l f = let h = g.ahead in let m = le_of (leas
 }
 
 -- What was read by the row of one rule is read by that of another, which goes on as the first does.
-pub unexpand : {xs : List Lexeme} {n : ℕ} {from : List Symbol → List Symbol} {i : ℕ} (b : Symbol) (L : List Symbol → List Symbol) (by : (k : List Symbol) → Vals (b ∷ L k) → Vals (from k)) {r : ReadingRow b} (j : ℕ) (y : Terminal) → same y (terminal_at xs j) ≡ true → same y t.OtherWord ≡ false → find (rows b) y ≡ Some r → i ≤ j → Begun xs n from i (λ k. r.behind (L k)) (λ k us. by k (r.act (L k) j (token_at xs j).text us)) (j + 1) → Begun xs 0 from i (λ k. b ∷ L k) by j
+pub unexpand : {xs : List Lexeme} {n : ℕ} {from : List Symbol → List Symbol} {i : ℕ} (b : Symbol) (L : List Symbol → List Symbol) (by : (k : List Symbol) → Vals (b ∷ L k) → Vals (from k)) {r : ReadingRow b} (j : ℕ) (y : Terminal) → same y (terminal_at xs j) ≡ true → same y t.OtherWord ≡ false → find (rows b) y ≡ Some r → i ≤ j → Begun xs n from i (λ k. r.following (L k)) (λ k us. by k (r.act (L k) j (token_at xs j).text us)) (j + 1) → Begun xs 0 from i (λ k. b ∷ L k) by j
 unexpand {xs} {n} {from} {i} b L by {r} j y e o f h g = let l = stands xs j y e o in record {
   ahead = omega arith;
   within = omega arith;

@@ -30,7 +30,7 @@ under f {xs} {m} {i} {p} {u} {j} {e} {q} g h o r = let l = g.ahead in let a = r.
   ahead = omega arith;
   within = r.within;
   first = h;
-  can = (let w = g.reads g.can.behind g.can.values g.can.reads in (g.can.behind, w.0.1, subst (λ b. read (lexemes_from xs q) q b (s.Tail m u ∷ g.can.behind) ≡ Some w.0.1) (sym o) (r.reads (s.Tail m u ∷ g.can.behind) w.0 w.1).1));
+  can = (let w = g.reads g.can.following g.can.values g.can.reads in (g.can.following, w.0.1, subst (λ b. read (lexemes_from xs q) q b (s.Tail m u ∷ g.can.following) ≡ Some w.0.1) (sym o) (r.reads (s.Tail m u ∷ g.can.following) w.0 w.1).1));
   reads = λ k vs y. (let w = g.reads k vs y in let z = r.reads (s.Tail m u ∷ k) w.0 w.1 in
       (w.0.1.0, ap (λ v. v.0) (sym w.2) ∙ ap (λ v. attach (f v) w.0.1.0) z.0, subst (λ b. read (lexemes_from xs q) q b (s.Tail m u ∷ k) ≡ Some (w.0.1.0, vs.1)) (sym o) (z.1 ∙ ap (λ v. Some (w.0.1.0, v.1)) w.2)));
 }
@@ -41,7 +41,7 @@ sealed_expr {xs} {m} {i} {j} {act} {e} {q} g r v f h o = let l = g.ahead in let 
   ahead = omega arith;
   within = r.within;
   first = h;
-  can = (let y = parts g.can.behind g.can.values g.can.reads in (g.can.behind, (stop, g.can.values.1), subst (λ b. read (lexemes_from xs q) q b (s.Tail m 0 ∷ g.can.behind) ≡ Some (stop, g.can.values.1)) (sym o) (hush (lexemes_from xs q) q m 0 g.can.behind g.can.values.1 y.1)));
+  can = (let y = parts g.can.following g.can.values g.can.reads in (g.can.following, (stop, g.can.values.1), subst (λ b. read (lexemes_from xs q) q b (s.Tail m 0 ∷ g.can.following) ≡ Some (stop, g.can.values.1)) (sym o) (hush (lexemes_from xs q) q m 0 g.can.following g.can.values.1 y.1)));
   reads = λ k vs y. (let z = parts k vs y in (stop, z.0, subst (λ b. read (lexemes_from xs q) q b (s.Tail m 0 ∷ k) ≡ Some (stop, vs.1)) (sym o) (hush (lexemes_from xs q) q m 0 k vs.1 z.1)));
 }
   where

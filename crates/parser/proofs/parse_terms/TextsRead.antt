@@ -37,11 +37,11 @@ word_other (x ∷ xs) zero h e = by_first (same t.Int x) refl h
     by_first : (b : Bool) → same t.Int x ≡ b → (not b && none_int xs) ≡ true → ⊥
     by_first true q h = cc
     by_first false q h = let f : false ≡ true = sym q ∙ ap (same t.Int) e in cc
-word_other (x ∷ xs) (suc i) h e = word_other xs i (behind (not (same t.Int x)) h) e
+word_other (x ∷ xs) (suc i) h e = word_other xs i (following (not (same t.Int x)) h) e
   where
-    behind : (b : Bool) → (b && none_int xs) ≡ true → none_int xs ≡ true
-    behind true h = h
-    behind false h = cc
+    following : (b : Bool) → (b && none_int xs) ≡ true → none_int xs ≡ true
+    following true h = h
+    following false h = cc
 
 level_other : (l : ℕ) → level_terminal l ≡ t.Int → ⊥
 level_other l e = by_test (nat_eq l 1) (nat_eq l 2) (nat_eq l 3) e
@@ -124,7 +124,7 @@ upper_words_more xs i qs last j w g e h = let u = upper_there xs (i + 1) g.words
 
 pub upper_words_done : (xs : List Lexeme) (i : ℕ) (qs : List Word) (last : Word) (j : ℕ) → UpperWords xs i qs last j → same t.Dot (terminal_at xs j) ≡ false → IsUpperName xs i (called i qs (own_of style.Plain last)) j
 upper_words_done xs i qs last j g e = let p = upper_words qs last (token_at xs i).text g.words g.spelled in record {
-  behind = beyond g.words None;
+  following = beyond g.words None;
   named = ap (λ d. called i d.scopes (upper d.last)) p ∙ ap (called i qs) (sym g.own);
   is = upper_scopes_done xs (i + 1) g.words j g.is e;
 }

@@ -1,7 +1,7 @@
 -- The names that most definitions and contracts cite, passed on from one place. Declares nothing.
 pub use Rattle.std.specs.Prelude.{true, false, IfErr, Bool, IfOk}
 pub use Rattle.tokens_why.specs.Alphabet.{same}
-pub use Rattle.parser.specs.parse_terms.Reading.{CanRead, Begun, IsRead, begins_atype, CanRun, token_at, from, terminal_at}
+pub use Rattle.parser.specs.parse_terms.Reading.{CanRead, Begun, IsRead, begins_atype, goes_on_with_field, CanRun, token_at, from, terminal_at}
 pub use Rattle.parser.specs.parse_terms.Sources.{lexemes}
 pub use Rattle.grammar.specs.reading.DeclParts.{ClausePart, ConPart, FieldsPart, BodyPart, ClausesPart, param_names, AlgPart, RecordPart}
 pub use Rattle.grammar.specs.reading.Values.{read}

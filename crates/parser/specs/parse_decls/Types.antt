@@ -24,10 +24,6 @@ begins_constructor x y = same t.Bar x || (same t.Uident x && not (same t.Dot y))
 abbrev pub begins_algebraic : Terminal → Terminal → Bool
 begins_algebraic x y = same t.LBrace x || begins_constructor x y
 
--- a semicolon is before another field, and not after the last one
-abbrev pub goes_on_with_field : Terminal → Terminal → Bool
-goes_on_with_field x y = same t.Semi x && not (same t.RBrace y)
-
 abbrev pub fields_part : List ParamGroup → List Constructor → List Algebraic → FieldsPart
 fields_part fs cs as_ = record { fields = fs; constructors = cs; others = as_ }
 

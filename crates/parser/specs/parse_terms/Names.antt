@@ -16,6 +16,6 @@ pub record IsOperatorName (xs : List Lexeme) (i : ℕ) (o : Own) (j : ℕ) : Typ
 
 -- What is read after a name's first word makes it this name.
 pub record IsUpperName (xs : List Lexeme) (i : ℕ) (c : Called) (j : ℕ) : Type 0 where
-  pub behind : Option Dotted
-  pub named : upper_called i (token_at xs i).text behind ≡ c
-  pub is : IsRead xs s.Quids (i + 1) behind j
+  pub following : Option Dotted
+  pub named : upper_called i (token_at xs i).text following ≡ c
+  pub is : IsRead xs s.Quids (i + 1) following j

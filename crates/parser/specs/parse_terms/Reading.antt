@@ -1,6 +1,6 @@
 -- What is read where in a list of tokens.
-use Rattle.std.specs.Prelude.{ℕ, ◌+◌, ◌≡◌, ◌≤◌, ◌<◌, Bool, true, false, ◌&&◌, List, [], ◌∷◌, length, Option, Some, None}
-use Rattle.parser.specs.parse_terms.Common.{Lexeme, Word, is_infix, is_operator, SyntaxTree, ends_open, Chain, Dotted, attach, first_token, scope_on, blank, read}
+use Rattle.std.specs.Prelude.{ℕ, ◌+◌, ◌≡◌, ◌≤◌, ◌<◌, Bool, true, false, ◌&&◌, not, List, [], ◌∷◌, length, Option, Some, None}
+use Rattle.parser.specs.parse_terms.Common.{same, Lexeme, Word, is_infix, is_operator, SyntaxTree, ends_open, Chain, Dotted, attach, first_token, scope_on, blank, read}
 use Rattle.tokens_why.specs.declared.terminal.Terminal.{Terminal}
 use Rattle.tokens_why.specs.declared.terminal.Terminal.TheVariants as t
 use Rattle.grammar.specs.declared.symbols.Symbol.{Symbol}
@@ -23,9 +23,9 @@ least s = least_of (blank s)
 -- Something is at a token that is read as these symbols, and then as others.
 pub record CanRun (xs : List Lexeme) (from : List Symbol → List Symbol) (i : ℕ) : Type 0 where
   pub within : i ≤ length xs
-  pub behind : List Symbol
-  pub values : Vals (from behind)
-  pub reads : read (lexemes_from xs i) i false (from behind) ≡ Some values
+  pub following : List Symbol
+  pub values : Vals (from following)
+  pub reads : read (lexemes_from xs i) i false (from following) ≡ Some values
 
 abbrev pub CanRead : List Lexeme → Symbol → ℕ → Type 0
 CanRead xs s i = CanRun xs (λ k. s ∷ k) i
@@ -58,7 +58,8 @@ pub record IsExpr (xs : List Lexeme) (m i : ℕ) (e : SyntaxTree) (j : ℕ) : Ty
       → read (lexemes_from xs i) i false (s.Expr m ∷ k) ≡ Some vs
       → (vs.0 ≡ e) × (read (lexemes_from xs j) j (ends_open e) k ≡ Some vs.1)
 
--- The same of a tree after which operators may follow, the tree binding so tightly.
+-- What is read as an expression begins with the tree, which binds so tightly, and goes on at a
+-- further token, where operators may follow.
 pub record Climb (xs : List Lexeme) (m i : ℕ) (e : SyntaxTree) (u j : ℕ) : Type 0 where
   pub ahead : i < j
   pub within : j ≤ length xs
@@ -97,6 +98,7 @@ begins_patom t.Wild = true
 begins_patom t.Lident = true
 begins_patom t.Uident = true
 begins_patom t.LParen = true
+begins_patom t.LBrace = true
 begins_patom _ = false
 
 abbrev pub begins_atom : Terminal → Bool
@@ -108,7 +110,12 @@ begins_atom t.Int = true
 begins_atom t.TrueWord = true
 begins_atom t.FalseWord = true
 begins_atom t.MatchWord = true
+begins_atom t.LBrace = true
 begins_atom _ = false
+
+-- a semicolon is before another field, and not after the last one
+abbrev pub goes_on_with_field : Terminal → Terminal → Bool
+goes_on_with_field x y = same t.Semi x && not (same t.RBrace y)
 
 abbrev pub ends_name : Terminal → Bool
 ends_name t.RParen = true

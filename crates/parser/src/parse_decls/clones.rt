@@ -57,9 +57,9 @@ fn name_after_as(
 {
     let is_named = is_at(source, i, Terminal::AsWord);
     if is_named {
-        let behind = i + 1;
-        let name = name_at(alloc, source, behind)?;
-        return Ok((Some(name), behind + 1));
+        let following = i + 1;
+        let name = name_at(alloc, source, following)?;
+        return Ok((Some(name), following + 1));
     }
     Ok((None, i))
 }
@@ -173,17 +173,17 @@ fn prop_element(alloc: Global, source: Source, i: usize) -> Result<(ElemTree, us
     ensures { IfOk result
         (λ r. IsRead (lexemes source.entry) rule.Elem i (element_of r.0) r.1) }
 {
-    let behind = i + 1;
-    let is_all = is_at(source, behind, Terminal::Dot);
+    let following = i + 1;
+    let is_all = is_at(source, following, Terminal::Dot);
     if is_all {
         let all = ElemTree {
             at: i,
             node: ElemNode::AllAxioms,
         };
-        return Ok((all, behind + 1));
+        return Ok((all, following + 1));
     }
     let kind = prop_kind(terminal(source, i));
-    let (name, end) = head_name(alloc, source, behind)?;
+    let (name, end) = head_name(alloc, source, following)?;
     let tree = ElemTree {
         at: i,
         node: ElemNode::PropElem(kind, name),

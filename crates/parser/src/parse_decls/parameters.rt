@@ -56,13 +56,13 @@ pub fn param(alloc: Global, source: Source, i: usize) -> Result<(ParamTree, usiz
 {
     let is_paren = is_at(source, i, Terminal::LParen);
     if is_paren {
-        let behind = i + 1;
-        let is_named = at_names(source, behind);
+        let following = i + 1;
+        let is_named = at_names(source, following);
         if is_named {
-            let (named, end) = named_param(alloc, source, behind)?;
+            let (named, end) = named_param(alloc, source, following)?;
             return Ok((named, end));
         }
-        let (parts, close) = type_list(alloc, source, behind)?;
+        let (parts, close) = type_list(alloc, source, following)?;
         let here = place(i);
         let group = TypeTree::new(here, TypeNode::Group(parts));
         let listed = ParamTree {
@@ -71,12 +71,12 @@ pub fn param(alloc: Global, source: Source, i: usize) -> Result<(ParamTree, usiz
         };
         return Ok((listed, close));
     }
-    let (one, behind) = argument(alloc, source, i)?;
+    let (one, following) = argument(alloc, source, i)?;
     let single = ParamTree {
         names: Seq::new(alloc),
         ty: one,
     };
-    Ok((single, behind))
+    Ok((single, following))
 }
 
 /// Parameters side by side, and the token after them. Only want of memory refuses.

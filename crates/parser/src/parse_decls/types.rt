@@ -4,10 +4,12 @@ ghost use Rattle.parser.specs.parse_decls.Common.{same, algebraic_of, constructo
 ghost use Rattle.grammar.specs.declared.symbols.Symbol.TheVariants as rule;
 ghost use Rattle.tokens_why.specs.declared.terminal.Terminal.TheVariants as t;
 ghost use Rattle.parser.specs.parse_decls.Bodies.{IsDecl};
-ghost use Rattle.parser.specs.parse_decls.Types.{IsReadBody, IsReadAlgebraic, IsCon, IsConstructor, IsConstructors, IsReadNames, IsRecord, begins_algebraic, goes_on_with_field};
+ghost use Rattle.parser.specs.parse_decls.Types.{IsReadBody, IsReadAlgebraic, IsCon, IsConstructor, IsConstructors, IsReadNames, IsRecord, begins_algebraic};
 
 use crate::parse_decls::parameters::param;
-use crate::parse_terms::{Source, at_type, is_at, name_at, place, type_tree};
+use crate::parse_terms::{
+    Source, at_next_field, at_type, is_at, name_at, past_semicolon, place, type_tree,
+};
 use outside::Seq;
 use std::alloc::{AllocError, Global};
 use surface::{AlgTree, ConTree, DeclNode, DeclTree, Name, ParamTree};
@@ -91,8 +93,8 @@ fn alternatives(
 {
     let is_barred = is_at(source, i, Terminal::Bar);
     if is_barred {
-        let (behind, after) = constructors(alloc, source, i + 1)?;
-        return Ok((true, behind, after));
+        let (following, after) = constructors(alloc, source, i + 1)?;
+        return Ok((true, following, after));
     }
     let (cons, end) = constructors(alloc, source, i)?;
     Ok((false, cons, end))
@@ -115,14 +117,6 @@ fn record_field(alloc: Global, source: Source, i: usize) -> Result<(ParamTree, u
     Ok((field, end))
 }
 
-/// Whether a semicolon and then another field of a record stand from a token on.
-fn at_next_field(source: Source, i: usize) -> bool
-    ensures { result ≡ goes_on_with_field (terminal_at (lexemes source.entry) i)
-        (terminal_at (lexemes source.entry) (i + 1)) }
-{
-    is_at(source, i, Terminal::Semi) && !is_at(source, i + 1, Terminal::RBrace)
-}
-
 /// The fields of a record after its brace, whether a semicolon is after them, and the token after
 /// the other brace.
 fn record_fields(
@@ -141,12 +135,8 @@ fn record_fields(
         parts.push(next)?;
         j = end;
     }
-    let semi = is_at(source, j, Terminal::Semi);
-    let fields = Seq::from_vec(parts);
-    if semi {
-        return Ok((fields, true, j + 1 + 1));
-    }
-    Ok((fields, false, j + 1))
+    let (semi, end) = past_semicolon(source, j);
+    Ok((Seq::from_vec(parts), semi, end + 1))
 }
 
 /// An algebraic type of which the name and the variables were read, after its equality sign.
@@ -213,10 +203,10 @@ pub fn type_declaration(
     let (vars, j) = variables(alloc, source, i + 1 + 1)?;
     let is_defined = is_at(source, j, Terminal::Equal);
     if is_defined {
-        let behind = j + 1;
-        let is_algebraic = at_algebraic(source, behind);
+        let following = j + 1;
+        let is_algebraic = at_algebraic(source, following);
         if is_algebraic {
-            let (first, after) = algebraic(alloc, source, behind, name, vars)?;
+            let (first, after) = algebraic(alloc, source, following, name, vars)?;
             let mut types: Vec<AlgTree> = Vec::new(alloc);
             types.push(first)?;
             let mut n = after;
@@ -228,7 +218,7 @@ pub fn type_declaration(
             let tree = DeclTree::new(here, DeclNode::Algebraic(Seq::from_vec(types)));
             return Ok((tree, n));
         }
-        let (ty, last) = type_tree(alloc, source, behind)?;
+        let (ty, last) = type_tree(alloc, source, following)?;
         return Ok((
             DeclTree::new(here, DeclNode::TypeDecl(name, vars, Some(ty))),
             last,

@@ -1,28 +1,30 @@
 // Terms and formulas, where they are known to be there: each call reads one, and says where it ends.
 ghost use Rattle.std.specs.Prelude.{false, true, ◌&&◌, ◌||◌, ◌≡◌, ◌<◌, ◌∷◌, IfOk, map, not, option_map};
-ghost use Rattle.parser.specs.parse_terms.Common.{same, is_prefix, arm_of, terms_of, tree_of, trees, ends_open};
+ghost use Rattle.parser.specs.parse_terms.Common.{same, is_prefix, arm_of, terms_of, tree_of, tree_part_of, trees, ends_open};
 ghost use Rattle.grammar.specs.declared.symbols.Symbol.TheVariants as rule;
 ghost use Rattle.tokens_why.specs.declared.terminal.Terminal.TheVariants as t;
 ghost use Rattle.surface.specs.Surface.{trigger as trigger_of};
 ghost use Rattle.parser.specs.parse_terms.Reading.{CanRead, CanRun, Climb, IsReadClosed, IsExpr, IsRead, is_name_at, takes_infix, terminal_at};
 ghost use Rattle.parser.specs.parse_terms.Sources.{lexemes};
 ghost use Rattle.parser.specs.parse_terms.Fields.{IsReadPlain};
+ghost use Rattle.parser.specs.parse_terms.Records.{IsReadTreeField};
 ghost use Rattle.parser.specs.parse_terms.Terms.{IsBranch, IsReadTrigger};
 
 use crate::parse_terms::fields::{at_field, with_fields};
-use crate::parse_terms::names::head_name;
+use crate::parse_terms::names::{head_name, lower_name};
 use crate::parse_terms::operators::{
     at_name, at_operator, at_prefix, at_quantifier, at_separator, integer_tree, operator, past_bar,
+    past_semicolon,
 };
 use crate::parse_terms::parts::{alternative, binder};
 use crate::parse_terms::patterns::pattern;
 use crate::parse_terms::source::Source;
-use crate::parse_terms::tokens::{at_atom, is_at, place, terminal};
+use crate::parse_terms::tokens::{at_atom, at_next_field, is_at, place, terminal};
 use crate::parse_terms::types::type_tree;
 use grammar::{prec_of, right_of};
 use outside::{Boxed, Seq};
 use std::alloc::{AllocError, Global};
-use surface::{At, BinderTree, BranchTree, Expr, ExprNode, Pat, TriggerTree};
+use surface::{At, BinderTree, BranchTree, Expr, ExprNode, FieldValue, Pat, TriggerTree};
 use tokens_why::Terminal;
 
 /// A term or formula, whether it ends in an open form, and the token after it.
@@ -281,8 +283,8 @@ fn quantification(alloc: Global, source: Source, m: u8, i: usize) -> Result<Read
         binders.push(next)?;
         j = end;
     }
-    let (triggers, behind) = trigger(alloc, source, j)?;
-    let (body, last) = any_expression(alloc, source, behind)?;
+    let (triggers, following) = trigger(alloc, source, j)?;
+    let (body, last) = any_expression(alloc, source, following)?;
     let bound = Seq::from_vec(binders);
     let tree = Expr::quantifier(alloc, place(i), forall, bound, triggers, body)?;
     Ok(ReadOperand {
@@ -411,6 +413,12 @@ fn plain_atom(alloc: Global, source: Source, i: usize) -> Result<(Expr, usize), 
         let (tree, end) = with_fields(alloc, source, i, plain, j)?;
         return Ok((tree, end));
     }
+    let is_record = is_at(source, i, Terminal::LBrace);
+    if is_record {
+        let (plain, j) = term_record(alloc, source, i)?;
+        let (tree, end) = with_fields(alloc, source, i, plain, j)?;
+        return Ok((tree, end));
+    }
     let (plain, j) = enclosed(alloc, source, i)?;
     let (tree, end) = with_fields(alloc, source, i, plain, j)?;
     Ok((tree, end))
@@ -425,15 +433,15 @@ fn enclosed(alloc: Global, source: Source, i: usize) -> Result<(Expr, usize), Al
     ensures { IfOk result (λ r. IsReadPlain (lexemes source.entry) i (tree_of r.0) r.1) }
 {
     let here = place(i);
-    let behind = i + 1;
-    let is_empty = is_at(source, behind, Terminal::RParen);
+    let following = i + 1;
+    let is_empty = is_at(source, following, Terminal::RParen);
     if is_empty {
         return Ok((
             Expr::new(here, ExprNode::Group(Seq::new(alloc))),
-            behind + 1,
+            following + 1,
         ));
     }
-    let (first, mut j) = any_expression(alloc, source, behind)?;
+    let (first, mut j) = any_expression(alloc, source, following)?;
     let is_cast = is_at(source, j, Terminal::Colon);
     if is_cast {
         let held = Boxed::new(alloc, first)?;
@@ -452,6 +460,38 @@ fn enclosed(alloc: Global, source: Source, i: usize) -> Result<(Expr, usize), Al
         Expr::new(here, ExprNode::Group(Seq::from_vec(parts))),
         j + 1,
     ))
+}
+
+/// A record.
+#[cycle(descent)]
+fn term_record(alloc: Global, source: Source, i: usize) -> Result<(Expr, usize), AllocError>
+    requires can { CanRead (lexemes source) rule.Atom i }
+    requires opens { same t.LBrace (terminal_at (lexemes source) i) ≡ true }
+    ensures { IfOk result (λ r. IsReadPlain (lexemes source.entry) i (tree_of r.0) r.1) }
+{
+    let mut fields: Vec<FieldValue> = Vec::new(alloc);
+    let (first, mut j) = field_value(alloc, source, i + 1)?;
+    fields.push(first)?;
+    'more: while at_next_field(source, j) {
+        let (next, end) = field_value(alloc, source, j + 1)?;
+        fields.push(next)?;
+        j = end;
+    }
+    let (semi, end) = past_semicolon(source, j);
+    let here = place(i);
+    let tree = Expr::new(here, ExprNode::Fields(Seq::from_vec(fields), semi));
+    Ok((tree, end + 1))
+}
+
+/// A field of a record and its value.
+#[cycle(descent)]
+fn field_value(alloc: Global, source: Source, i: usize) -> Result<(FieldValue, usize), AllocError>
+    requires { CanRun (lexemes source) (λ k. rule.Qlid ∷ rule.Take t.Equal ∷ rule.Expr 0 ∷ k) i }
+    ensures { IfOk result (λ r. IsReadTreeField (lexemes source.entry) i (tree_part_of r.0) r.1) }
+{
+    let (name, j) = lower_name(alloc, source, i)?;
+    let (value, end) = any_expression(alloc, source, j + 1)?;
+    Ok((FieldValue { name, value }, end))
 }
 
 /// A `match`.

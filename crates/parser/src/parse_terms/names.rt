@@ -27,19 +27,19 @@ pub fn operator_name(alloc: Global, source: Source, i: usize) -> Result<OwnName,
         (λ r. IsOperatorName (lexemes source.entry) i (own_of r.style r.text) r.end) }
 {
     let word = text(alloc, source, i)?;
-    let behind = i + 1;
-    let closed = is_at(source, behind, Terminal::RParen);
+    let following = i + 1;
+    let closed = is_at(source, following, Terminal::RParen);
     if closed {
         return Ok(OwnName {
             style: Style::Infix,
             text: word,
-            end: behind + 1,
+            end: following + 1,
         });
     }
     Ok(OwnName {
         style: Style::Prefix,
         text: word,
-        end: behind + 1 + 1,
+        end: following + 1 + 1,
     })
 }
 

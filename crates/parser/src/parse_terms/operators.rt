@@ -107,6 +107,19 @@ pub fn past_bar(source: Source, i: usize) -> (bool, usize)
     }
 }
 
+/// Whether a semicolon is after the last of several fields, and where the brace after them is.
+pub fn past_semicolon(source: Source, i: usize) -> (bool, usize)
+    requires { i < length source.tokens.now }
+    ensures semi { result.0 ≡ same t.Semi (terminal_at (lexemes source.entry) i) }
+    ensures brace { result.1 ≡ (if result.0 then i + 1 else i) }
+{
+    if is_at(source, i, Terminal::Semi) {
+        (true, i + 1)
+    } else {
+        (false, i)
+    }
+}
+
 /// The tree of an integer.
 pub fn integer_tree(source: Source, i: usize) -> Expr
     requires within { i < length source.tokens.now }

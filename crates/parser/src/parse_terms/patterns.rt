@@ -1,17 +1,20 @@
 // Patterns, where they are known to be there: each call reads one, and says where it ends.
-ghost use Rattle.std.specs.Prelude.{◌<◌, IfOk};
-ghost use Rattle.parser.specs.parse_terms.Common.{pattern_of, patterns};
+ghost use Rattle.std.specs.Prelude.{true, ◌≡◌, ◌<◌, ◌∷◌, IfOk};
+ghost use Rattle.parser.specs.parse_terms.Common.{same, pattern_of, patterns, form_part_of};
 ghost use Rattle.grammar.specs.declared.symbols.Symbol.TheVariants as rule;
 ghost use Rattle.parser.specs.parse_terms.Patterns.{IsBare};
-ghost use Rattle.parser.specs.parse_terms.Reading.{CanRead, IsRead};
+ghost use Rattle.parser.specs.parse_terms.Reading.{CanRead, CanRun, IsRead, terminal_at};
+ghost use Rattle.parser.specs.parse_terms.Records.{IsReadFormField};
+ghost use Rattle.tokens_why.specs.declared.terminal.Terminal.TheVariants as t;
 ghost use Rattle.parser.specs.parse_terms.Sources.{lexemes};
 
-use crate::parse_terms::names::upper_name;
+use crate::parse_terms::names::{lower_name, upper_name};
+use crate::parse_terms::operators::past_semicolon;
 use crate::parse_terms::source::Source;
-use crate::parse_terms::tokens::{at_pattern, is_at, name_at, place};
+use crate::parse_terms::tokens::{at_next_field, at_pattern, is_at, name_at, place};
 use outside::Seq;
 use std::alloc::{AllocError, Global};
-use surface::{Pat, PatNode};
+use surface::{FieldPat, Pat, PatNode};
 use tokens_why::Terminal;
 
 /// A pattern, and the token after it. Only want of memory refuses.
@@ -23,11 +26,11 @@ pub fn pattern(alloc: Global, source: Source, i: usize) -> Result<(Pat, usize), 
     let (inner, end) = bare_pattern(alloc, source, i)?;
     let is_named = is_at(source, end, Terminal::AsWord);
     if is_named {
-        let behind = end + 1;
-        let name = name_at(alloc, source, behind)?;
+        let following = end + 1;
+        let name = name_at(alloc, source, following)?;
         let here = place(i);
         let tree = Pat::alias(alloc, here, inner, name)?;
-        return Ok((tree, behind + 1));
+        return Ok((tree, following + 1));
     }
     Ok((inner, end))
 }
@@ -70,8 +73,44 @@ fn pattern_atom(alloc: Global, source: Source, i: usize) -> Result<(Pat, usize),
         let (name, end) = upper_name(alloc, source, i)?;
         return Ok((Pat::new(here, PatNode::Con(name, Seq::new(alloc))), end));
     }
+    let is_record = is_at(source, i, Terminal::LBrace);
+    if is_record {
+        return pattern_record(alloc, source, i);
+    }
     let (parts, end) = pattern_list(alloc, source, i + 1)?;
     Ok((Pat::new(here, PatNode::Group(parts)), end))
+}
+
+/// A record.
+#[cycle(pattern_descent)]
+fn pattern_record(alloc: Global, source: Source, i: usize) -> Result<(Pat, usize), AllocError>
+    requires can { CanRead (lexemes source) rule.Patom i }
+    requires opens { same t.LBrace (terminal_at (lexemes source) i) ≡ true }
+    ensures { IfOk result (λ r. IsRead (lexemes source.entry) rule.Patom i (pattern_of r.0) r.1) }
+{
+    let mut fields: Vec<FieldPat> = Vec::new(alloc);
+    let (first, mut j) = pattern_field(alloc, source, i + 1)?;
+    fields.push(first)?;
+    'more: while at_next_field(source, j) {
+        let (next, end) = pattern_field(alloc, source, j + 1)?;
+        fields.push(next)?;
+        j = end;
+    }
+    let (semi, end) = past_semicolon(source, j);
+    let here = place(i);
+    let tree = Pat::new(here, PatNode::Fields(Seq::from_vec(fields), semi));
+    Ok((tree, end + 1))
+}
+
+/// A field of a record and its pattern.
+#[cycle(pattern_descent)]
+fn pattern_field(alloc: Global, source: Source, i: usize) -> Result<(FieldPat, usize), AllocError>
+    requires { CanRun (lexemes source) (λ k. rule.Qlid ∷ rule.Take t.Equal ∷ rule.Pat ∷ k) i }
+    ensures { IfOk result (λ r. IsReadFormField (lexemes source.entry) i (form_part_of r.0) r.1) }
+{
+    let (name, j) = lower_name(alloc, source, i)?;
+    let (value, end) = pattern(alloc, source, j + 1)?;
+    Ok((FieldPat { name, value }, end))
 }
 
 /// Patterns side by side.

@@ -1,8 +1,8 @@
 // Tokens by their numbers: what each is to the grammar, and its text.
-ghost use Rattle.std.specs.Prelude.{true, ◌≡◌, ◌<◌, length, Some, slice_get, IfOk};
+ghost use Rattle.std.specs.Prelude.{true, ◌≡◌, ◌<◌, ◌+◌, length, Some, slice_get, IfOk};
 ghost use Rattle.parser.specs.parse_terms.Common.{same, name, integer_word, Int, text_of};
 ghost use Rattle.surface.specs.Lexeme.{at as place_at};
-ghost use Rattle.parser.specs.parse_terms.Reading.{begins_atom, begins_atype, begins_patom, terminal_at, token_at};
+ghost use Rattle.parser.specs.parse_terms.Reading.{begins_atom, begins_atype, begins_patom, goes_on_with_field, terminal_at, token_at};
 ghost use Rattle.parser.specs.parse_terms.Texts.{HasText};
 ghost use Rattle.parser.specs.parse_terms.Sources.{IsTextAt, lexemes};
 
@@ -91,7 +91,7 @@ pub fn at_pattern(source: Source, i: usize) -> bool
 {
     matches!(
         terminal(source, i),
-        Terminal::Wild | Terminal::Lident | Terminal::Uident | Terminal::LParen
+        Terminal::Wild | Terminal::Lident | Terminal::Uident | Terminal::LParen | Terminal::LBrace
     )
 }
 
@@ -109,7 +109,16 @@ pub fn at_atom(source: Source, i: usize) -> bool
             | Terminal::TrueWord
             | Terminal::FalseWord
             | Terminal::MatchWord
+            | Terminal::LBrace
     )
+}
+
+/// Whether a semicolon and then another field of a record stand from a token on.
+pub fn at_next_field(source: Source, i: usize) -> bool
+    ensures { result ≡ goes_on_with_field (terminal_at (lexemes source.entry) i)
+        (terminal_at (lexemes source.entry) (i + 1)) }
+{
+    is_at(source, i, Terminal::Semi) && !is_at(source, i + 1, Terminal::RBrace)
 }
 
 /// A name with its place. Only want of memory refuses.

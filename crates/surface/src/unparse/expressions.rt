@@ -2,17 +2,17 @@
 ghost use Rattle.std.specs.Prelude.{◌≡◌, ◌++◌, ◌∷◌, [], map, option_map};
 ghost use Rattle.tokens_why.specs.declared.terminal.Terminal.TheVariants.{Arrow, EndWord, LetWord, MatchWord, WithWord, Equal};
 ghost use Rattle.surface.specs.Lexeme.{terminals, mark, at};
-ghost use Rattle.surface.specs.Forms.{form_list};
-ghost use Rattle.surface.specs.Trees.{alternative_list, bar_before, write, write_row, write_list, write_branches, write_trigger, write_terms, apply, group, cast};
+ghost use Rattle.surface.specs.Forms.{form_list, write_called};
+ghost use Rattle.surface.specs.Trees.{alternative_list, bar_before, write, tree_fields, write_row, write_list, write_branches, write_trigger, write_terms, apply, group, cast};
 ghost use Rattle.surface.specs.unparse.Putting.{Puts};
-ghost use Rattle.surface.specs.Surface.{called_of, form_of, patterns, tree_of, arm_of, terms_of, trees, branches, trigger};
+ghost use Rattle.surface.specs.Surface.{called_of, form_of, patterns, tree_of, arm_of, terms_of, trees, branches, trigger, tree_part_of, tree_names, tree_values};
 
 use crate::unparse::parts::{
     operator_terminal, push_alternatives, push_bar, push_binders, push_called, push_patterns,
-    push_terminal, push_type, quantifier_terminal, separator_terminal,
+    push_semicolon, push_terminal, push_type, quantifier_terminal, separator_terminal,
 };
 use crate::unparse::writing::Written;
-use crate::{BranchTree, Expr, ExprNode, Pat, QName, TriggerTree, TypeTree};
+use crate::{BranchTree, Expr, ExprNode, FieldValue, Pat, QName, TriggerTree, TypeTree};
 use tokens_why::Terminal;
 
 /// Puts an expression's tokens after others.
@@ -36,35 +36,41 @@ pub fn push_expr(e: &Expr, out: &mut Written)
             out.push(Terminal::Dot);
             push_called(field, out)
         }
-        ExprNode::Prefix(operator, operand) => {
-            push_behind(operator_terminal(operator), operand.get(), out)
+        ExprNode::Fields(fields, semi) => {
+            out.push(Terminal::LBrace);
+            push_field_values(fields.as_slice(), out);
+            push_semicolon(*semi, out);
+            push_terminal(Terminal::RBrace, out)
         }
-        ExprNode::Not(operand) => push_behind(Terminal::NotWord, operand.get(), out),
+        ExprNode::Prefix(operator, operand) => {
+            push_after(operator_terminal(operator), operand.get(), out)
+        }
+        ExprNode::Not(operand) => push_after(Terminal::NotWord, operand.get(), out),
         ExprNode::Binary(left, operator, right) => {
             push_expr(left.get(), out);
-            push_behind(operator_terminal(operator), right.get(), out)
+            push_after(operator_terminal(operator), right.get(), out)
         }
         ExprNode::If(condition, consequent, alternative) => {
-            push_behind(Terminal::IfWord, condition.get(), out);
-            push_behind(Terminal::ThenWord, consequent.get(), out);
-            push_behind(Terminal::ElseWord, alternative.get(), out)
+            push_after(Terminal::IfWord, condition.get(), out);
+            push_after(Terminal::ThenWord, consequent.get(), out);
+            push_after(Terminal::ElseWord, alternative.get(), out)
         }
         ExprNode::Let(bound, value, body) => {
             push_value(value.get(), bound.as_slice(), out);
-            push_behind(Terminal::InWord, body.get(), out)
+            push_after(Terminal::InWord, body.get(), out)
         }
         ExprNode::Quant(forall, binders, triggers, body) => {
             out.push(quantifier_terminal(*forall));
             push_binders(binders.as_slice(), out);
             push_triggers(triggers, out);
-            push_behind(Terminal::Dot, body.get(), out)
+            push_after(Terminal::Dot, body.get(), out)
         }
     }
 }
 
 /// An expression after a token.
 #[cycle(writing)]
-fn push_behind(terminal: Terminal, e: &Expr, out: &mut Written)
+fn push_after(terminal: Terminal, e: &Expr, out: &mut Written)
     ensures { Puts out.old out.new (terminal ∷ terminals
         (write (tree_of e.now))) }
 {
@@ -159,6 +165,31 @@ fn push_list(exprs: &[Expr], out: &mut Written)
         for e in rest {
             out.push(Terminal::Comma);
             push_expr(e, out);
+        }
+    }
+}
+
+#[cycle(writing)]
+fn push_field_value(field: &FieldValue, out: &mut Written)
+    ensures { Puts out.old out.new (terminals (write_called (tree_part_of field.now).name
+        ++ (mark Equal ∷ write (tree_part_of field.now).tree))) }
+{
+    push_called(&field.name, out);
+    push_after(Terminal::Equal, &field.value, out)
+}
+
+// The fields of a record with their values, with semicolons between.
+#[cycle(writing)]
+fn push_field_values(of: &[FieldValue], out: &mut Written)
+    ensures { Puts out.old out.new (terminals (tree_fields
+        (tree_names (map tree_part_of of.now))
+        (tree_values (map tree_part_of of.now)))) }
+{
+    if let [first, rest @ ..] = of {
+        push_field_value(first, out);
+        for field in rest {
+            out.push(Terminal::Semi);
+            push_field_value(field, out);
         }
     }
 }

@@ -1,15 +1,15 @@
 // The tokens of names, types, patterns and binders.
 ghost use Rattle.std.specs.Prelude.{◌≡◌, ◌++◌, ◌∷◌, [], map, option_map};
-ghost use Rattle.tokens_why.specs.declared.terminal.Terminal.TheVariants.{LParen, RParen};
+ghost use Rattle.tokens_why.specs.declared.terminal.Terminal.TheVariants.{LParen, RParen, LBrace, RBrace, Equal};
 ghost use Rattle.surface.specs.declared.names.Style.TheVariants.{Plain};
-ghost use Rattle.surface.specs.Lexeme.{terminals};
-ghost use Rattle.surface.specs.Forms.{scoped, write_own, write_called, write_form, form_row, form_list};
+ghost use Rattle.surface.specs.Lexeme.{terminals, mark};
+ghost use Rattle.surface.specs.Forms.{scoped, write_own, write_called, write_form, form_row, form_list, form_fields, semicolon_after};
 ghost use Rattle.surface.specs.Trees.{name_row, alternative_list, type_part, write_binder, binder_list, quantifier, bar_before, separator};
 ghost use Rattle.surface.specs.unparse.Putting.{Puts};
-ghost use Rattle.surface.specs.Surface.{own_of, op_of, called_of, form_of, pattern_of, patterns, alternatives, binder_of, forms};
+ghost use Rattle.surface.specs.Surface.{own_of, op_of, called_of, form_of, pattern_of, patterns, alternatives, binder_of, forms, form_part_of, form_names, form_values};
 
 use crate::unparse::writing::Written;
-use crate::{BinderTree, Name, OpName, Pat, PatNode, QName, Style, TypeNode, TypeTree};
+use crate::{BinderTree, FieldPat, Name, OpName, Pat, PatNode, QName, Style, TypeNode, TypeTree};
 use outside::{Seq, Text};
 use tokens_why::{Terminal, is_star, terminal_of_text};
 
@@ -158,6 +158,12 @@ fn push_pattern(p: &Pat, out: &mut Written)
             out.push(Terminal::AsWord);
             push_terminal(Terminal::Lident, out)
         }
+        PatNode::Fields(fields, semi) => {
+            out.push(Terminal::LBrace);
+            push_field_patterns(fields.as_slice(), out);
+            push_semicolon(*semi, out);
+            push_terminal(Terminal::RBrace, out)
+        }
     }
 }
 
@@ -168,6 +174,32 @@ fn push_parts(of: &[Pat], out: &mut Written)
 {
     for p in of {
         push_pattern(p, out);
+    }
+}
+
+#[cycle(pattern_writing)]
+fn push_field_pattern(field: &FieldPat, out: &mut Written)
+    ensures { Puts out.old out.new (terminals (write_called (form_part_of field.now).name
+        ++ (mark Equal ∷ write_form (form_part_of field.now).form))) }
+{
+    push_called(&field.name, out);
+    out.push(Terminal::Equal);
+    push_pattern(&field.value, out)
+}
+
+// The fields of a record with their patterns, with semicolons between.
+#[cycle(pattern_writing)]
+fn push_field_patterns(of: &[FieldPat], out: &mut Written)
+    ensures { Puts out.old out.new (terminals (form_fields
+        (form_names (map form_part_of of.now))
+        (form_values (map form_part_of of.now)))) }
+{
+    if let [first, rest @ ..] = of {
+        push_field_pattern(first, out);
+        for field in rest {
+            out.push(Terminal::Semi);
+            push_field_pattern(field, out);
+        }
     }
 }
 
@@ -260,6 +292,15 @@ pub fn quantifier_terminal(forall: bool) -> Terminal
         Terminal::ForallWord
     } else {
         Terminal::ExistsWord
+    }
+}
+
+/// Puts a `;`, where there is one, after others.
+pub fn push_semicolon(semi: bool, out: &mut Written)
+    ensures { Puts out.old out.new (terminals (semicolon_after semi)) }
+{
+    if semi {
+        out.push(Terminal::Semi);
     }
 }
 

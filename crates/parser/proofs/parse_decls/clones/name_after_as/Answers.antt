@@ -14,8 +14,8 @@ returns c = done (pass (start c.requires) refl refl (none_of s.Renamed (t.AsWord
 
 -- the numbers of tokens, which are at most that of all tokens
 
-pub overflow_add-behind : goal.overflow_add-behind
-overflow_add-behind c = let h = upto c.args.source c.args.i c.requires.within in search rules
+pub overflow_add-following : goal.overflow_add-following
+overflow_add-following c = let h = upto c.args.source c.args.i c.requires.within in search rules
 
 pub overflow_add-result : goal.overflow_add-result
 overflow_add-result c = let h = upto c.args.source c.args.i c.requires.within in search rules

@@ -8,7 +8,7 @@ pub type_tree-requires : goal.type_tree-requires
 type_tree-requires c = can_next (constant_type c.requires.can c.requires.word c.in_ok-name.ensures)
 
 pub value-requires : goal.value-requires
-value-requires c = let q = can_run (constant_value c.requires.can c.requires.word c.in_ok-name.ensures c.in_ok-ty.ensures) in record { within = q.within; behind = q.behind; values = q.values; reads = q.reads }
+value-requires c = let q = can_run (constant_value c.requires.can c.requires.word c.in_ok-name.ensures c.in_ok-ty.ensures) in record { within = q.within; following = q.following; values = q.values; reads = q.reads }
 
 pub returns : goal.returns
 returns c = subst (λ d. IsDecl (lexemes c.args.source) c.args.i d c.in_ok-given.end) (sym (c.new-tree.ensures ∙ decl_of_node-Constant _ _ _ _ ∙ ap (λ a. constant_decl a (declared_name c.in_ok-name.name) (form_of c.in_ok-ty.ty) (option_map tree_of c.in_ok-given.given)) c.place-here.ensures)) (constant_read c.requires.can c.requires.word c.in_ok-name.ensures c.in_ok-ty.ensures c.in_ok-given.ensures)

@@ -5,13 +5,13 @@ use Rattle.parser.proofs.parse_decls.DeclaringRead as D
 use Rattle.parser.proofs.parse_decls.declaring.inductive_declaration.Goals as goal
 
 pub inductive_predicate-requires : goal.inductive_predicate-requires
-inductive_predicate-requires c = record { within = (can_run (D.inductive_start c.requires.can c.requires.word)).within; behind = s.Decls ∷ (can_run (D.inductive_start c.requires.can c.requires.word)).behind; values = (can_run (D.inductive_start c.requires.can c.requires.word)).values; reads = (can_run (D.inductive_start c.requires.can c.requires.word)).reads }
+inductive_predicate-requires c = record { within = (can_run (D.inductive_start c.requires.can c.requires.word)).within; following = s.Decls ∷ (can_run (D.inductive_start c.requires.can c.requires.word)).following; values = (can_run (D.inductive_start c.requires.can c.requires.word)).values; reads = (can_run (D.inductive_start c.requires.can c.requires.word)).reads }
 
 pub more-init : goal.more-init
 more-init c = subst (λ ts. D.Inductives (lexemes c.args.source) c.args.i (map inductive_of ts) c.in_ok-first.j) (sym (c.in_ok-push.ensures.items ∙ ap (λ v. v ++ c.in_ok-first.first ∷ []) c.new-of.ensures.items)) (record { last = c.in_ok-first.ensures.last; is = again (follow c.in_ok-first.ensures.is (D.inductive_start c.requires.can c.requires.word)) 1 refl (λ k us. refl) })
 
 pub inductive_predicate-requires-in-more : goal.inductive_predicate-requires-in-more
-inductive_predicate-requires-in-more c = record { within = (can_run (D.with_start (lexemes c.args.source) c.args.i (map inductive_of c.more.of.items) c.more.j c.more.invariant (sym c.is_at.ensures ∙ c.more-test.true))).within; behind = s.Decls ∷ (can_run (D.with_start (lexemes c.args.source) c.args.i (map inductive_of c.more.of.items) c.more.j c.more.invariant (sym c.is_at.ensures ∙ c.more-test.true))).behind; values = (can_run (D.with_start (lexemes c.args.source) c.args.i (map inductive_of c.more.of.items) c.more.j c.more.invariant (sym c.is_at.ensures ∙ c.more-test.true))).values; reads = (can_run (D.with_start (lexemes c.args.source) c.args.i (map inductive_of c.more.of.items) c.more.j c.more.invariant (sym c.is_at.ensures ∙ c.more-test.true))).reads }
+inductive_predicate-requires-in-more c = record { within = (can_run (D.with_start (lexemes c.args.source) c.args.i (map inductive_of c.more.of.items) c.more.j c.more.invariant (sym c.is_at.ensures ∙ c.more-test.true))).within; following = s.Decls ∷ (can_run (D.with_start (lexemes c.args.source) c.args.i (map inductive_of c.more.of.items) c.more.j c.more.invariant (sym c.is_at.ensures ∙ c.more-test.true))).following; values = (can_run (D.with_start (lexemes c.args.source) c.args.i (map inductive_of c.more.of.items) c.more.j c.more.invariant (sym c.is_at.ensures ∙ c.more-test.true))).values; reads = (can_run (D.with_start (lexemes c.args.source) c.args.i (map inductive_of c.more.of.items) c.more.j c.more.invariant (sym c.is_at.ensures ∙ c.more-test.true))).reads }
 
 pub more-preserved : goal.more-preserved
 more-preserved c = subst (λ ts. D.Inductives (lexemes c.args.source) c.args.i ts c.in_ok-next.end) (sym (ap (map inductive_of) c.in_ok-push-2.ensures.items ∙ map-append inductive_of c.more.of.items (c.in_ok-next.next ∷ []))) (record { last = c.in_ok-next.ensures.last; is = again (follow c.in_ok-next.ensures.is (D.with_start (lexemes c.args.source) c.args.i (map inductive_of c.more.of.items) c.more.j c.more.invariant (sym c.is_at.ensures ∙ c.more-test.true))) 1 refl (λ k us. ap (λ v. (more_decls (inductive_decl (at c.args.i) v) us.1.0, us.1.1)) (sym (append_assoc (map inductive_of c.more.of.items) ((inductive_of c.in_ok-next.next) ∷ []) us.0.others))) })

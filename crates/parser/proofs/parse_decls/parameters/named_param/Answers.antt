@@ -1,4 +1,4 @@
-use Rattle.parser.proofs.parse_decls.Cited.{◌+◌, [], ◌∷◌, ◌++◌, sym, ap, ◌∙◌, subst, refl, form_of, param_names, behind_paren, IsRead, from, terminal_at, lexemes, same, names_before_colon, can_next, stands_due, and_cases, done, next, take, inside, named_there, rules, arith, stands, upto}
+use Rattle.parser.proofs.parse_decls.Cited.{◌+◌, [], ◌∷◌, ◌++◌, sym, ap, ◌∙◌, subst, refl, form_of, param_names, after_paren, IsRead, from, terminal_at, lexemes, same, names_before_colon, can_next, stands_due, and_cases, done, next, take, inside, named_there, rules, arith, stands, upto}
 use Rattle.tokens_why.specs.declared.terminal.Terminal.TheVariants as t
 use Rattle.grammar.specs.declared.symbols.Symbol.TheVariants as s
 use Rattle.parser.proofs.parse_decls.ParamsRead as P
@@ -17,7 +17,7 @@ pub type_tree-requires : goal.type_tree-requires
 type_tree-requires c = can_next (P.type_start (lexemes c.args.source) c.args.i c.names.names.items c.names.j c.names.invariant (sym c.is_at.ensures ∙ c.names-test.false))
 
 pub returns : goal.returns
-returns c = subst (λ ns. IsRead (lexemes c.args.source) s.Pparen c.args.i (param_names ns (form_of c.in_ok-ty.ty)) (c.in_ok-ty.end + 1)) (sym c.from_vec.ensures) (subst (λ vs. IsRead (lexemes c.args.source) s.Pparen c.args.i (param_names vs (form_of c.in_ok-ty.ty)) (c.in_ok-ty.end + 1)) c.names.invariant.spelled (done (take (next (P.type_start (lexemes c.args.source) c.args.i c.names.names.items c.names.j c.names.invariant (sym c.is_at.ensures ∙ c.names-test.false)) c.in_ok-ty.ensures)) (param_names (c.names.invariant.first ∷ c.names.invariant.others) (form_of c.in_ok-ty.ty)) refl (λ k us. ap (λ v. (behind_paren c.names.invariant.first.at c.names.invariant.first.text v, us)) (P.named_all c.names.invariant.others (form_of c.in_ok-ty.ty)))))
+returns c = subst (λ ns. IsRead (lexemes c.args.source) s.Pparen c.args.i (param_names ns (form_of c.in_ok-ty.ty)) (c.in_ok-ty.end + 1)) (sym c.from_vec.ensures) (subst (λ vs. IsRead (lexemes c.args.source) s.Pparen c.args.i (param_names vs (form_of c.in_ok-ty.ty)) (c.in_ok-ty.end + 1)) c.names.invariant.spelled (done (take (next (P.type_start (lexemes c.args.source) c.args.i c.names.names.items c.names.j c.names.invariant (sym c.is_at.ensures ∙ c.names-test.false)) c.in_ok-ty.ensures)) (param_names (c.names.invariant.first ∷ c.names.invariant.others) (form_of c.in_ok-ty.ty)) refl (λ k us. ap (λ v. (after_paren c.names.invariant.first.at c.names.invariant.first.text v, us)) (P.named_all c.names.invariant.others (form_of c.in_ok-ty.ty)))))
 
 -- the numbers of tokens, which are at most that of all tokens
 

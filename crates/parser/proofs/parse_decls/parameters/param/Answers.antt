@@ -21,7 +21,7 @@ pub argument-requires : goal.argument-requires
 argument-requires c = can_next (single_start c.requires (sym c.is_at-is_paren.ensures ∙ c.if-is_paren.false))
 
 pub returns : goal.returns
-returns c = subst (λ ns. IsParam (lexemes c.args.source) c.args.i (single (form_of c.in_ok-one.one) ns) c.in_ok-one.behind) (sym c.new-2.ensures)
+returns c = subst (λ ns. IsParam (lexemes c.args.source) c.args.i (single (form_of c.in_ok-one.one) ns) c.in_ok-one.following) (sym c.new-2.ensures)
     (done (next (single_start c.requires (sym c.is_at-is_paren.ensures ∙ c.if-is_paren.false)) c.in_ok-one.ensures) _ refl (λ k us. refl))
   where
     single : SyntaxForm → List Name → ParamGroup
@@ -29,5 +29,5 @@ returns c = subst (λ ns. IsParam (lexemes c.args.source) c.args.i (single (form
 
 -- the numbers of tokens, which are at most that of all tokens
 
-pub overflow_add-behind : goal.overflow_add-behind
-overflow_add-behind c = let h = upto c.args.source c.args.i c.requires.within in search rules
+pub overflow_add-following : goal.overflow_add-following
+overflow_add-following c = let h = upto c.args.source c.args.i c.requires.within in search rules

@@ -9,7 +9,7 @@ pub constructors-requires-2 : goal.constructors-requires-2
 constructors-requires-2 c = let e = sym c.is_at-is_barred.ensures ∙ c.if-is_barred.false in record { name = unbarred_name c.requires.can c.requires.none e; can = (can_next (unbarred c.requires.can c.requires.none e)) }
 
 pub returns-then-is_barred : goal.returns-then-is_barred
-returns-then-is_barred c = barred_read c.requires.can (sym c.is_at-is_barred.ensures ∙ c.if-is_barred.true) (map constructor_of c.in_ok-behind.behind) c.in_ok-behind.after c.in_ok-behind.ensures
+returns-then-is_barred c = barred_read c.requires.can (sym c.is_at-is_barred.ensures ∙ c.if-is_barred.true) (map constructor_of c.in_ok-following.following) c.in_ok-following.after c.in_ok-following.ensures
 
 pub returns : goal.returns
 returns c = unbarred_read c.requires.can c.requires.none (sym c.is_at-is_barred.ensures ∙ c.if-is_barred.false) (map constructor_of c.in_ok-cons.cons) c.in_ok-cons.end c.in_ok-cons.ensures

@@ -1,4 +1,4 @@
-use Rattle.parser.proofs.parse_decls.Cited.{◌+◌, [], ◌∷◌, ◌++◌, true, false, map, sym, ap, ◌∙◌, subst, map-append, can_next, start, param_of, lexemes, IsRecord, RecordFields, record_done, record_done_semi, record_item, record_more, record_start, rules, arith, ◌≤◌, upto}
+use Rattle.parser.proofs.parse_decls.Cited.{◌+◌, [], ◌∷◌, ◌++◌, map, sym, ap, ◌∙◌, subst, map-append, can_next, next_within, refl, start, param_of, lexemes, IsRecord, RecordFields, inside, record_closed, record_item, record_more, record_start, rules, arith, ◌≤◌, upto}
 use Rattle.parser.proofs.parse_decls.types.record_fields.Goals as goal
 
 pub record_field-requires : goal.record_field-requires
@@ -15,13 +15,12 @@ pub more-preserved : goal.more-preserved
 more-preserved c = subst (λ ts. RecordFields (lexemes c.args.source) c.args.i ts c.in_ok-next.end) (sym (ap (map param_of) c.in_ok-push-2.ensures.items ∙ map-append param_of c.more.parts.items (c.in_ok-next.next ∷ [])))
     (record_more (lexemes c.args.source) c.args.i (map param_of c.more.parts.items) c.more.j c.more.invariant (sym c.at_next_field.ensures ∙ c.more-test.true) (param_of c.in_ok-next.next) c.in_ok-next.end c.in_ok-next.ensures)
 
-pub returns-then-semi : goal.returns-then-semi
-returns-then-semi c = subst (λ ts. IsRecord (lexemes c.args.source) c.args.i (map param_of ts) true (c.more.j + 1 + 1)) (sym c.from_vec-fields.ensures)
-    (record_done_semi (lexemes c.args.source) c.args.i (map param_of c.more.parts.items) c.more.j c.more.invariant (sym c.is_at-semi.ensures ∙ c.if-semi.true) (sym c.at_next_field.ensures ∙ c.more-test.false))
+pub past_semicolon-semi-requires : goal.past_semicolon-semi-requires
+past_semicolon-semi-requires c = inside c.args.source c.more.j (next_within c.more.invariant.is refl)
 
 pub returns : goal.returns
-returns c = subst (λ ts. IsRecord (lexemes c.args.source) c.args.i (map param_of ts) false (c.more.j + 1)) (sym c.from_vec-fields.ensures)
-    (record_done (lexemes c.args.source) c.args.i (map param_of c.more.parts.items) c.more.j c.more.invariant (sym c.is_at-semi.ensures ∙ c.if-semi.false))
+returns c = subst (λ ts. IsRecord (lexemes c.args.source) c.args.i (map param_of ts) c.past_semicolon-semi.result.0 (c.past_semicolon-semi.result.1 + 1)) (sym c.from_vec.ensures)
+    (record_closed (lexemes c.args.source) c.args.i (map param_of c.more.parts.items) c.more.j c.more.invariant (sym c.at_next_field.ensures ∙ c.more-test.false) c.past_semicolon-semi.result.0 c.past_semicolon-semi.result.1 c.past_semicolon-semi.ensures.semi c.past_semicolon-semi.ensures.brace)
 
 -- the numbers of tokens, which are at most that of all tokens
 
@@ -30,3 +29,6 @@ overflow_add-j c = let h = upto c.args.source c.more.j c.more.invariant.is.withi
 
 pub more-smaller : goal.more-smaller
 more-smaller c = let a : c.more.j + 1 + 1 ≤ c.in_ok-next.end = c.in_ok-next.ensures.ahead in let w = upto c.args.source c.in_ok-next.end c.in_ok-next.ensures.within in omega (arith, a, w)
+
+pub overflow_add-result : goal.overflow_add-result
+overflow_add-result c = let r = record_closed (lexemes c.args.source) c.args.i (map param_of c.more.parts.items) c.more.j c.more.invariant (sym c.at_next_field.ensures ∙ c.more-test.false) c.past_semicolon-semi.result.0 c.past_semicolon-semi.result.1 c.past_semicolon-semi.ensures.semi c.past_semicolon-semi.ensures.brace in let h = upto c.args.source (c.past_semicolon-semi.result.1 + 1) r.is.within in search rules

@@ -46,8 +46,8 @@ overflow_add-i-2 c = let h = upto c.args.source c.args.i c.requires.can.within i
 pub overflow_add-i-3 : goal.overflow_add-i-3
 overflow_add-i-3 c = let h = upto c.args.source c.args.i c.requires.can.within in search rules
 
-pub overflow_add-behind : goal.overflow_add-behind
-overflow_add-behind c = let h = inside c.args.source c.in_ok-vars.j (stands (lexemes c.args.source) c.in_ok-vars.j t.Equal (sym c.is_at-is_defined.ensures ∙ c.if-is_defined.true) refl) in search rules
+pub overflow_add-following : goal.overflow_add-following
+overflow_add-following c = let h = inside c.args.source c.in_ok-vars.j (stands (lexemes c.args.source) c.in_ok-vars.j t.Equal (sym c.is_at-is_defined.ensures ∙ c.if-is_defined.true) refl) in search rules
 
 pub overflow_add-n : goal.overflow_add-n
 overflow_add-n c = let h = upto c.args.source c.others.n c.others.invariant.within in search rules

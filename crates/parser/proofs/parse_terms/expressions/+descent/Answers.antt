@@ -1,4 +1,4 @@
-use Rattle.parser.proofs.parse_terms.Cited.{arith, ◌<◌, rules, ℕ, ◌≡◌, ◌≤◌, ◌+◌, Bool, not, ◌&&◌, List, [], ◌∷◌, ◌++◌, option_map, map, sym, ap, ◌∙◌, subst, refl, append_assoc, map-append, prec, right, same, Lexeme, at, SyntaxForms, called, more_forms, SyntaxTree, SyntaxTrees, accessed, apply, binary, binding, cases, cast, choice, ends_open, falsity, group, negation, op, prefixed, quantified, triggered, truth, more, none, literal, Arm, Terms, alternatives, arm_of, binder_of, branches, called_of, form_of, own_of, patterns, pattern_of, op_of, terms_of, tree_of, trees, trigger, forms, tree_of_node-Apply, tree_of_node-Binary, tree_of_node-Cast, tree_of_node-If, tree_of_node-Let, tree_of_node-False, tree_of_node-Group, tree_of_node-Match, tree_of_node-True, scoped_of, IsReadFields, CanRead, Climb, IsReadClosed, IsReadPlain, IsExpr, IsRead, takes_infix, terminal_at, token_at, begins_atom, lexemes, IsBranch, IsReadTrigger, trees_many, under, plain_start, can_next, can_run, run_over, next, next_expr, next_within, stands_due, done, side_start, side_item, stands_by, side_more, side_done, expand, start, take, again, many_more, only, follow, Arguments, Members, atom_alone, atom_dots, atom_with, name_there, prim_args, prim_dots, prim_with, application_read, atom_none, atom_some, inner_start, members_start, only_paren, paren_start, climb_done, climb_more, not_start, operator_within, prefix_start, prim_read, prim_start, right_can, Bound, Quantified, Triggering, body_start, else_start, if_read, if_start, let_read, let_start, quantified_body, quantified_read, quantified_start, then_start, trigger_done, trigger_start, triggering_more, value_start, branching_start, neither, quantifier_there, separator_start, inside, upto}
+use Rattle.parser.proofs.parse_terms.Cited.{tree_part_of, tree_part_of-fields, tree_of_node-Fields, fielded_tree, tree_names, tree_values, IsReadTreeField, TreesFrom, tree_field_can, tree_item, tree_opened, trees_closed, trees_more, trees_start, arith, ◌<◌, rules, ℕ, ◌≡◌, ◌≤◌, ◌+◌, Bool, not, ◌&&◌, List, [], ◌∷◌, ◌++◌, option_map, map, sym, ap, ◌∙◌, subst, refl, append_assoc, map-append, prec, right, same, Lexeme, at, SyntaxForms, called, more_forms, SyntaxTree, SyntaxTrees, accessed, apply, binary, binding, cases, cast, choice, ends_open, falsity, group, negation, op, prefixed, quantified, triggered, truth, more, none, literal, Arm, Terms, alternatives, arm_of, binder_of, branches, called_of, form_of, own_of, patterns, pattern_of, op_of, terms_of, tree_of, trees, trigger, forms, tree_of_node-Apply, tree_of_node-Binary, tree_of_node-Cast, tree_of_node-If, tree_of_node-Let, tree_of_node-False, tree_of_node-Group, tree_of_node-Match, tree_of_node-True, scoped_of, IsReadFields, CanRead, Climb, IsReadClosed, IsReadPlain, IsExpr, IsRead, takes_infix, terminal_at, token_at, begins_atom, lexemes, IsBranch, IsReadTrigger, trees_many, under, plain_start, can_next, can_run, run_over, next, next_expr, next_within, stands_due, done, side_start, side_item, stands_by, side_more, side_done, expand, start, take, again, many_more, only, follow, Arguments, Members, atom_alone, atom_dots, atom_with, name_there, prim_args, prim_dots, prim_with, application_read, atom_none, atom_some, inner_start, members_start, only_paren, paren_start, climb_done, climb_more, not_start, operator_within, prefix_start, prim_read, prim_start, right_can, Bound, Quantified, Triggering, body_start, else_start, if_read, if_start, let_read, let_start, quantified_body, quantified_read, quantified_start, then_start, trigger_done, trigger_start, triggering_more, value_start, branching_start, neither, quantifier_there, separator_start, inside, upto}
 use Rattle.tokens_why.specs.declared.terminal.Terminal.TheVariants as t
 use Rattle.grammar.specs.declared.symbols.Symbol.TheVariants as s
 use Rattle.parser.proofs.parse_terms.HeadsRead as H
@@ -126,10 +126,10 @@ pub quantification-trigger-requires : goal.quantification-trigger-requires
 quantification-trigger-requires m c = let a : c.args.i + 1 ≤ c.more.j = c.more.invariant.ahead in let w = inside c.args.source c.more.j (next_within c.more.invariant refl) in (search rules, (can_next c.more.invariant, (sym c.is_at.ensures ∙ c.more-test.false)))
 
 pub quantification-any_expression-requires : goal.quantification-any_expression-requires
-quantification-any_expression-requires m c = let a : c.args.i + 1 ≤ c.more.j = c.more.invariant.ahead in let b : c.more.j + 1 ≤ c.in_ok-triggers.behind = c.in_ok-triggers.ensures.ahead in let w = upto c.args.source c.in_ok-triggers.behind c.in_ok-triggers.ensures.within in (search rules, can_next (quantified_body (lexemes c.args.source) c.args.m c.args.i c.is_at-forall.result (map binder_of c.more.binders.items) c.more.j c.more.invariant (trigger (option_map terms_of c.in_ok-triggers.triggers)) c.in_ok-triggers.behind c.in_ok-triggers.ensures))
+quantification-any_expression-requires m c = let a : c.args.i + 1 ≤ c.more.j = c.more.invariant.ahead in let b : c.more.j + 1 ≤ c.in_ok-triggers.following = c.in_ok-triggers.ensures.ahead in let w = upto c.args.source c.in_ok-triggers.following c.in_ok-triggers.ensures.within in (search rules, can_next (quantified_body (lexemes c.args.source) c.args.m c.args.i c.is_at-forall.result (map binder_of c.more.binders.items) c.more.j c.more.invariant (trigger (option_map terms_of c.in_ok-triggers.triggers)) c.in_ok-triggers.following c.in_ok-triggers.ensures))
 
 pub quantification-returns-clause-climb : goal.quantification-returns-clause-climb
-quantification-returns-clause-climb m c = subst (λ e. Climb (lexemes c.args.source) c.args.m c.args.i e 0 c.in_ok-body.last) (sym (c.in_ok-tree.ensures ∙ ap (λ a. quantified a c.is_at-forall.result (map binder_of c.from_vec-bound.result) (trigger (option_map terms_of c.in_ok-triggers.triggers)) (tree_of c.in_ok-body.body)) c.place.ensures ∙ ap (λ bs. quantified (at c.args.i) c.is_at-forall.result (map binder_of bs) (trigger (option_map terms_of c.in_ok-triggers.triggers)) (tree_of c.in_ok-body.body)) c.from_vec-bound.ensures)) (quantified_read (lexemes c.args.source) c.args.m c.args.i c.is_at-forall.result (map binder_of c.more.binders.items) c.more.j c.more.invariant (trigger (option_map terms_of c.in_ok-triggers.triggers)) c.in_ok-triggers.behind c.in_ok-triggers.ensures c.in_ok-body.ensures)
+quantification-returns-clause-climb m c = subst (λ e. Climb (lexemes c.args.source) c.args.m c.args.i e 0 c.in_ok-body.last) (sym (c.in_ok-tree.ensures ∙ ap (λ a. quantified a c.is_at-forall.result (map binder_of c.from_vec-bound.result) (trigger (option_map terms_of c.in_ok-triggers.triggers)) (tree_of c.in_ok-body.body)) c.place.ensures ∙ ap (λ bs. quantified (at c.args.i) c.is_at-forall.result (map binder_of bs) (trigger (option_map terms_of c.in_ok-triggers.triggers)) (tree_of c.in_ok-body.body)) c.from_vec-bound.ensures)) (quantified_read (lexemes c.args.source) c.args.m c.args.i c.is_at-forall.result (map binder_of c.more.binders.items) c.more.j c.more.invariant (trigger (option_map terms_of c.in_ok-triggers.triggers)) c.in_ok-triggers.following c.in_ok-triggers.ensures c.in_ok-body.ensures)
 
 pub quantification-returns-clause-is_open : goal.quantification-returns-clause-is_open
 quantification-returns-clause-is_open m c = sym (ap ends_open c.in_ok-tree.ensures)
@@ -237,7 +237,7 @@ pub plain_atom-cases-requires : goal.plain_atom-cases-requires
 plain_atom-cases-requires m c = (search rules, (c.requires.can, (sym c.is_at-is_match.ensures ∙ c.if-is_match.true)))
 
 pub plain_atom-enclosed-requires : goal.plain_atom-enclosed-requires
-plain_atom-enclosed-requires m c = (search rules, (c.requires.can, (c.requires.unnamed, only_paren c.requires.can c.requires.unnamed (sym c.is_at-is_integer.ensures ∙ c.if-is_integer.false) (sym c.is_at-is_true.ensures ∙ c.if-is_true.false) (sym c.is_at-is_false.ensures ∙ c.if-is_false.false) (sym c.is_at-is_match.ensures ∙ c.if-is_match.false))))
+plain_atom-enclosed-requires m c = (search rules, (c.requires.can, (c.requires.unnamed, only_paren c.requires.can c.requires.unnamed (sym c.is_at-is_integer.ensures ∙ c.if-is_integer.false) (sym c.is_at-is_true.ensures ∙ c.if-is_true.false) (sym c.is_at-is_false.ensures ∙ c.if-is_false.false) (sym c.is_at-is_match.ensures ∙ c.if-is_match.false) (sym c.is_at-is_record.ensures ∙ c.if-is_record.false))))
 
 pub plain_atom-with_fields-requires : goal.plain_atom-with_fields-requires
 plain_atom-with_fields-requires m c = can_next c.in_ok-plain.ensures.is
@@ -245,11 +245,52 @@ plain_atom-with_fields-requires m c = can_next c.in_ok-plain.ensures.is
 pub plain_atom-returns-then-is_match : goal.plain_atom-returns-then-is_match
 plain_atom-returns-then-is_match m c = atom_with c.in_ok-plain.ensures c.in_ok-tree.ensures
 
+pub plain_atom-term_record-requires : goal.plain_atom-term_record-requires
+plain_atom-term_record-requires m c = (search rules, (c.requires.can, (sym c.is_at-is_record.ensures ∙ c.if-is_record.true)))
+
+pub plain_atom-with_fields-requires-then-is_record : goal.plain_atom-with_fields-requires-then-is_record
+plain_atom-with_fields-requires-then-is_record m c = can_next c.in_ok-plain-2.ensures.is
+
+pub plain_atom-returns-then-is_record : goal.plain_atom-returns-then-is_record
+plain_atom-returns-then-is_record m c = atom_with c.in_ok-plain-2.ensures c.in_ok-tree-2.ensures
+
 pub plain_atom-with_fields-requires-2 : goal.plain_atom-with_fields-requires-2
-plain_atom-with_fields-requires-2 m c = can_next c.in_ok-plain-2.ensures.is
+plain_atom-with_fields-requires-2 m c = can_next c.in_ok-plain-3.ensures.is
 
 pub plain_atom-returns : goal.plain_atom-returns
-plain_atom-returns m c = atom_with c.in_ok-plain-2.ensures c.in_ok-tree-2.ensures
+plain_atom-returns m c = atom_with c.in_ok-plain-3.ensures c.in_ok-tree-3.ensures
+
+pub term_record-field_value-requires : goal.term_record-field_value-requires
+term_record-field_value-requires m c = let h = inside c.args.source c.args.i (stands_due c.requires.can refl) in (search rules, tree_field_can {K = λ k. s.Dots ∷ k} (tree_opened c.requires.can c.requires.opens))
+
+pub term_record-more-init : goal.term_record-more-init
+term_record-more-init m c = subst (λ ts. TreesFrom (lexemes c.args.source) c.args.i (map tree_part_of ts) c.in_ok-first.j) (sym (c.in_ok-push.ensures.items ∙ ap (λ v. v ++ c.in_ok-first.first ∷ []) c.new-fields.ensures.items))
+    (trees_start c.requires.can c.requires.opens (tree_part_of c.in_ok-first.first) c.in_ok-first.j c.in_ok-first.ensures)
+
+pub term_record-field_value-requires-in-more : goal.term_record-field_value-requires-in-more
+term_record-field_value-requires-in-more m c = let a : c.args.i + 1 ≤ c.more.j = c.more.invariant.is.ahead in let w = inside c.args.source c.more.j (next_within c.more.invariant.is refl) in (search rules, tree_field_can {K = λ k. s.Dots ∷ k} (tree_item (lexemes c.args.source) c.args.i (map tree_part_of c.more.fields.items) c.more.j c.more.invariant (sym c.at_next_field.ensures ∙ c.more-test.true)))
+
+pub term_record-more-preserved : goal.term_record-more-preserved
+term_record-more-preserved m c = subst (λ ts. TreesFrom (lexemes c.args.source) c.args.i ts c.in_ok-next.end) (sym (ap (map tree_part_of) c.in_ok-push-2.ensures.items ∙ map-append tree_part_of c.more.fields.items (c.in_ok-next.next ∷ [])))
+    (trees_more (lexemes c.args.source) c.args.i (map tree_part_of c.more.fields.items) c.more.j c.more.invariant (sym c.at_next_field.ensures ∙ c.more-test.true) (tree_part_of c.in_ok-next.next) c.in_ok-next.end c.in_ok-next.ensures)
+
+pub term_record-past_semicolon-semi-requires : goal.term_record-past_semicolon-semi-requires
+term_record-past_semicolon-semi-requires m c = inside c.args.source c.more.j (next_within c.more.invariant.is refl)
+
+pub term_record-returns : goal.term_record-returns
+term_record-returns m c = subst (λ e. IsReadPlain (lexemes c.args.source) c.args.i e (c.past_semicolon-semi.result.1 + 1))
+    (sym (c.new-tree.ensures ∙ tree_of_node-Fields _ _ _ ∙ ap (λ a. fielded_tree a (tree_names (map tree_part_of c.from_vec.result)) (tree_values (map tree_part_of c.from_vec.result)) c.past_semicolon-semi.result.0) c.place-here.ensures ∙ ap (λ ts. fielded_tree (at c.args.i) (tree_names (map tree_part_of ts)) (tree_values (map tree_part_of ts)) c.past_semicolon-semi.result.0) c.from_vec.ensures))
+    (trees_closed (lexemes c.args.source) c.args.i (map tree_part_of c.more.fields.items) c.more.j c.more.invariant (sym c.at_next_field.ensures ∙ c.more-test.false) c.past_semicolon-semi.result.0 c.past_semicolon-semi.result.1 c.past_semicolon-semi.ensures.semi c.past_semicolon-semi.ensures.brace)
+
+pub field_value-lower_name-requires : goal.field_value-lower_name-requires
+field_value-lower_name-requires m c = can_next (start c.requires)
+
+pub field_value-any_expression-requires : goal.field_value-any_expression-requires
+field_value-any_expression-requires m c = let r = c.in_ok-name.ensures.read in let a : c.args.i + 1 ≤ c.in_ok-name.j = r.ahead in let w = inside c.args.source c.in_ok-name.j (next_within (next (start c.requires) r) refl) in (search rules, can_next (take (next (start c.requires) r)))
+
+pub field_value-returns : goal.field_value-returns
+field_value-returns m c = subst (λ f. IsReadTreeField (lexemes c.args.source) c.args.i f c.in_ok-value.end) (sym (tree_part_of-fields _))
+    (record { name = record { scopes = c.in_ok-name.name.scopes; last = c.in_ok-name.name.text }; middle = c.in_ok-name.j; named = sym c.in_ok-name.ensures.name; is = c.in_ok-name.ensures.read; value = c.in_ok-value.ensures })
 
 pub enclosed-returns-then-is_empty : goal.enclosed-returns-then-is_empty
 enclosed-returns-then-is_empty m c = subst (λ e. IsReadPlain (lexemes c.args.source) c.args.i e (c.args.i + 1 + 1)) (sym (c.new-then-is_empty.ensures ∙ tree_of_node-Group _ _ ∙ ap (λ a. group a (trees (map tree_of c.new.result))) c.place-here.ensures ∙ ap (λ ts. group (at c.args.i) (trees (map tree_of ts))) c.new.ensures)) (record { first = refl; closed = refl; is = again (expand (paren_start c.requires.can c.requires.opens) t.RParen (sym c.is_at-is_empty.ensures ∙ c.if-is_empty.true) refl refl) 1 refl (λ k us. refl) })
@@ -413,8 +454,8 @@ plain_atom-overflow_add-result-then-is_true m c = let h = inside c.args.source c
 pub plain_atom-overflow_add-result-then-is_false : goal.plain_atom-overflow_add-result-then-is_false
 plain_atom-overflow_add-result-then-is_false m c = let h = inside c.args.source c.args.i (stands_due c.requires.can refl) in search rules
 
-pub enclosed-overflow_add-behind : goal.enclosed-overflow_add-behind
-enclosed-overflow_add-behind m c = let h = inside c.args.source c.args.i (stands_due c.requires.can refl) in search rules
+pub enclosed-overflow_add-following : goal.enclosed-overflow_add-following
+enclosed-overflow_add-following m c = let h = inside c.args.source c.args.i (stands_due c.requires.can refl) in search rules
 
 pub enclosed-overflow_add-result : goal.enclosed-overflow_add-result
 enclosed-overflow_add-result m c = let h = inside c.args.source c.args.i (stands_due c.requires.can refl) in search rules
@@ -433,6 +474,21 @@ enclosed-members-smaller m c = let h = inside c.args.source c.members.j (next_wi
 
 pub enclosed-overflow_add-result-2 : goal.enclosed-overflow_add-result-2
 enclosed-overflow_add-result-2 m c = let h = inside c.args.source c.members.j (next_within c.members.invariant refl) in search rules
+
+pub term_record-overflow_add-i : goal.term_record-overflow_add-i
+term_record-overflow_add-i m c = let h = inside c.args.source c.args.i (stands_due c.requires.can refl) in search rules
+
+pub term_record-overflow_add-j : goal.term_record-overflow_add-j
+term_record-overflow_add-j m c = let h = inside c.args.source c.more.j (next_within c.more.invariant.is refl) in search rules
+
+pub term_record-more-smaller : goal.term_record-more-smaller
+term_record-more-smaller m c = let h = inside c.args.source c.more.j (next_within c.more.invariant.is refl) in let r = c.in_ok-next.ensures in let a : c.more.j + 1 + 1 ≤ r.middle = r.is.ahead in let b : r.middle + 1 < c.in_ok-next.end = r.value.ahead in omega (arith, h, a, b)
+
+pub term_record-overflow_add-result : goal.term_record-overflow_add-result
+term_record-overflow_add-result m c = let r = trees_closed (lexemes c.args.source) c.args.i (map tree_part_of c.more.fields.items) c.more.j c.more.invariant (sym c.at_next_field.ensures ∙ c.more-test.false) c.past_semicolon-semi.result.0 c.past_semicolon-semi.result.1 c.past_semicolon-semi.ensures.semi c.past_semicolon-semi.ensures.brace in let h = upto c.args.source (c.past_semicolon-semi.result.1 + 1) r.is.within in search rules
+
+pub field_value-overflow_add-j : goal.field_value-overflow_add-j
+field_value-overflow_add-j m c = let w = inside c.args.source c.in_ok-name.j (next_within (next (start c.requires) c.in_ok-name.ensures.read) refl) in search rules
 
 pub cases-overflow_add-i : goal.cases-overflow_add-i
 cases-overflow_add-i m c = let h = inside c.args.source c.args.i (stands_due c.requires.can refl) in search rules

@@ -1,4 +1,4 @@
-use Rattle.parser.proofs.parse_terms.Cited.{◌≡◌, ◌-◌, ◌*◌, ◌+◌, length, map, ends_open, arm_of, binder_of, pattern_of, patterns, tree_of, Climb, lexemes, Arguments, Members, Bound, Quantified, Triggering, Alternatives, Branched, Matched}
+use Rattle.parser.proofs.parse_terms.Cited.{◌≡◌, ◌-◌, ◌*◌, ◌+◌, length, map, ends_open, arm_of, binder_of, pattern_of, patterns, tree_of, tree_part_of, TreesFrom, Climb, lexemes, Arguments, Members, Bound, Quantified, Triggering, Alternatives, Branched, Matched}
 use Rattle.parser.proofs.parse_terms.expressions.+descent.Given as goal
 
 abbrev pub decreases-expression : goal.decreases-expression
@@ -51,6 +51,18 @@ decreases-enclosed l = 8 * (length l.source.tokens.now - l.i) + 1
 
 abbrev pub decreases-cases : goal.decreases-cases
 decreases-cases l = 8 * (length l.source.tokens.now - l.i) + 1
+
+abbrev pub decreases-term_record : goal.decreases-term_record
+decreases-term_record l = 8 * (length l.source.tokens.now - l.i) + 1
+
+abbrev pub decreases-field_value : goal.decreases-field_value
+decreases-field_value l = 8 * (length l.source.tokens.now - l.i) + 7
+
+abbrev pub invariant-term_record-more : goal.invariant-term_record-more
+invariant-term_record-more l = TreesFrom (lexemes l.source) l.fn.i (map tree_part_of l.fields.items) l.j
+
+abbrev pub decreases-term_record-more : goal.decreases-term_record-more
+decreases-term_record-more l = length l.source.tokens.now - l.j
 
 abbrev pub decreases-branch : goal.decreases-branch
 decreases-branch l = 8 * (length l.source.tokens.now - l.i) + 6

@@ -19,8 +19,8 @@ returns c = record {
   is = (done (take (expand (opname_start c.requires) t.Wild (prefix_wild c.requires (sym c.is_at-closed.ensures ∙ c.if-closed.false)) refl refl)) _ refl (λ k us. refl));
 }
 
-pub overflow_add-behind : goal.overflow_add-behind
-overflow_add-behind c = let h = inside c.args.source c.args.i (stands_due c.requires refl) in search rules
+pub overflow_add-following : goal.overflow_add-following
+overflow_add-following c = let h = inside c.args.source c.args.i (stands_due c.requires refl) in search rules
 
 pub overflow_add-result : goal.overflow_add-result
 overflow_add-result c = let h = inside c.args.source (c.args.i + 1) (next_within (opname_start c.requires) refl) in search rules

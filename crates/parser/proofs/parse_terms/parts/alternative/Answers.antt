@@ -4,7 +4,7 @@ use Rattle.grammar.specs.declared.symbols.Symbol.TheVariants as s
 use Rattle.parser.proofs.parse_terms.parts.alternative.Goals as goal
 
 pub pattern-requires : goal.pattern-requires
-pattern-requires c = record { within = c.requires.within; behind = s.Arm ∷ c.requires.behind; values = c.requires.values; reads = c.requires.reads }
+pattern-requires c = record { within = c.requires.within; following = s.Arm ∷ c.requires.following; values = c.requires.values; reads = c.requires.reads }
 
 pub more-init : goal.more-init
 more-init c = record {

@@ -1,4 +1,4 @@
-use Rattle.parser.proofs.parse_terms.Cited.{name, arith, rules, ◌≤◌, ◌+◌, [], ◌∷◌, ◌++◌, map, sym, ap, ◌∙◌, subst, refl, map-append, at, aliased, composed, enclosed, variable, wild, more_forms, no_forms, called_of, pattern_of, patterns, pattern_of_node-Con, pattern_of_node-Group, pattern_of_node-Var, pattern_of_node-Wild, upper_called, IsRead, token_at, terminal_at, begins_patom, lexemes, IsBare, can_next, next, next_within, stands_due, expand, only, done, take, none_of, pass, again, start, side_start, side_item, stands_by, side_more, side_done, many_more, many, PatternList, Patterns, atom_start, constant_start, constructor_start, first_pattern_start, forms_many, patom_none, patom_some, pattern_group_start, inside, named_there, upto}
+use Rattle.parser.proofs.parse_terms.Cited.{form_part_of, form_part_of-fields, pattern_of_node-Fields, fielded_form, form_names, form_values, IsReadFormField, FormsFrom, form_field_can, form_item, form_opened, forms_closed, forms_more, forms_start, name, arith, rules, ◌≤◌, ◌+◌, [], ◌∷◌, ◌++◌, map, sym, ap, ◌∙◌, subst, refl, map-append, at, aliased, composed, enclosed, variable, wild, more_forms, no_forms, called_of, pattern_of, patterns, pattern_of_node-Con, pattern_of_node-Group, pattern_of_node-Var, pattern_of_node-Wild, upper_called, IsRead, token_at, terminal_at, begins_patom, lexemes, IsBare, can_next, next, next_within, stands_due, expand, only, done, take, none_of, pass, again, start, side_start, side_item, stands_by, side_more, side_done, many_more, many, PatternList, Patterns, atom_start, constant_start, constructor_start, first_pattern_start, forms_many, patom_none, patom_some, pattern_group_start, inside, named_there, upto}
 use Rattle.tokens_why.specs.declared.terminal.Terminal.TheVariants as t
 use Rattle.grammar.specs.declared.symbols.Symbol.TheVariants as s
 use Rattle.parser.proofs.parse_terms.patterns.+pattern_descent.Goals as goal
@@ -50,16 +50,16 @@ pattern_atom-upper_name-requires m c = let e = sym c.is_at-is_constant.ensures �
 pub pattern_atom-returns-then-is_constant : goal.pattern_atom-returns-then-is_constant
 pattern_atom-returns-then-is_constant m c = let e = sym c.is_at-is_constant.ensures ∙ c.if-is_constant.true in let r = c.in_ok-name-2.ensures in
     subst (λ f. IsRead (lexemes c.args.source) s.Patom c.args.i f c.in_ok-name-2.end)
-    (sym (c.new-then-is_constant-2.ensures ∙ pattern_of_node-Con _ _ _ ∙ ap (λ a. composed a (called_of c.in_ok-name-2.name) (patterns c.new-then-is_constant.result)) c.place-here.ensures ∙ ap (λ n. composed (at c.args.i) n (patterns c.new-then-is_constant.result)) (sym r.named) ∙ ap (λ ts. composed (at c.args.i) (upper_called c.args.i (token_at (lexemes c.args.source) c.args.i).text r.behind) (patterns ts)) c.new-then-is_constant.ensures))
+    (sym (c.new-then-is_constant-2.ensures ∙ pattern_of_node-Con _ _ _ ∙ ap (λ a. composed a (called_of c.in_ok-name-2.name) (patterns c.new-then-is_constant.result)) c.place-here.ensures ∙ ap (λ n. composed (at c.args.i) n (patterns c.new-then-is_constant.result)) (sym r.named) ∙ ap (λ ts. composed (at c.args.i) (upper_called c.args.i (token_at (lexemes c.args.source) c.args.i).text r.following) (patterns ts)) c.new-then-is_constant.ensures))
     (done (next (constant_start c.requires e) r.is) _ refl (λ k us. refl))
 
 pub pattern_atom-pattern_list-requires : goal.pattern_atom-pattern_list-requires
 pattern_atom-pattern_list-requires m c = let h = inside c.args.source c.args.i (stands_due c.requires refl) in
-    (search rules, can_next (pattern_group_start c.requires (sym c.is_at-is_wild.ensures ∙ c.if-is_wild.false) (sym c.is_at-is_name.ensures ∙ c.if-is_name.false) (sym c.is_at-is_constant.ensures ∙ c.if-is_constant.false)))
+    (search rules, can_next (pattern_group_start c.requires (sym c.is_at-is_wild.ensures ∙ c.if-is_wild.false) (sym c.is_at-is_name.ensures ∙ c.if-is_name.false) (sym c.is_at-is_constant.ensures ∙ c.if-is_constant.false) (sym c.is_at-is_record.ensures ∙ c.if-is_record.false)))
 
 pub pattern_atom-returns : goal.pattern_atom-returns
 pattern_atom-returns m c = subst (λ f. IsRead (lexemes c.args.source) s.Patom c.args.i f c.in_ok-parts.end) (sym (c.new-2.ensures ∙ pattern_of_node-Group _ _ ∙ ap (λ a. enclosed a (patterns c.in_ok-parts.parts)) c.place-here.ensures))
-    (done (next (pattern_group_start c.requires (sym c.is_at-is_wild.ensures ∙ c.if-is_wild.false) (sym c.is_at-is_name.ensures ∙ c.if-is_name.false) (sym c.is_at-is_constant.ensures ∙ c.if-is_constant.false)) c.in_ok-parts.ensures) _ refl (λ k us. refl))
+    (done (next (pattern_group_start c.requires (sym c.is_at-is_wild.ensures ∙ c.if-is_wild.false) (sym c.is_at-is_name.ensures ∙ c.if-is_name.false) (sym c.is_at-is_constant.ensures ∙ c.if-is_constant.false) (sym c.is_at-is_record.ensures ∙ c.if-is_record.false)) c.in_ok-parts.ensures) _ refl (λ k us. refl))
 
 pub pattern_parts-parts-init : goal.pattern_parts-parts-init
 pattern_parts-parts-init m c = subst (λ ts. Patterns (lexemes c.args.source) c.args.i (map pattern_of ts) c.args.i) (sym c.new-parts.ensures.items) (side_start s.Patoms s.Patom more_forms no_forms refl c.requires)
@@ -94,10 +94,45 @@ pattern_list-more-preserved m c = subst (λ ts. PatternList (lexemes c.args.sour
 pub pattern_list-returns : goal.pattern_list-returns
 pattern_list-returns m c = subst (λ ts. IsRead (lexemes c.args.source) s.Ptuple c.args.i (patterns ts) (c.more.j + 1)) (sym c.from_vec-2.ensures) (subst (λ v. IsRead (lexemes c.args.source) s.Ptuple c.args.i v (c.more.j + 1)) (forms_many (map pattern_of c.more.parts.items)) (done (expand c.more.invariant t.RParen (only c.more.invariant t.RParen (t.Comma ∷ []) refl refl ((sym c.is_at.ensures ∙ c.more-test.false), tt)) refl refl) (many more_forms (map pattern_of c.more.parts.items) no_forms) refl (λ k us. refl)))
 
+pub pattern_atom-pattern_record-requires : goal.pattern_atom-pattern_record-requires
+pattern_atom-pattern_record-requires m c = (search rules, (c.requires, sym c.is_at-is_record.ensures ∙ c.if-is_record.true))
+
+pub pattern_record-pattern_field-requires : goal.pattern_record-pattern_field-requires
+pattern_record-pattern_field-requires m c = let h = inside c.args.source c.args.i (stands_due c.requires.can refl) in (search rules, form_field_can {K = λ k. s.PatFields ∷ k} (form_opened c.requires.can c.requires.opens))
+
+pub pattern_record-more-init : goal.pattern_record-more-init
+pattern_record-more-init m c = subst (λ ts. FormsFrom (lexemes c.args.source) c.args.i (map form_part_of ts) c.in_ok-first.j) (sym (c.in_ok-push.ensures.items ∙ ap (λ v. v ++ c.in_ok-first.first ∷ []) c.new-fields.ensures.items))
+    (forms_start c.requires.can c.requires.opens (form_part_of c.in_ok-first.first) c.in_ok-first.j c.in_ok-first.ensures)
+
+pub pattern_record-pattern_field-requires-in-more : goal.pattern_record-pattern_field-requires-in-more
+pattern_record-pattern_field-requires-in-more m c = let a : c.args.i + 1 ≤ c.more.j = c.more.invariant.is.ahead in let w = inside c.args.source c.more.j (next_within c.more.invariant.is refl) in (search rules, form_field_can {K = λ k. s.PatFields ∷ k} (form_item (lexemes c.args.source) c.args.i (map form_part_of c.more.fields.items) c.more.j c.more.invariant (sym c.at_next_field.ensures ∙ c.more-test.true)))
+
+pub pattern_record-more-preserved : goal.pattern_record-more-preserved
+pattern_record-more-preserved m c = subst (λ ts. FormsFrom (lexemes c.args.source) c.args.i ts c.in_ok-next.end) (sym (ap (map form_part_of) c.in_ok-push-2.ensures.items ∙ map-append form_part_of c.more.fields.items (c.in_ok-next.next ∷ [])))
+    (forms_more (lexemes c.args.source) c.args.i (map form_part_of c.more.fields.items) c.more.j c.more.invariant (sym c.at_next_field.ensures ∙ c.more-test.true) (form_part_of c.in_ok-next.next) c.in_ok-next.end c.in_ok-next.ensures)
+
+pub pattern_record-past_semicolon-semi-requires : goal.pattern_record-past_semicolon-semi-requires
+pattern_record-past_semicolon-semi-requires m c = inside c.args.source c.more.j (next_within c.more.invariant.is refl)
+
+pub pattern_record-returns : goal.pattern_record-returns
+pattern_record-returns m c = subst (λ f. IsRead (lexemes c.args.source) s.Patom c.args.i f (c.past_semicolon-semi.result.1 + 1))
+    (sym (c.new-tree.ensures ∙ pattern_of_node-Fields _ _ _ ∙ ap (λ a. fielded_form a (form_names (map form_part_of c.from_vec.result)) (form_values (map form_part_of c.from_vec.result)) c.past_semicolon-semi.result.0) c.place-here.ensures ∙ ap (λ ts. fielded_form (at c.args.i) (form_names (map form_part_of ts)) (form_values (map form_part_of ts)) c.past_semicolon-semi.result.0) c.from_vec.ensures))
+    (forms_closed (lexemes c.args.source) c.args.i (map form_part_of c.more.fields.items) c.more.j c.more.invariant (sym c.at_next_field.ensures ∙ c.more-test.false) c.past_semicolon-semi.result.0 c.past_semicolon-semi.result.1 c.past_semicolon-semi.ensures.semi c.past_semicolon-semi.ensures.brace)
+
+pub pattern_field-lower_name-requires : goal.pattern_field-lower_name-requires
+pattern_field-lower_name-requires m c = can_next (start c.requires)
+
+pub pattern_field-pattern-requires : goal.pattern_field-pattern-requires
+pattern_field-pattern-requires m c = let r = c.in_ok-name.ensures.read in let a : c.args.i + 1 ≤ c.in_ok-name.j = r.ahead in let w = inside c.args.source c.in_ok-name.j (next_within (next (start c.requires) r) refl) in (search rules, can_next (take (next (start c.requires) r)))
+
+pub pattern_field-returns : goal.pattern_field-returns
+pattern_field-returns m c = subst (λ f. IsReadFormField (lexemes c.args.source) c.args.i f c.in_ok-value.end) (sym (form_part_of-fields _))
+    (record { name = record { scopes = c.in_ok-name.name.scopes; last = c.in_ok-name.name.text }; middle = c.in_ok-name.j; named = sym c.in_ok-name.ensures.name; is = c.in_ok-name.ensures.read; value = c.in_ok-value.ensures })
+
 -- the numbers of tokens, which are at most that of all tokens
 
-pub pattern-overflow_add-behind : goal.pattern-overflow_add-behind
-pattern-overflow_add-behind m c = let h = upto c.args.source c.in_ok-inner.end c.in_ok-inner.ensures.within in search rules
+pub pattern-overflow_add-following : goal.pattern-overflow_add-following
+pattern-overflow_add-following m c = let h = upto c.args.source c.in_ok-inner.end c.in_ok-inner.ensures.within in search rules
 
 pub pattern-overflow_add-result : goal.pattern-overflow_add-result
 pattern-overflow_add-result m c = let h = inside c.args.source (c.in_ok-inner.end + 1) (next_within (expand c.in_ok-inner.ensures t.AsWord (sym c.is_at-is_named.ensures ∙ c.if-is_named.true) refl refl) refl) in search rules
@@ -128,3 +163,18 @@ pattern_list-more-smaller m c = let h = inside c.args.source c.more.j (next_with
 
 pub pattern_list-overflow_add-result-2 : goal.pattern_list-overflow_add-result-2
 pattern_list-overflow_add-result-2 m c = let h = inside c.args.source c.more.j (next_within c.more.invariant refl) in search rules
+
+pub pattern_record-overflow_add-i : goal.pattern_record-overflow_add-i
+pattern_record-overflow_add-i m c = let h = inside c.args.source c.args.i (stands_due c.requires.can refl) in search rules
+
+pub pattern_record-overflow_add-j : goal.pattern_record-overflow_add-j
+pattern_record-overflow_add-j m c = let h = inside c.args.source c.more.j (next_within c.more.invariant.is refl) in search rules
+
+pub pattern_record-more-smaller : goal.pattern_record-more-smaller
+pattern_record-more-smaller m c = let h = inside c.args.source c.more.j (next_within c.more.invariant.is refl) in let r = c.in_ok-next.ensures in let a : c.more.j + 1 + 1 ≤ r.middle = r.is.ahead in let b : r.middle + 1 + 1 ≤ c.in_ok-next.end = r.value.ahead in omega (arith, h, a, b)
+
+pub pattern_record-overflow_add-result : goal.pattern_record-overflow_add-result
+pattern_record-overflow_add-result m c = let r = forms_closed (lexemes c.args.source) c.args.i (map form_part_of c.more.fields.items) c.more.j c.more.invariant (sym c.at_next_field.ensures ∙ c.more-test.false) c.past_semicolon-semi.result.0 c.past_semicolon-semi.result.1 c.past_semicolon-semi.ensures.semi c.past_semicolon-semi.ensures.brace in let h = upto c.args.source (c.past_semicolon-semi.result.1 + 1) r.within in search rules
+
+pub pattern_field-overflow_add-j : goal.pattern_field-overflow_add-j
+pattern_field-overflow_add-j m c = let w = inside c.args.source c.in_ok-name.j (next_within (next (start c.requires) c.in_ok-name.ensures.read) refl) in search rules

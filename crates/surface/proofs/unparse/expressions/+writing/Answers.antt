@@ -1,4 +1,4 @@
-use Rattle.surface.proofs.unparse.Common.{arith, ◌∙◌, common_steps, arm_of-fields, terms_of-fields, tree_is, tree_of_node-Apply, tree_of_node-Int, tree_of_node-True, tree_of_node-False, tree_of_node-Group, tree_of_node-Cast, tree_of_node-Match, tree_of_node-Dot, tree_of_node-Prefix, tree_of_node-Not, tree_of_node-Binary, tree_of_node-If, tree_of_node-Let, tree_of_node-Quant}
+use Rattle.surface.proofs.unparse.Common.{arith, ◌∙◌, common_steps, arm_of-fields, terms_of-fields, tree_is, tree_of_node-Apply, tree_of_node-Int, tree_of_node-True, tree_of_node-False, tree_of_node-Group, tree_of_node-Cast, tree_of_node-Match, tree_of_node-Dot, tree_of_node-Fields, tree_part_of-fields, tree_of_node-Prefix, tree_of_node-Not, tree_of_node-Binary, tree_of_node-If, tree_of_node-Let, tree_of_node-Quant}
 use Rattle.surface.proofs.unparse.expressions.+writing.Goals as goal
 
 pub push_arm-returns : goal.push_arm-returns
@@ -27,6 +27,12 @@ push_expr-returns-in-Match t c = let is = tree_is c.args.e.now _ c.in-Match.is �
 
 pub push_expr-returns-in-Dot : goal.push_expr-returns-in-Dot
 push_expr-returns-in-Dot t c = let is = tree_is c.args.e.now _ c.in-Dot.is ∙ tree_of_node-Dot _ _ _ in grind (arith, common_steps)
+
+pub push_expr-returns-in-Fields : goal.push_expr-returns-in-Fields
+push_expr-returns-in-Fields t c = let is = tree_is c.args.e.now _ c.in-Fields.is ∙ tree_of_node-Fields _ _ _ in grind (arith, common_steps)
+
+pub push_field_value-returns : goal.push_field_value-returns
+push_field_value-returns t c = let is = tree_part_of-fields c.args.field.now in grind (arith, common_steps)
 
 pub push_expr-returns-in-Prefix : goal.push_expr-returns-in-Prefix
 push_expr-returns-in-Prefix t c = let is = tree_is c.args.e.now _ c.in-Prefix.is ∙ tree_of_node-Prefix _ _ _ in grind (arith, common_steps)

@@ -1,4 +1,4 @@
-use Rattle.surface.proofs.unparse.Common.{arith, ◌∙◌, common_steps, pattern_is, pattern_of_node-Wild, pattern_of_node-Var, pattern_of_node-Con, pattern_of_node-Group, pattern_of_node-Alias}
+use Rattle.surface.proofs.unparse.Common.{arith, ◌∙◌, common_steps, pattern_is, pattern_of_node-Wild, pattern_of_node-Var, pattern_of_node-Con, pattern_of_node-Group, pattern_of_node-Alias, pattern_of_node-Fields, form_part_of-fields}
 use Rattle.surface.proofs.unparse.parts.+pattern_writing.Goals as goal
 
 pub push_pattern-returns-in-Wild : goal.push_pattern-returns-in-Wild
@@ -15,3 +15,9 @@ push_pattern-returns-in-Group t c = let is = pattern_is c.args.p.now _ c.in-Grou
 
 pub push_pattern-returns-in-Alias : goal.push_pattern-returns-in-Alias
 push_pattern-returns-in-Alias t c = let is = pattern_is c.args.p.now _ c.in-Alias.is ∙ pattern_of_node-Alias _ _ _ in grind (arith, common_steps)
+
+pub push_pattern-returns-in-Fields : goal.push_pattern-returns-in-Fields
+push_pattern-returns-in-Fields t c = let is = pattern_is c.args.p.now _ c.in-Fields.is ∙ pattern_of_node-Fields _ _ _ in grind (arith, common_steps)
+
+pub push_field_pattern-returns : goal.push_field_pattern-returns
+push_field_pattern-returns t c = let is = form_part_of-fields c.args.field.now in grind (arith, common_steps)

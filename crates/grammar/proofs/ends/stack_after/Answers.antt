@@ -2,7 +2,7 @@ use Rattle.grammar.proofs.Common.{◌≤◌, false, [], ◌∷◌, length, rever
 use Rattle.tokens_why.specs.declared.terminal.Terminal.TheVariants as t
 use Rattle.grammar.proofs.Steps.{after, stepped, not_stepped}
 use Rattle.grammar.proofs.EndLemmas.{stuck_all}
-use Rattle.grammar.proofs.ends.stack_behind.Goals as goal
+use Rattle.grammar.proofs.ends.stack_after.Goals as goal
 
 pub loop-x-preserved : goal.loop-x-preserved
 loop-x-preserved c = after c.args.tokens.now c.loop-x.x-index t.Lident (c.args.start ∷ []) (reverse c.loop-x.stack.items) (omega arith) c.loop-x.invariant
