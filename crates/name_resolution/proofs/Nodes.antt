@@ -6,6 +6,7 @@ use Rattle.surface.specs.declared.names.QName.{QName}
 use Rattle.surface.specs.declared.types.TypeTree.{TypeTree}
 use Rattle.surface.specs.declared.types.TypeNode.TheVariants as tv
 use Rattle.surface.specs.declared.names.Name.{Name}
+use Rattle.surface.specs.declared.patterns.FieldPat.{FieldPat}
 use Rattle.surface.specs.declared.patterns.Pat.{Pat}
 use Rattle.surface.specs.declared.names.At.{At}
 use Rattle.surface.specs.declared.patterns.PatNode.TheVariants as pv
@@ -15,14 +16,15 @@ use Rattle.surface.specs.declared.patterns.PatNode.TheFolds.{fold_out-PatNode}
 use Rattle.surface.specs.Forms as surface
 use Rattle.surface.specs.declared.expressions.BinderTree.{BinderTree}
 use Rattle.surface.specs.declared.expressions.Expr.{Expr}
+use Rattle.surface.specs.declared.expressions.FieldValue.{FieldValue}
 use Rattle.surface.specs.declared.expressions.TriggerTree.{TriggerTree, out-TriggerTree}
 use Rattle.surface.specs.declared.expressions.BranchTree.{BranchTree}
 use Rattle.surface.specs.declared.expressions.ExprNode.TheVariants as ev
 use Rattle.surface.specs.Lexeme.{Word}
 use Rattle.surface.specs.Surface as code
 use Rattle.surface.specs.Surface.{own_of, op_of, integer_word, pattern_step, pattern_whole, pattern_of_node}
-use Rattle.surface.proofs.TreeLemmas.{form_is, tree_is, pattern_is, pattern_of-node, terms_of-fields, arm_of-fields, form_of_node-Var, form_of_node-Named, form_of_node-Group, tree_of_node-Apply, tree_of_node-Int, tree_of_node-True, tree_of_node-False, tree_of_node-Group, tree_of_node-Cast, tree_of_node-Dot, tree_of_node-Prefix, tree_of_node-Not, tree_of_node-Binary, tree_of_node-If, tree_of_node-Let, tree_of_node-Match, tree_of_node-Quant, pattern_of_node-Wild, pattern_of_node-Var, pattern_of_node-Con, pattern_of_node-Group, pattern_of_node-Alias}
-use Rattle.name_resolution.specs.Abstract.{variable_type, composed_type, more_types, BoundNames, Expressions, applied_expression, integer_expression, true_expression, false_expression, cast_expression, field_expression, not_expression, if_expression, quantified_expression, no_expressions, more_expressions, text_of_own, prefix_name, spelled, operator_meaning, operated, grouped_forms, grouped, integer_value, binder, binders_of, let_by, let_name, type_expression, type_expressions, expression, expressions, type_expression_of, expression_of, forms_of, expressions_of, wildcard_pattern, variable_pattern, constructor_pattern, alias_pattern, more_patterns, grouped_patterns, pattern, pattern_list, abstract_pattern_of, patterns_of, triggers_of, match_expression, match_branches, first_tree, more_branches, branch_alternatives, alternatives_of, branches_of, form_place, first_form}
+use Rattle.surface.proofs.TreeLemmas.{form_is, tree_is, pattern_is, pattern_of-node, terms_of-fields, arm_of-fields, form_of_node-Var, form_of_node-Named, form_of_node-Group, tree_of_node-Apply, tree_of_node-Int, tree_of_node-True, tree_of_node-False, tree_of_node-Group, tree_of_node-Cast, tree_of_node-Dot, tree_of_node-Fields, tree_part_of-fields, form_part_of-fields, tree_of_node-Prefix, tree_of_node-Not, tree_of_node-Binary, tree_of_node-If, tree_of_node-Let, tree_of_node-Match, tree_of_node-Quant, pattern_of_node-Wild, pattern_of_node-Var, pattern_of_node-Con, pattern_of_node-Group, pattern_of_node-Alias, pattern_of_node-Fields}
+use Rattle.name_resolution.specs.Abstract.{FieldName, named_field, field_names, field_name_of, value_fields_of, field_values_of, pattern_fields_of, field_patterns_of, record_pattern, variable_type, composed_type, more_types, BoundNames, Expressions, applied_expression, integer_expression, true_expression, false_expression, cast_expression, field_expression, record_expression, not_expression, if_expression, quantified_expression, no_expressions, more_expressions, text_of_own, prefix_name, spelled, operator_meaning, operated, grouped_forms, grouped, integer_value, binder, binders_of, let_by, let_name, type_expression, type_expressions, expression, expressions, type_expression_of, expression_of, forms_of, expressions_of, wildcard_pattern, variable_pattern, constructor_pattern, alias_pattern, more_patterns, grouped_patterns, pattern, pattern_list, abstract_pattern_of, patterns_of, triggers_of, match_expression, match_branches, first_tree, more_branches, branch_alternatives, alternatives_of, branches_of, form_place, first_form}
 
 pub forms_are : (xs : List TypeTree) → type_expressions (code.forms (map code.form_of xs)) ≡ forms_of xs
 forms_are [] = refl
@@ -64,6 +66,24 @@ expression_at-Prefix e o a is = ap expression (tree_is e (ev.Prefix o a) is ∙ 
 
 pub expression_at-Dot : (e : Expr) (a : Expr) (q : QName) → e.node ≡ ev.Dot a q → expression_of e ≡ field_expression e.at.main (expression_of a) q.at q.scopes (text_of_own (own_of q.style q.text))
 expression_at-Dot e a q is = ap expression (tree_is e (ev.Dot a q) is ∙ tree_of_node-Dot a q e.at)
+
+field_values_are : (fs : List FieldValue) → expressions (code.tree_values (map code.tree_part_of fs)) ≡ field_values_of fs
+field_values_are [] = refl
+field_values_are (f ∷ fs) =
+    ap (λ (x : code.TreePart). more_expressions (expression x.tree) (expressions (code.tree_values (map code.tree_part_of fs)))) (tree_part_of-fields f)
+    ∙ ap (more_expressions (expression_of f.value)) (field_values_are fs)
+
+value_fields_are : (fs : List FieldValue) → field_names (code.tree_names (map code.tree_part_of fs)) ≡ value_fields_of fs
+value_fields_are [] = refl
+value_fields_are (f ∷ fs) =
+    ap (λ (x : code.TreePart). named_field x.name ∷ field_names (code.tree_names (map code.tree_part_of fs))) (tree_part_of-fields f)
+    ∙ ap (λ (xs : List FieldName). field_name_of f.name ∷ xs) (value_fields_are fs)
+
+pub expression_at-Fields : (e : Expr) (fs : List FieldValue) (semi : Bool) → e.node ≡ ev.Fields fs semi → expression_of e ≡ record_expression e.at.main (value_fields_of fs) (field_values_of fs)
+expression_at-Fields e fs semi is =
+    ap expression (tree_is e (ev.Fields fs semi) is ∙ tree_of_node-Fields fs semi e.at)
+    ∙ (ap (λ (xs : List FieldName). record_expression e.at.main xs (expressions (code.tree_values (map code.tree_part_of fs)))) (value_fields_are fs)
+    ∙ ap (record_expression e.at.main (value_fields_of fs)) (field_values_are fs))
 
 pub expression_at-Not : (e : Expr) (a : Expr) → e.node ≡ ev.Not a → expression_of e ≡ not_expression e.at.main (expression_of a)
 expression_at-Not e a is = ap expression (tree_is e (ev.Not a) is ∙ tree_of_node-Not a e.at)
@@ -108,6 +128,24 @@ pattern_at-Group p xs is = ap pattern (pattern_is p (pv.Group xs) is ∙ pattern
 pub pattern_at-Alias : (p a : Pat) (n : Name) → p.node ≡ pv.Alias a n → abstract_pattern_of p ≡ alias_pattern (abstract_pattern_of a) n.at n.text
 pattern_at-Alias p a n is = ap pattern (pattern_is p (pv.Alias a n) is ∙ pattern_of_node-Alias a n p.at)
 
+field_patterns_are : (fs : List FieldPat) → pattern_list (code.form_values (map code.form_part_of fs)) ≡ field_patterns_of fs
+field_patterns_are [] = refl
+field_patterns_are (f ∷ fs) =
+    ap (λ (x : code.FormPart). more_patterns (pattern x.form) (pattern_list (code.form_values (map code.form_part_of fs)))) (form_part_of-fields f)
+    ∙ ap (more_patterns (abstract_pattern_of f.value)) (field_patterns_are fs)
+
+pattern_fields_are : (fs : List FieldPat) → field_names (code.form_names (map code.form_part_of fs)) ≡ pattern_fields_of fs
+pattern_fields_are [] = refl
+pattern_fields_are (f ∷ fs) =
+    ap (λ (x : code.FormPart). named_field x.name ∷ field_names (code.form_names (map code.form_part_of fs))) (form_part_of-fields f)
+    ∙ ap (λ (xs : List FieldName). field_name_of f.name ∷ xs) (pattern_fields_are fs)
+
+pub pattern_at-Fields : (p : Pat) (fs : List FieldPat) (semi : Bool) → p.node ≡ pv.Fields fs semi → abstract_pattern_of p ≡ record_pattern p.at.main (pattern_fields_of fs) (field_patterns_of fs)
+pattern_at-Fields p fs semi is =
+    ap pattern (pattern_is p (pv.Fields fs semi) is ∙ pattern_of_node-Fields fs semi p.at)
+    ∙ (ap (λ (xs : List FieldName). record_pattern p.at.main xs (pattern_list (code.form_values (map code.form_part_of fs)))) (pattern_fields_are fs)
+    ∙ ap (record_pattern p.at.main (pattern_fields_of fs)) (field_patterns_are fs))
+
 pub branches_are : (bs : List BranchTree) → match_branches (code.branches (map code.arm_of bs)) ≡ branches_of bs
 branches_are [] = refl
 branches_are (b ∷ bs) =
@@ -140,6 +178,7 @@ let_none (p ∷ q ∷ ps) h = two (code.pattern_of p)
     two (surface.composed a c fs) = refl
     two (surface.enclosed a fs) = refl
     two (surface.aliased a f n) = refl
+    two (surface.fielded_form a cs fs semi) = refl
 
 pub let_alone : (ps : List Pat) (d : Pat) → length ps ≡ 1 → let_name (code.patterns ps) ≡ alone (code.pattern_of (get_or ps 0 d))
 let_alone [] d h = absurd (cc)
@@ -152,19 +191,21 @@ let_alone (p ∷ []) d h = one (code.pattern_of p)
     one (surface.composed a c fs) = refl
     one (surface.enclosed a fs) = refl
     one (surface.aliased a f n) = refl
+    one (surface.fielded_form a cs fs semi) = refl
 let_alone (p ∷ q ∷ ps) d h = absurd (cc)
 
 -- ---- where a pattern stands
-place_step : (x : PatNode-F (At → surface.SyntaxForm) surface.SyntaxForm) (a : At) → form_place (pattern_step x a) ≡ a
+place_step : (x : PatNode-F (At → surface.SyntaxForm) code.FormPart surface.SyntaxForm) (a : At) → form_place (pattern_step x a) ≡ a
 place_step pt.Wild a = refl
 place_step (pt.Var n) a = refl
 place_step (pt.Con q xs) a = refl
 place_step (pt.Group xs) a = refl
 place_step (pt.Alias p n) a = refl
+place_step (pt.Fields fs semi) a = refl
 
 pub pattern_place : (p : Pat) → form_place (code.pattern_of p) ≡ p.at
 unfolding pattern_of_node
-pattern_place p = ap form_place (pattern_of-node p) ∙ ap (λ f. form_place (f p.at)) (fold_out-PatNode (At → surface.SyntaxForm) surface.SyntaxForm pattern_step pattern_whole p.node) ∙ place_step _ p.at
+pattern_place p = ap form_place (pattern_of-node p) ∙ ap (λ f. form_place (f p.at)) (fold_out-PatNode (At → surface.SyntaxForm) code.FormPart surface.SyntaxForm pattern_step code.form_part pattern_whole p.node) ∙ place_step _ p.at
 
 pub first_got : (ps : List Pat) (p : Pat) → slice_get ps 0 ≡ Some p → first_form (code.patterns ps) ≡ p.at.first
 first_got [] p h = absurd (cc)

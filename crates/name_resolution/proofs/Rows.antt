@@ -8,7 +8,7 @@ use Rattle.tasks.specs.declared.signature.SymbolKind.{SymbolKind}
 use Rattle.tasks.specs.declared.signature.SymbolKind.TheVariants.{Kind, Function, Predicate, Constructor, Projection}
 use Rattle.tasks.specs.Task.{SymbolTree, int_symbol}
 use Rattle.surface.specs.Lexeme.{Word}
-use Rattle.name_resolution.specs.Abstract.{variable_type, composed_type, no_types, Pattern, wildcard_pattern, variable_pattern, constructor_pattern, alias_pattern, no_patterns, more_patterns, Alternatives, no_alternatives, more_alternatives, Expression, applied_expression, true_expression, field_expression, not_expression, connected_expression, equality_expression, let_expression, match_expression, quantified_expression, no_expressions, more_expressions, no_branches, more_branches}
+use Rattle.name_resolution.specs.Abstract.{FieldName, variable_type, composed_type, no_types, Pattern, wildcard_pattern, variable_pattern, constructor_pattern, alias_pattern, record_pattern, no_patterns, more_patterns, Alternatives, no_alternatives, more_alternatives, Expression, applied_expression, true_expression, field_expression, record_expression, not_expression, connected_expression, equality_expression, let_expression, match_expression, quantified_expression, no_expressions, more_expressions, no_branches, more_branches}
 use Rattle.name_resolution.specs.declared.NamingFault.{NamingFault}
 use Rattle.name_resolution.specs.declared.NamingFault.TheVariants.{Unknown, Duplicate, WrongKind, Arity}
 use Rattle.name_resolution.specs.Where.{Where}
@@ -23,13 +23,15 @@ called [] qs x = None
 called (p ∷ ps) [] x = cond (bytes_eq p.0 x) (Some p.1) (called ps [] x)
 called (p ∷ ps) (q ∷ qs) x = None
 
--- a type `t`, a constant `c`, predicates `p` of one argument and `q` of none, constructors `Nil` and `Cons`, a field `head`, an alias `rows`
+-- a type `t`, a constant `c`, predicates `p` of one argument and `q` of none, constructors `Nil` and `Cons`, a field `head`, a record with fields `a` and `b`,
+-- an alias `rows`
 abbrev here : Where
 here = record {
   symbols = int_symbol ∷ entry (codes "t") Kind 0 [] ∷ entry (codes "c") Function 0 [] ∷ entry (codes "p") Predicate 0 (int_type ∷ []) ∷ entry (codes "q") Predicate 0 []
-      ∷ entry (codes "Nil") Constructor 0 [] ∷ entry (codes "Cons") Constructor 0 (int_type ∷ int_type ∷ []) ∷ entry (codes "head") Projection 0 (int_type ∷ []) ∷ [];
+      ∷ entry (codes "Nil") Constructor 0 [] ∷ entry (codes "Cons") Constructor 0 (int_type ∷ int_type ∷ []) ∷ entry (codes "head") Projection 0 (int_type ∷ [])
+      ∷ entry (codes "mk_r") Constructor 0 (int_type ∷ int_type ∷ []) ∷ entry (codes "a") Projection 0 (int_type ∷ []) ∷ entry (codes "b") Projection 0 (int_type ∷ []) ∷ [];
   types = called ((codes "rows", stands.Alias 1 int_type) ∷ (codes "t", stands.Entry 1) ∷ []);
-  names = called ((codes "c", 2) ∷ (codes "p", 3) ∷ (codes "q", 4) ∷ (codes "Nil", 5) ∷ (codes "Cons", 6) ∷ (codes "head", 7) ∷ []);
+  names = called ((codes "c", 2) ∷ (codes "p", 3) ∷ (codes "q", 4) ∷ (codes "Nil", 5) ∷ (codes "Cons", 6) ∷ (codes "head", 7) ∷ (codes "a", 9) ∷ (codes "b", 10) ∷ []);
   tuples = λ n. None;
   vars = codes "'a" ∷ [];
 }
@@ -95,8 +97,56 @@ term_before_field : fault here true [] false (field 0 (name 0 (codes "r")) (code
 term_before_field = refl
 
 -- `let head = c in c.head`: a variable doesn't hide a field
-field_behind_variable : fault here true [] false (let_expression 0 (codes "head") (name 3 (codes "c")) (field 5 (name 5 (codes "c")) (codes "head"))) ≡ None
-field_behind_variable = refl
+field_after_variable : fault here true [] false (let_expression 0 (codes "head") (name 3 (codes "c")) (field 5 (name 5 (codes "c")) (codes "head"))) ≡ None
+field_after_variable = refl
+
+-- ---- records: each field's name stands at its place, its value two tokens later
+abbrev fields : List (Word × ℕ) → List FieldName
+fields [] = []
+fields (f ∷ fs) = record { at = f.1; scopes = []; text = f.0 } ∷ fields fs
+
+abbrev two_fields : Word → Word → List FieldName
+two_fields x y = fields ((x, 1) ∷ (y, 5) ∷ [])
+
+-- `{x = c; y = v}`
+abbrev record_of : Word → Word → Word → Option NamingFault
+record_of x y v = fault here true [] false (record_expression 0 (two_fields x y) (more_expressions (name 3 (codes "c")) (more_expressions (name 7 v) no_expressions)))
+
+good_record : record_of (codes "a") (codes "b") (codes "c") ≡ None
+good_record = refl
+
+other_order : record_of (codes "b") (codes "a") (codes "c") ≡ None
+other_order = refl
+
+-- a name that isn't there, one of no field, a field of no record, and a field twice
+unknown_in_record : record_of (codes "a") (codes "z") (codes "c") ≡ Some (Unknown 5)
+unknown_in_record = refl
+
+no_field_in_record : record_of (codes "a") (codes "c") (codes "c") ≡ Some (WrongKind 5)
+no_field_in_record = refl
+
+field_of_no_record : record_of (codes "head") (codes "a") (codes "c") ≡ Some (WrongKind 1)
+field_of_no_record = refl
+
+field_of_another : record_of (codes "a") (codes "head") (codes "c") ≡ Some (WrongKind 5)
+field_of_another = refl
+
+field_twice : record_of (codes "a") (codes "a") (codes "c") ≡ Some (Duplicate 5)
+field_twice = refl
+
+-- the names are before the values
+names_before_values : record_of (codes "a") (codes "a") (codes "r") ≡ Some (Duplicate 5)
+names_before_values = refl
+
+value_of_field : record_of (codes "a") (codes "b") (codes "r") ≡ Some (Unknown 7)
+value_of_field = refl
+
+-- `{a = r}`: a field that isn't named is before the value; a record where a formula is due is before its names
+missing_field : fault here true [] false (record_expression 0 (fields ((codes "a", 1) ∷ [])) (more_expressions (name 3 (codes "r")) no_expressions)) ≡ Some (Arity 0)
+missing_field = refl
+
+record_for_formula : formula_fault (record_expression 0 (fields ((codes "z", 1) ∷ [])) (more_expressions (name 3 (codes "r")) no_expressions)) ≡ Some (WrongKind 0)
+record_for_formula = refl
 
 -- `let q = c in q`: the variable hides the predicate
 hidden : formula_fault (let_expression 0 (codes "q") (name 3 (codes "c")) (name 5 (codes "q"))) ≡ Some (WrongKind 5)
@@ -156,3 +206,13 @@ other_names = refl
 -- `Cons x y | Cons y x`
 same_names : formula_fault (matching (more_alternatives 3 (cons 3 (variable_pattern 4 (codes "x")) (variable_pattern 5 (codes "y"))) (more_alternatives 7 (cons 7 (variable_pattern 8 (codes "y")) (variable_pattern 9 (codes "x"))) no_alternatives)) (name 11 (codes "q"))) ≡ None
 same_names = refl
+
+-- `{b = x}` leaves a field unnamed; `{a = x; b = x}`
+one_field : formula_fault (matching (one (record_pattern 3 (fields ((codes "b", 4) ∷ [])) (more_patterns (variable_pattern 6 (codes "x")) no_patterns))) (call 8 (codes "p") (name 9 (codes "x")))) ≡ None
+one_field = refl
+
+variable_twice : formula_fault (matching (one (record_pattern 3 (two_fields (codes "a") (codes "b")) (more_patterns (variable_pattern 3 (codes "x")) (more_patterns (variable_pattern 7 (codes "x")) no_patterns)))) (name 9 (codes "q"))) ≡ Some (Duplicate 7)
+variable_twice = refl
+
+pattern_field_twice : formula_fault (matching (one (record_pattern 3 (two_fields (codes "a") (codes "a")) (more_patterns (variable_pattern 3 (codes "x")) (more_patterns (variable_pattern 7 (codes "x")) no_patterns)))) (name 9 (codes "q"))) ≡ Some (Duplicate 5)
+pattern_field_twice = refl

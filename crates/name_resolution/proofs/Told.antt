@@ -1,5 +1,5 @@
 -- Faults of parts, told of the whole.
-use Rattle.std.proofs.Common.{◌≡◌, ℕ, suc, Bool, true, false, List, [], ◌∷◌, ◌++◌, reverse, length, get_or, sym, ap, ◌∙◌, Option, Some, None, Result, Ok, Err, refl}
+use Rattle.std.proofs.Common.{◌≡◌, ℕ, suc, Bool, true, false, List, [], ◌∷◌, ◌++◌, reverse, length, get_or, sym, ap, subst, ◌∙◌, Option, Some, None, Result, Ok, Err, refl}
 use Rattle.std.specs.Prelude.{OnOk}
 use Rattle.std.specs.Result.{IsErrAnd}
 use mathlib.Core.List.{append-nil}
@@ -8,13 +8,15 @@ use Rattle.name_resolution.specs.declared.NamingFault.TheVariants.{Memory, Unkno
 use Rattle.surface.specs.declared.expressions.Expr.{Expr}
 use Rattle.surface.specs.declared.expressions.ExprNode.TheVariants as ev
 use Rattle.surface.specs.declared.types.TypeTree.{TypeTree}
+use Rattle.surface.specs.declared.patterns.FieldPat.{FieldPat}
 use Rattle.surface.specs.declared.patterns.Pat.{Pat}
+use Rattle.surface.specs.declared.expressions.FieldValue.{FieldValue}
 use Rattle.surface.specs.Forms as surface
 use Rattle.surface.specs.Lexeme.{Word}
 use Rattle.surface.specs.Surface as code
-use Rattle.name_resolution.specs.Abstract.{Expression, Expressions, no_expressions, more_expressions, Patterns, no_patterns, more_patterns, Pattern, Alternatives, no_alternatives, more_alternatives, match_expression, MatchBranches, no_branches, more_branches, OperatorMeaning, connective_operator, equality_operator, symbol_operator, operated, let_by, let_name, TypeExpressions, no_types, more_types, tuple_expression, count_expressions, count_forms, count_patterns, grouped_forms, grouped_patterns, grouped, first_form, side_by_side, forms_of, expression_of, expressions_of, patterns_of}
+use Rattle.name_resolution.specs.Abstract.{Expression, Expressions, no_expressions, more_expressions, Patterns, no_patterns, more_patterns, Pattern, Alternatives, no_alternatives, more_alternatives, match_expression, MatchBranches, no_branches, more_branches, OperatorMeaning, connective_operator, equality_operator, symbol_operator, operated, let_by, let_name, TypeExpressions, no_types, more_types, tuple_expression, count_expressions, count_forms, count_patterns, grouped_forms, grouped_patterns, grouped, first_form, side_by_side, forms_of, expression_of, expressions_of, patterns_of, value_fields_of, field_values_of, pattern_fields_of, field_patterns_of}
 use Rattle.name_resolution.specs.Where.{Where}
-use Rattle.name_resolution.specs.Faults.{first_of, name_fault, form_fault, forms_fault, fault, faults, pattern_fault, patterns_fault, pattern_names, patterns_names, alternatives_fault, alternatives_names, branch_fault, branches_fault, trigger_head, operator_head, trigger_other, token}
+use Rattle.name_resolution.specs.Faults.{first_of, record_fault, name_fault, form_fault, forms_fault, fault, faults, pattern_fault, patterns_fault, pattern_names, patterns_names, alternatives_fault, alternatives_names, branch_fault, branches_fault, trigger_head, operator_head, trigger_other, token}
 use Rattle.name_resolution.specs.Naming.{Tells, as_result}
 use Rattle.name_resolution.proofs.Nodes.{patterns_are}
 use Rattle.name_resolution.proofs.Operated.{matched_as}
@@ -67,6 +69,25 @@ counted_forms (t ∷ ts) = ap suc (counted_forms ts)
 pub counted_patterns : (ps : List Pat) → count_patterns (patterns_of ps) ≡ length ps
 counted_patterns [] = refl
 counted_patterns (p ∷ ps) = ap suc (counted_patterns ps)
+
+pub counted_values : (fs : List FieldValue) → count_expressions (field_values_of fs) ≡ length (value_fields_of fs)
+counted_values [] = refl
+counted_values (f ∷ fs) = ap suc (counted_values fs)
+
+pub counted_field_patterns : (fs : List FieldPat) → count_patterns (field_patterns_of fs) ≡ length (pattern_fields_of fs)
+counted_field_patterns [] = refl
+counted_field_patterns (f ∷ fs) = ap suc (counted_field_patterns fs)
+
+-- the names of a record's fields, told of as many parts
+pub told_patterns : (w : Where) (r : Result Unit NamingFault) (i : ℕ) (fs gs : List FieldPat) → gs ≡ fs → Tells r (record_fault w false i (length (pattern_fields_of gs)) (pattern_fields_of gs))
+    → Tells r (record_fault w false i (count_patterns (field_patterns_of fs)) (pattern_fields_of fs))
+told_patterns w r i fs gs e h =
+    subst (λ (n : ℕ). Tells r (record_fault w false i n (pattern_fields_of fs))) (sym (counted_field_patterns fs))
+    (subst (λ (xs : List FieldPat). Tells r (record_fault w false i (length (pattern_fields_of xs)) (pattern_fields_of xs))) e h)
+
+pub told_values : (w : Where) (r : Result Unit NamingFault) (i : ℕ) (fs : List FieldValue) → Tells r (record_fault w true i (length (value_fields_of fs)) (value_fields_of fs))
+    → Tells r (record_fault w true i (count_expressions (field_values_of fs)) (value_fields_of fs))
+told_values w r i fs h = subst (λ (n : ℕ). Tells r (record_fault w true i n (value_fields_of fs))) (sym (counted_values fs)) h
 
 -- a name in other words
 pub name_same : (w : Where) (ls : List Word) (due : Bool) (i : ℕ) {qs qs' : List Word} {x x' : Word} {n n' : ℕ} → qs ≡ qs' → x ≡ x' → n ≡ n' → name_fault w ls due i qs x n ≡ name_fault w ls due i qs' x' n'

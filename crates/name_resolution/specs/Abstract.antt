@@ -10,14 +10,17 @@ use Rattle.tasks.specs.trees.declared.Op.{Op}
 use Rattle.tasks.specs.trees.declared.Op.TheVariants.{And, AndThen, Or, OrElse, Imp, Iff}
 use Rattle.surface.specs.declared.names.At.{At}
 use Rattle.surface.specs.declared.names.Name.{Name}
+use Rattle.surface.specs.declared.names.QName.{QName}
 use Rattle.surface.specs.Lexeme.{Word}
 use Rattle.surface.specs.Forms.{Own, lower, upper, infix_op, prefix_op, star, Called}
 use Rattle.surface.specs.Forms as surface
 use Rattle.surface.specs.Trees as tree
 use Rattle.surface.specs.Surface as code
 use Rattle.surface.specs.declared.types.TypeTree.{TypeTree}
+use Rattle.surface.specs.declared.patterns.FieldPat.{FieldPat}
 use Rattle.surface.specs.declared.patterns.Pat.{Pat}
 use Rattle.surface.specs.declared.expressions.Expr.{Expr}
+use Rattle.surface.specs.declared.expressions.FieldValue.{FieldValue}
 use Rattle.surface.specs.declared.expressions.BinderTree.{BinderTree}
 use Rattle.surface.specs.declared.expressions.TriggerTree.{TriggerTree}
 use Rattle.surface.specs.declared.expressions.BranchTree.{BranchTree}
@@ -33,15 +36,22 @@ mutual
     no_types : TypeExpressions
     more_types : TypeExpression → TypeExpressions → TypeExpressions
 
+-- the name of a field after its scopes, with its token
+pub record FieldName : Type 0 where
+  pub at : ℕ
+  pub scopes : List Word
+  pub text : Word
+
 mutual
-  -- a wildcard, a variable, a constructor with its parts, a tuple, or `p as x`, where the name has
-  -- its own token
+  -- a wildcard, a variable, a constructor with its parts, a tuple, `p as x`, where the name has its
+  -- own token, or fields of a record with their patterns
   pub data Pattern : Type 0 where
     wildcard_pattern : ℕ → Pattern
     variable_pattern : ℕ → Word → Pattern
     constructor_pattern : ℕ → List Word → Word → Patterns → Pattern
     tuple_pattern : ℕ → Patterns → Pattern
     alias_pattern : Pattern → ℕ → Word → Pattern
+    record_pattern : ℕ → List FieldName → Patterns → Pattern
 
   pub data Patterns : Type 0 where
     no_patterns : Patterns
@@ -69,6 +79,8 @@ mutual
     cast_expression : ℕ → Expression → TypeExpression → Expression
     -- a field of a term: its name after its scopes has its own token
     field_expression : ℕ → Expression → ℕ → List Word → Word → Expression
+    -- the fields of a record with their values, in the order in which they are written
+    record_expression : ℕ → List FieldName → Expressions → Expression
     not_expression : ℕ → Expression → Expression
     connected_expression : ℕ → Expression → Op → Expression → Expression
     -- `=`, or with `false` its negation `<>`
@@ -129,6 +141,12 @@ text_of_own (infix_op o w) = infix_name o w
 text_of_own (prefix_op o w) = prefix_name (spelled o w)
 text_of_own star = codes "*"
 
+abbrev pub named_field : Called → FieldName
+named_field c = record { at = c.at; scopes = c.scopes; text = text_of_own c.own }
+
+abbrev pub field_names : List Called → List FieldName
+field_names cs = map named_field cs
+
 -- what an operator between two operands is
 pub data OperatorMeaning : Type 0 where
   connective_operator : Op → OperatorMeaning
@@ -182,6 +200,8 @@ abbrev mutual
       constructor_pattern a.main c.scopes (text_of_own c.own) (pattern_list ps)
   pattern (surface.enclosed a ps) = grouped_patterns a.main (pattern_list ps)
   pattern (surface.aliased a p n) = alias_pattern (pattern p) n.at n.text
+  pattern (surface.fielded_form a cs ps semi) =
+      record_pattern a.main (field_names cs) (pattern_list ps)
   pattern p = wildcard_pattern 0
 
   pub pattern_list : surface.SyntaxForms → Patterns
@@ -195,6 +215,7 @@ form_place (surface.type_variable a w) = a
 form_place (surface.composed a c fs) = a
 form_place (surface.enclosed a fs) = a
 form_place (surface.aliased a p n) = a
+form_place (surface.fielded_form a cs ps semi) = a
 
 abbrev pub first_form : surface.SyntaxForms → ℕ
 first_form surface.no_forms = 0
@@ -239,6 +260,7 @@ tree_place (tree.binary a e o f) = a
 tree_place (tree.choice a c e f) = a
 tree_place (tree.cases a es bar bs) = a
 tree_place (tree.access a e c) = a
+tree_place (tree.fielded_tree a cs es semi) = a
 tree_place (tree.binding a ps e f) = a
 tree_place (tree.quantified a all bs g e) = a
 
@@ -278,6 +300,8 @@ abbrev mutual
       match_expression a.main false (grouped (first_tree es) (expressions es)) (match_branches bs)
   expression (tree.access a e c) =
       field_expression a.main (expression e) c.at c.scopes (text_of_own c.own)
+  expression (tree.fielded_tree a cs es semi) =
+      record_expression a.main (field_names cs) (expressions es)
   expression (tree.binding a ps e f) = let_by (let_name ps) a.main ps (expression e) (expression f)
   expression (tree.quantified a all bs g e) =
       quantified_expression a.main all (map binder bs) (triggers g) (expression e)
@@ -316,6 +340,23 @@ patterns_of (p ∷ ps) = more_patterns (abstract_pattern_of p) (patterns_of ps)
 abbrev pub expressions_of : List Expr → Expressions
 expressions_of [] = no_expressions
 expressions_of (e ∷ es) = more_expressions (expression_of e) (expressions_of es)
+
+abbrev pub field_name_of : QName → FieldName
+field_name_of q = named_field (code.called_of q)
+
+abbrev pub pattern_fields_of : List FieldPat → List FieldName
+pattern_fields_of fs = map (λ (f : FieldPat). field_name_of f.name) fs
+
+abbrev pub field_patterns_of : List FieldPat → Patterns
+field_patterns_of [] = no_patterns
+field_patterns_of (f ∷ fs) = more_patterns (abstract_pattern_of f.value) (field_patterns_of fs)
+
+abbrev pub value_fields_of : List FieldValue → List FieldName
+value_fields_of fs = map (λ (f : FieldValue). field_name_of f.name) fs
+
+abbrev pub field_values_of : List FieldValue → Expressions
+field_values_of [] = no_expressions
+field_values_of (f ∷ fs) = more_expressions (expression_of f.value) (field_values_of fs)
 
 abbrev pub bound_names_of : BinderTree → BoundNames
 bound_names_of b =

@@ -1,16 +1,18 @@
 -- The first fault of names: each check is at a token, and they go in the order of their tokens
 -- (Why3 manual, "logical declarations"; a term and a formula are told apart by their place).
-use Rattle.std.specs.Prelude.{ℕ, Bool, true, false, cond, not, ◌==◌, ◌&&◌, List, [], ◌∷◌, ◌++◌, reverse, length, Option, Some, None}
+use Rattle.std.specs.Prelude.{ℕ, Bool, true, false, cond, not, ◌==◌, ◌&&◌, List, [], ◌∷◌, ◌++◌, reverse, length, get_or, slice_set, Option, Some, None}
 use Rattle.std.specs.Option.{is_some, is_none}
 use Rattle.tasks.specs.Task.{SymbolTree, symbol_or}
 use Rattle.tasks.specs.Vocabulary.{is_constructor_kind}
 use Rattle.tasks.specs.declared.signature.SymbolKind.{SymbolKind}
-use Rattle.tasks.specs.declared.signature.SymbolKind.TheVariants.{Predicate, Projection}
+use Rattle.tasks.specs.declared.signature.SymbolKind.TheVariants.{Predicate}
 use Rattle.surface.specs.Lexeme.{Word}
-use Rattle.name_resolution.specs.Abstract.{TypeExpression, TypeExpressions, variable_type, composed_type, product_type, no_types, more_types, Pattern, Patterns, wildcard_pattern, variable_pattern, constructor_pattern, tuple_pattern, alias_pattern, no_patterns, more_patterns, Alternatives, no_alternatives, more_alternatives, BoundNames, Expression, Expressions, MatchBranches, applied_expression, infix_expression, integer_expression, true_expression, false_expression, tuple_expression, cast_expression, field_expression, not_expression, connected_expression, equality_expression, if_expression, let_expression, match_expression, quantified_expression, no_expressions, more_expressions, no_branches, more_branches, count_forms, count_patterns, count_expressions, OperatorMeaning, connective_operator, equality_operator, symbol_operator}
+use Rattle.name_resolution.specs.Abstract.{FieldName, TypeExpression, TypeExpressions, variable_type, composed_type, product_type, no_types, more_types, Pattern, Patterns, wildcard_pattern, variable_pattern, constructor_pattern, tuple_pattern, alias_pattern, record_pattern, no_patterns, more_patterns, Alternatives, no_alternatives, more_alternatives, BoundNames, Expression, Expressions, MatchBranches, applied_expression, infix_expression, integer_expression, true_expression, false_expression, tuple_expression, cast_expression, field_expression, record_expression, not_expression, connected_expression, equality_expression, if_expression, let_expression, match_expression, quantified_expression, no_expressions, more_expressions, no_branches, more_branches, count_forms, count_patterns, count_expressions, OperatorMeaning, connective_operator, equality_operator, symbol_operator}
 use Rattle.name_resolution.specs.declared.NamingFault.{NamingFault}
 use Rattle.name_resolution.specs.declared.NamingFault.TheVariants.{Unknown, Duplicate, WrongKind, Arity}
 use Rattle.name_resolution.specs.Where.{Where, MeaningTree, place_of}
+use Rattle.name_resolution.specs.Records.{NamesOfSymbols, is_record, record_named, place_in, field_place, or_first, places_named, entry_of_field, none_named, named_after, each_named}
+pub use Rattle.name_resolution.specs.Records.{is_projection}
 use Rattle.scopes.specs.declared.Referent.TheVariants as stands
 
 -- the earlier fault, where there is one
@@ -48,10 +50,6 @@ abbrev pub is_predicate : SymbolKind → Bool
 is_predicate Predicate = true
 is_predicate _ = false
 
-abbrev pub is_projection : SymbolKind → Bool
-is_projection Projection = true
-is_projection _ = false
-
 abbrev pub differ : Bool → Bool → Bool
 differ true b = not b
 differ false b = b
@@ -65,13 +63,44 @@ abbrev pub symbol_fault : Where → Bool → ℕ → ℕ → Option ℕ → Opti
 symbol_fault w due i n None = Some (Unknown i)
 symbol_fault w due i n (Some k) = entry_fault due i n (symbol_or w.symbols k)
 
--- the name of a field behind a term, which is looked for in the scopes alone; the function of a
+-- the name of a field after a term, which is looked for in the scopes alone; the function of a
 -- field has one argument, so the number of its arguments is never at fault
 abbrev pub field_fault : Where → Bool → ℕ → Option ℕ → Option NamingFault
 field_fault w due i None = Some (Unknown i)
 field_fault w due i (Some k) =
     first_of (fault_if (not (is_projection (symbol_or w.symbols k).kind)) (WrongKind i))
     (entry_fault due i 1 (symbol_or w.symbols k))
+
+-- ---- the fields of a record
+-- a name that is none of its fields; a field that was named before
+abbrev pub place_fault : List Bool → ℕ → Option ℕ → Option NamingFault
+place_fault named i None = Some (WrongKind i)
+place_fault named i (Some p) = fault_if (get_or named p false) (Duplicate i)
+
+abbrev pub entry_named_fault : List SymbolTree → ℕ → List Bool → ℕ → Option ℕ → Option NamingFault
+entry_named_fault symbols c named i None = Some (Unknown i)
+entry_named_fault symbols c named i (Some k) = place_fault named i (place_in symbols c k)
+
+-- of names one after another, where some fields of the record were named before
+abbrev pub fields_fault : List SymbolTree → NamesOfSymbols → ℕ → List Bool → List FieldName
+    → Option NamingFault
+fields_fault symbols names c named [] = None
+fields_fault symbols names c named (f ∷ fs) =
+    first_of (entry_named_fault symbols c named f.at (entry_of_field names f))
+    (fields_fault symbols names c
+    (slice_set named (or_first (field_place symbols c (entry_of_field names f))) true) fs)
+
+-- And of a record at a token with so many parts, each of whose fields is to be named, or not. There
+-- is a field for each part, and the first one's constructor is a record's: no source has others.
+abbrev pub record_fault : Where → Bool → ℕ → ℕ → List FieldName → Option NamingFault
+record_fault w whole i n fs =
+    let c = record_named w.symbols w.names fs in
+    let e = symbol_or w.symbols c in
+    first_of (fields_fault w.symbols w.names c (none_named e) fs)
+    (first_of (fault_if (not (is_record e && (length fs == n))) (WrongKind i))
+    (fault_if (whole
+    && not (each_named (named_after (places_named w.symbols w.names c fs) (none_named e))))
+    (Arity i)))
 
 abbrev pub local_fault : Bool → ℕ → ℕ → Option NamingFault
 local_fault due i n = first_of (fault_if due (WrongKind i)) (fault_if (not (n == 0)) (Arity i))
@@ -108,6 +137,7 @@ abbrev mutual
   pattern_names (constructor_pattern i qs x ps) = patterns_names ps
   pattern_names (tuple_pattern i ps) = patterns_names ps
   pattern_names (alias_pattern p i x) = pattern_names p ++ x ∷ []
+  pattern_names (record_pattern i fs ps) = patterns_names ps
 
   pub patterns_names : Patterns → List Word
   patterns_names no_patterns = []
@@ -133,6 +163,8 @@ abbrev mutual
   pattern_fault w seen (alias_pattern p i x) =
       first_of (pattern_fault w seen p)
       (fault_if (is_some (place_of x (seen ++ pattern_names p))) (Duplicate i))
+  pattern_fault w seen (record_pattern i fs ps) =
+      first_of (record_fault w false i (count_patterns ps) fs) (patterns_fault w seen ps)
 
   pub patterns_fault : Where → List Word → Patterns → Option NamingFault
   patterns_fault w seen no_patterns = None
@@ -203,6 +235,7 @@ token (false_expression i) = i
 token (tuple_expression i es) = i
 token (cast_expression i e f) = i
 token (field_expression i e k qs x) = i
+token (record_expression i fs es) = i
 token (not_expression i e) = i
 token (connected_expression i a o b) = i
 token (equality_expression i same a b) = i
@@ -245,6 +278,9 @@ abbrev mutual
       (first_of (fault w open_ ls false e) (form_fault w open_ f))
   fault w open_ ls due (field_expression i e k qs x) =
       first_of (fault w open_ ls false e) (field_fault w due k (w.names qs x))
+  fault w open_ ls due (record_expression i fs es) =
+      first_of (fault_if due (WrongKind i))
+      (first_of (record_fault w true i (count_expressions es) fs) (faults w open_ ls es))
   fault w open_ ls due (not_expression i e) =
       first_of (fault_if (not due) (WrongKind i)) (fault w open_ ls true e)
   fault w open_ ls due (connected_expression i a o b) =

@@ -12,7 +12,7 @@ use Rattle.scopes.specs.Names.{NamesOf, ScopeNames, TypeName, find_number, find_
 use Rattle.scopes.specs.declared.Table.TheVariants.{Types, Symbols}
 use Rattle.scopes.specs.declared.Referent.{Referent}
 use Rattle.scopes.specs.declared.Referent.TheVariants as stands
-use Rattle.name_resolution.specs.Abstract.{binders_of, connective_operator, equality_operator, symbol_operator, text_of_own, prefix_name, spelled}
+use Rattle.name_resolution.specs.Abstract.{FieldName, pattern_fields_of, value_fields_of, binders_of, connective_operator, equality_operator, symbol_operator, text_of_own, prefix_name, spelled}
 use Rattle.name_resolution.specs.Abstract as abstract
 use Rattle.name_resolution.specs.Faults.{bound_names, TriggerHeadTree, trigger_named, trigger_equality, trigger_other}
 use Rattle.name_resolution.specs.Where.{Where, MeaningTree, NamesTree}
@@ -21,6 +21,8 @@ use Rattle.name_resolution.specs.declared.NamingFault.TheVariants.{Memory}
 use Rattle.name_resolution.specs.declared.bound.Names.{Names as Bound, Outside, Inside', Under', Among'}
 use Rattle.name_resolution.specs.declared.operators.Operation.{Operation}
 use Rattle.name_resolution.specs.declared.operators.Operation.TheVariants.{Connective, Equality, Symbol}
+use Rattle.name_resolution.specs.declared.records.Fields.{Fields}
+use Rattle.name_resolution.specs.declared.records.Fields.TheVariants.{Patterns, Values}
 use Rattle.name_resolution.specs.declared.triggers.TriggerHead.{TriggerHead}
 use Rattle.name_resolution.specs.declared.triggers.TriggerHead.TheVariants as head
 use Rattle.name_resolution.specs.declared.world.World.{World}
@@ -77,6 +79,10 @@ head_at (head.Prefix o) =
 head_at (head.Infix w) = trigger_named [] w.now
 head_at (head.Equality same) = trigger_equality same
 head_at head.Other = trigger_other
+
+abbrev pub fields_at : Fields → List FieldName
+fields_at (Patterns fs) = pattern_fields_of fs.now
+fields_at (Values fs) = value_fields_of fs.now
 
 -- ---- answers
 -- a fault or none as an answer

@@ -9,6 +9,7 @@ mod bound;
 mod names;
 mod operators;
 mod patterns;
+mod records;
 mod triggers;
 mod type_names;
 pub mod variables;
@@ -20,6 +21,7 @@ pub use bound::Names;
 pub use names::{check, let_name};
 pub use operators::{Operation, infix_operation, own_name, prefix_operator};
 pub use patterns::{check_pattern, check_patterns};
+pub use records::{Fields, place_named, places_named, record_named};
 pub use scopes::{Scope, Table, TypeName};
 use std::alloc::{AllocError, AllocFailed};
 pub use surface::{

@@ -5,7 +5,7 @@ ghost use Rattle.std.specs.Prelude.{◌≡◌, not, List, [], Some, option_map};
 ghost use Rattle.tasks.specs.trees.Tree.{Tree};
 ghost use Rattle.tasks.specs.Meaning.{symbol_at};
 ghost use Rattle.tasks.specs.Task.{int_symbol};
-ghost use Rattle.name_resolution.specs.Abstract.{expression_of, expressions_of, grouped, triggers_of, let_name, more_alternatives, first_form, side_by_side, alternatives_of, branches_of};
+ghost use Rattle.name_resolution.specs.Abstract.{expression_of, expressions_of, record_expression, value_fields_of, field_values_of, grouped, triggers_of, let_name, more_alternatives, first_form, side_by_side, alternatives_of, branches_of};
 ghost use Rattle.name_resolution.specs.Faults.{first_of, fault_if, fault, faults, symbol_fault, field_fault, name_fault, entry_fault, triggers_fault, branch_fault, branches_fault, has_alternative};
 ghost use Rattle.name_resolution.specs.declared.NamingFault.TheVariants.{WrongKind};
 ghost use Rattle.name_resolution.specs.Naming.{Tells, names_at, where_at, symbol_named};
@@ -15,11 +15,12 @@ use crate::NamingFault;
 use crate::bound::{Names, is_variable};
 use crate::operators::{Operation, infix_operation, own_name, prefix_operator};
 use crate::patterns::{check_alternatives, check_patterns};
+use crate::records::{Fields, check_record};
 use crate::triggers::{is_formula_head, is_predicate, is_projection, trigger_of};
 use crate::type_names::{check_binders, check_form, refuse_if};
 use crate::world::World;
 use std::alloc::Global;
-use surface::{BranchTree, Expr, ExprNode, Name, Pat, PatNode, TriggerTree};
+use surface::{BranchTree, Expr, ExprNode, FieldValue, Name, Pat, PatNode, TriggerTree};
 use tasks::{Seq, SymbolInfo, Text};
 
 // A use of an entry with so many arguments.
@@ -60,7 +61,7 @@ fn check_use(
     }
 }
 
-// The name of a field behind a term.
+// The name of a field after a term.
 fn check_field(
     world: &World<'_>,
     due: bool,
@@ -114,6 +115,7 @@ pub fn let_name(patterns: &[Pat]) -> Option<&Name>
         PatNode::Con(_, _) => None,
         PatNode::Group(_) => None,
         PatNode::Alias(_, _) => None,
+        PatNode::Fields(_, _) => None,
     }
 }
 
@@ -176,6 +178,9 @@ pub fn check(
                 field.scopes.as_slice(),
                 own.as_slice(),
             )
+        }
+        ExprNode::Fields(fields, _) => {
+            check_fields(alloc, fields.as_slice(), world, names, due, token)
         }
         ExprNode::Not(inner) => {
             refuse_if(!due, NamingFault::WrongKind { token })?;
@@ -268,6 +273,41 @@ fn check_all(
 {
     for e in list {
         check(alloc, e, world, names, false)?;
+    }
+    Ok(())
+}
+
+// The fields of a record: their names, then their values.
+#[cycle(naming)]
+fn check_fields(
+    alloc: Global,
+    fields: &[FieldValue],
+    world: &World<'_>,
+    names: &Names<'_>,
+    due: bool,
+    token: usize,
+) -> Result<(), NamingFault>
+    ensures { (s : List Tree) → Tells result (fault (where_at s world.now) world.now.new_vars
+        (names_at names.now) due (record_expression token (value_fields_of fields.now)
+        (field_values_of fields.now))) }
+{
+    refuse_if(due, NamingFault::WrongKind { token })?;
+    check_record(alloc, world, true, token, Fields::Values(fields))?;
+    check_values(alloc, fields, world, names)
+}
+
+#[cycle(naming)]
+fn check_values(
+    alloc: Global,
+    fields: &[FieldValue],
+    world: &World<'_>,
+    names: &Names<'_>,
+) -> Result<(), NamingFault>
+    ensures { (s : List Tree) → Tells result (faults (where_at s world.now) world.now.new_vars
+        (names_at names.now) (field_values_of fields.now)) }
+{
+    for field in fields {
+        check(alloc, &field.value, world, names, false)?;
     }
     Ok(())
 }

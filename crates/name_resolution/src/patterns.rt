@@ -5,7 +5,7 @@ ghost use Rattle.std.specs.Prelude.{◌≡◌, List, [], ◌∷◌, ◌++◌, no
 ghost use Rattle.std.specs.Option.{is_some};
 ghost use Rattle.tasks.specs.trees.Tree.{Tree};
 ghost use Rattle.tasks.specs.Meaning.{symbol_at};
-ghost use Rattle.name_resolution.specs.Abstract.{more_alternatives, abstract_pattern_of, patterns_of, first_form, side_by_side, alternatives_of};
+ghost use Rattle.name_resolution.specs.Abstract.{more_alternatives, abstract_pattern_of, patterns_of, field_patterns_of, first_form, side_by_side, alternatives_of};
 ghost use Rattle.name_resolution.specs.Where.{place_of};
 ghost use Rattle.name_resolution.specs.Faults.{fault_if, first_of, constructor_entry_fault, constructor_fault, pattern_fault, patterns_fault, pattern_names, patterns_names, all_among, same_names, later_fault, alternatives_fault};
 ghost use Rattle.name_resolution.specs.declared.NamingFault.TheVariants.{Duplicate, WrongKind};
@@ -14,10 +14,11 @@ ghost use Rattle.surface.specs.Surface as code;
 
 use crate::NamingFault;
 use crate::operators::own_name;
+use crate::records::{Fields, check_record};
 use crate::type_names::refuse_if;
 use crate::world::{World, variable_named};
 use std::alloc::{AllocError, Global};
-use surface::{Pat, PatNode};
+use surface::{FieldPat, Pat, PatNode};
 use tasks::{Seq, SymbolInfo, Text, is_constructor_kind};
 
 // An entry in the place of a constructor of so many parts.
@@ -105,10 +106,15 @@ pub fn check_pattern(
             check_pattern(alloc, inner.get(), world, names)?;
             check_variable(alloc, name.at, name.text.as_slice(), names)
         }
+        PatNode::Fields(fields, _) => {
+            let fields = fields.as_slice();
+            check_record(alloc, world, false, token, Fields::Patterns(fields))?;
+            check_field_patterns(alloc, fields, world, names)
+        }
     }
 }
 
-/// The same of several patterns of one pattern, in order.
+/// The first fault of several patterns of one pattern, in order. Their variables are put after the others.
 #[cycle(pattern_naming)]
 pub fn check_patterns(
     alloc: Global,
@@ -122,6 +128,25 @@ pub fn check_patterns(
 {
     for p in list {
         check_pattern(alloc, p, world, names)?;
+    }
+    Ok(())
+}
+
+// The first fault of the patterns of fields, in order. Their variables are put after the others.
+#[cycle(pattern_naming)]
+fn check_field_patterns(
+    alloc: Global,
+    fields: &[FieldPat],
+    world: &World<'_>,
+    names: &mut Seq<Text>,
+) -> Result<(), NamingFault>
+    ensures fault { (s : List Tree) → Tells result (patterns_fault (where_at s world.now) names.old
+        (field_patterns_of fields.now)) }
+    ensures names { OnOk result (names.new ≡ names.old
+        ++ patterns_names (field_patterns_of fields.now)) }
+{
+    for field in fields {
+        check_pattern(alloc, &field.value, world, names)?;
     }
     Ok(())
 }
@@ -140,7 +165,23 @@ fn enter_names(alloc: Global, p: &Pat, names: &mut Seq<Text>) -> Result<(), Allo
             enter_names(alloc, inner.get(), names)?;
             enter_name(alloc, names, name.text.as_slice())
         }
+        PatNode::Fields(fields, _) => enter_field_names(alloc, fields.as_slice(), names),
     }
+}
+
+#[cycle(pattern_entering)]
+fn enter_field_names(
+    alloc: Global,
+    fields: &[FieldPat],
+    names: &mut Seq<Text>,
+) -> Result<(), AllocError>
+    ensures { OnOk result (names.new ≡ names.old
+        ++ patterns_names (field_patterns_of fields.now)) }
+{
+    for field in fields {
+        enter_names(alloc, &field.value, names)?;
+    }
+    Ok(())
 }
 
 #[cycle(pattern_entering)]

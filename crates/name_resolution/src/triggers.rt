@@ -106,6 +106,7 @@ pub fn trigger_of(e: &Expr) -> Trigger<'_>
         ExprNode::Cast(_, _) => no_head(token),
         ExprNode::Match(_, _, _) => no_head(token),
         ExprNode::Dot(_, _) => no_head(token),
+        ExprNode::Fields(_, _) => no_head(token),
         ExprNode::Not(_) => no_head(token),
         ExprNode::If(_, _, _) => no_head(token),
         ExprNode::Let(_, _, _) => no_head(token),

@@ -67,7 +67,8 @@ or_else None more = more
 or_else (Some thing) more = Some thing
 
 -- what a name without qualifiers stands for: the first of these scopes that has it decides
-abbrev pub first_found : {A : Type 0} → Table → List ℕ → List (List (EntryOf A)) → List ℕ → Option (Referent A)
+abbrev pub first_found : {A : Type 0} → Table → List ℕ → List (List (EntryOf A)) → List ℕ
+    → Option (Referent A)
 first_found table name entries [] = None
 first_found table name entries (number ∷ numbers) =
     or_else (latest table name (get_or entries number [])) (first_found table name entries numbers)
@@ -78,8 +79,8 @@ table_before table [] = table
 table_before table (name ∷ names) = Scopes
 
 -- the search goes on in the found scope's own entries
-abbrev pub find_within : {A : Type 0} → List (List (EntryOf A)) → Table → Option (Referent A) → List (List ℕ)
-    → Option (Referent A)
+abbrev pub find_within : {A : Type 0} → List (List (EntryOf A)) → Table → Option (Referent A)
+    → List (List ℕ) → Option (Referent A)
 find_within entries table found [] = found
 find_within entries table None (name ∷ names) = None
 find_within entries table (Some thing) (name ∷ names) =

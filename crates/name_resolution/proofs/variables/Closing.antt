@@ -3,12 +3,12 @@ use Rattle.std.proofs.Common.{◌≡◌, ℕ, suc, Bool, true, false, not, cond,
 use Rattle.std.specs.Option.{is_some, is_none}
 use Rattle.std.specs.Str.{bytes_eq}
 use Rattle.surface.specs.Lexeme.{Word}
-use Rattle.name_resolution.specs.Abstract.{TypeExpression, TypeExpressions, variable_type, composed_type, product_type, no_types, more_types, Pattern, Patterns, wildcard_pattern, variable_pattern, constructor_pattern, tuple_pattern, alias_pattern, no_patterns, more_patterns, Alternatives, no_alternatives, more_alternatives, BoundNames, Expression, Expressions, MatchBranches, applied_expression, infix_expression, integer_expression, true_expression, false_expression, tuple_expression, cast_expression, field_expression, not_expression, connected_expression, equality_expression, if_expression, let_expression, match_expression, quantified_expression, no_expressions, more_expressions, no_branches, more_branches, count_forms, count_patterns, count_expressions}
+use Rattle.name_resolution.specs.Abstract.{TypeExpression, TypeExpressions, variable_type, composed_type, product_type, no_types, more_types, Pattern, Patterns, wildcard_pattern, variable_pattern, constructor_pattern, tuple_pattern, alias_pattern, record_pattern, no_patterns, more_patterns, Alternatives, no_alternatives, more_alternatives, BoundNames, Expression, Expressions, MatchBranches, applied_expression, infix_expression, integer_expression, true_expression, false_expression, tuple_expression, cast_expression, field_expression, record_expression, not_expression, connected_expression, equality_expression, if_expression, let_expression, match_expression, quantified_expression, no_expressions, more_expressions, no_branches, more_branches, count_forms, count_patterns, count_expressions}
 use Rattle.name_resolution.specs.declared.NamingFault.{NamingFault}
 use Rattle.name_resolution.specs.declared.NamingFault.TheVariants.{Unknown, WrongKind}
 use Rattle.name_resolution.specs.Where.{Where, MeaningTree, place_of}
 use Rattle.scopes.specs.declared.Referent.TheVariants as stands
-use Rattle.name_resolution.specs.Faults.{first_of, fault_if, meaning_fault, form_fault, forms_fault, symbol_fault, field_fault, local_fault, is_variable, name_fault, type_fault, binders_fault, bound_names, constructor_fault, pattern_fault, patterns_fault, pattern_names, later_fault, alternatives_fault, alternatives_names, TriggerHeadTree, trigger_named, trigger_equality, trigger_other, trigger_head, makes_formulas, is_formula_head, is_formula_trigger, fault, faults, triggers_fault, branches_fault, first_pattern_fault, has_alternative}
+use Rattle.name_resolution.specs.Faults.{first_of, fault_if, meaning_fault, form_fault, forms_fault, symbol_fault, field_fault, record_fault, local_fault, is_variable, name_fault, type_fault, binders_fault, bound_names, constructor_fault, pattern_fault, patterns_fault, pattern_names, later_fault, alternatives_fault, alternatives_names, TriggerHeadTree, trigger_named, trigger_equality, trigger_other, trigger_head, makes_formulas, is_formula_head, is_formula_trigger, fault, faults, triggers_fault, branches_fault, first_pattern_fault, has_alternative}
 use Rattle.name_resolution.specs.variables.Seen.{SeenTree, with_variable, with_width, form_seen, forms_seen, type_seen, binders_seen, pattern_seen, patterns_seen, alternatives_seen, seen, all_seen, branches_seen}
 use Rattle.name_resolution.proofs.Placed.{one_more}
 use Rattle.tasks.proofs.plain_laws.Lists.{bytes_same}
@@ -40,9 +40,9 @@ further : (b : Bool) (x y : Option ℕ) → (is_some x ≡ true → is_some y �
 further true x y f h = refl
 further false x y f h = one_more y ∙ f (sym (one_more x) ∙ h)
 
-behind : (b : Bool) (y : Option ℕ) → is_some y ≡ true → is_some (cond b (Some 0) (option_map suc y)) ≡ true
-behind true y h = refl
-behind false y h = one_more y ∙ h
+following : (b : Bool) (y : Option ℕ) → is_some y ≡ true → is_some (cond b (Some 0) (option_map suc y)) ≡ true
+following true y h = refl
+following false y h = one_more y ∙ h
 
 in_front : (v : Word) (us vs : List Word) → IsIn v us → IsIn v (us ++ vs)
 in_front v [] vs h = absurd (cc)
@@ -50,7 +50,7 @@ in_front v (u ∷ us) vs h = further (bytes_eq u v) (place_of v us) (place_of v 
 
 in_back : (v : Word) (us vs : List Word) → IsIn v vs → IsIn v (us ++ vs)
 in_back v [] vs h = h
-in_back v (u ∷ us) vs h = behind (bytes_eq u v) (place_of v (us ++ vs)) (in_back v us vs h)
+in_back v (u ∷ us) vs h = following (bytes_eq u v) (place_of v (us ++ vs)) (in_back v us vs h)
 
 itself : (v : Word) → IsIn v (v ∷ [])
 itself v = head_or (bytes_eq v v) (option_map suc (place_of v [])) (bytes_same v)
@@ -95,6 +95,7 @@ mutual
   pattern_more (constructor_pattern i qs x ps) s u h = patterns_more ps s u h
   pattern_more (tuple_pattern i ps) s u h = patterns_more ps (with_width (count_patterns ps) s) u h
   pattern_more (alias_pattern p i x) s u h = pattern_more p s u h
+  pattern_more (record_pattern i fs ps) s u h = patterns_more ps s u h
 
   patterns_more : (ps : Patterns) (s : SeenTree) → Stay s (patterns_seen s ps)
   patterns_more no_patterns s u h = h
@@ -114,6 +115,7 @@ mutual
   some_more (tuple_expression i es) s u h = all_more es (with_width (count_expressions es) s) u h
   some_more (cast_expression i e f) s u h = form_more f (seen s e) u (some_more e s u h)
   some_more (field_expression i e k qs x) s u h = some_more e s u h
+  some_more (record_expression i fs es) s u h = all_more es s u h
   some_more (not_expression i e) s u h = some_more e s u h
   some_more (connected_expression i a o b) s u h = some_more b (seen s a) u (some_more a s u h)
   some_more (equality_expression i same a b) s u h = some_more b (seen s a) u (some_more a s u h)
@@ -175,6 +177,7 @@ module _ (w : Where) (vs : List Word) where
     pattern_same (constructor_pattern i qs x ps) us = cc (constructor_same i (count_patterns ps) (w.names qs x), patterns_same ps us)
     pattern_same (tuple_pattern i ps) us = patterns_same ps us
     pattern_same (alias_pattern p i x) us = cc (pattern_same p us)
+    pattern_same (record_pattern i fs ps) us = ap (first_of (record_fault w false i (count_patterns ps) fs)) (patterns_same ps us)
 
     patterns_same : (ps : Patterns) (us : List Word) → patterns_fault with_vars us ps ≡ patterns_fault w us ps
     patterns_same no_patterns us = refl
@@ -239,6 +242,10 @@ module _ (w : Where) (vs : List Word) where
     closed (field_expression i e f qs x) s ls due h k =
         let p = none_both (fault w true ls false e) (field_fault w due f (w.names qs x)) h in
         both_none _ _ (closed e s ls false p.0 k) (field_same due f (w.names qs x) ∙ p.1)
+    closed (record_expression i fs es) s ls due h k =
+        let p = none_both (fault_if due (WrongKind i)) (first_of (record_fault w true i (count_expressions es) fs) (faults w true ls es)) h in
+        let q = none_both (record_fault w true i (count_expressions es) fs) (faults w true ls es) p.1 in
+        both_none _ _ p.0 (both_none _ _ q.0 (all_closed es s ls q.1 k))
     closed (not_expression i e) s ls due h k =
         let p = none_both (fault_if (not due) (WrongKind i)) (fault w true ls true e) h in
         both_none _ _ p.0 (closed e s ls true p.1 k)

@@ -2,7 +2,7 @@
 use Rattle.std.specs.Prelude.{ℕ, Bool, false, cond, ◌==◌, ◌||◌, List, [], ◌∷◌, ◌++◌, Option, Some, None}
 use Rattle.std.specs.Option.{is_some}
 use Rattle.surface.specs.Lexeme.{Word}
-use Rattle.name_resolution.specs.Abstract.{TypeExpression, TypeExpressions, variable_type, composed_type, product_type, no_types, more_types, Pattern, Patterns, wildcard_pattern, variable_pattern, constructor_pattern, tuple_pattern, alias_pattern, no_patterns, more_patterns, Alternatives, no_alternatives, more_alternatives, BoundNames, Expression, Expressions, MatchBranches, applied_expression, infix_expression, integer_expression, true_expression, false_expression, tuple_expression, cast_expression, field_expression, not_expression, connected_expression, equality_expression, if_expression, let_expression, match_expression, quantified_expression, no_expressions, more_expressions, no_branches, more_branches, count_forms, count_patterns, count_expressions}
+use Rattle.name_resolution.specs.Abstract.{TypeExpression, TypeExpressions, variable_type, composed_type, product_type, no_types, more_types, Pattern, Patterns, wildcard_pattern, variable_pattern, constructor_pattern, tuple_pattern, alias_pattern, record_pattern, no_patterns, more_patterns, Alternatives, no_alternatives, more_alternatives, BoundNames, Expression, Expressions, MatchBranches, applied_expression, infix_expression, integer_expression, true_expression, false_expression, tuple_expression, cast_expression, field_expression, record_expression, not_expression, connected_expression, equality_expression, if_expression, let_expression, match_expression, quantified_expression, no_expressions, more_expressions, no_branches, more_branches, count_forms, count_patterns, count_expressions}
 use Rattle.name_resolution.specs.Where.{place_of}
 
 pub record SeenTree : Type 0 where
@@ -50,6 +50,7 @@ abbrev mutual
   pattern_seen s (constructor_pattern i qs x ps) = patterns_seen s ps
   pattern_seen s (tuple_pattern i ps) = patterns_seen (with_width (count_patterns ps) s) ps
   pattern_seen s (alias_pattern p i x) = pattern_seen s p
+  pattern_seen s (record_pattern i fs ps) = patterns_seen s ps
 
   pub patterns_seen : SeenTree → Patterns → SeenTree
   patterns_seen s no_patterns = s
@@ -69,6 +70,7 @@ abbrev mutual
   seen s (tuple_expression i es) = all_seen (with_width (count_expressions es) s) es
   seen s (cast_expression i e f) = form_seen (seen s e) f
   seen s (field_expression i e k qs x) = seen s e
+  seen s (record_expression i fs es) = all_seen s es
   seen s (not_expression i e) = seen s e
   seen s (connected_expression i a o b) = seen (seen s a) b
   seen s (equality_expression i same a b) = seen (seen s a) b

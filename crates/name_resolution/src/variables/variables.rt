@@ -1,7 +1,7 @@
 // The type variables of an expression and the widths of its tuples, by first appearance.
 // They depend on the surface trees alone; elaboration begins with them.
 ghost use Rattle.std.specs.Prelude.{◌≡◌, ◌==◌, cond, OnOk};
-ghost use Rattle.name_resolution.specs.Abstract.{type_expression_of, forms_of, bound_names_of, binders_of, expression_of, expressions_of, triggers_of, abstract_pattern_of, patterns_of, side_by_side, alternatives_of, branches_of};
+ghost use Rattle.name_resolution.specs.Abstract.{type_expression_of, forms_of, bound_names_of, binders_of, expression_of, expressions_of, field_values_of, triggers_of, abstract_pattern_of, patterns_of, field_patterns_of, side_by_side, alternatives_of, branches_of};
 ghost use Rattle.surface.specs.Surface as code;
 ghost use Rattle.name_resolution.specs.variables.Seen.{has_width, with_variable, with_width, form_seen, forms_seen, type_seen, binders_seen, all_seen, pattern_seen, patterns_seen, alternatives_seen, branches_seen};
 ghost use Rattle.name_resolution.specs.variables.Seen as fold;
@@ -10,7 +10,8 @@ ghost use Rattle.name_resolution.specs.variables.Entered.{seen_at};
 use crate::{let_name, variable_named};
 use std::alloc::{AllocError, Global};
 use surface::{
-    BinderTree, BranchTree, Expr, ExprNode, Pat, PatNode, TriggerTree, TypeNode, TypeTree,
+    BinderTree, BranchTree, Expr, ExprNode, FieldPat, FieldValue, Pat, PatNode, TriggerTree,
+    TypeNode, TypeTree,
 };
 use tasks::{Seq, Text};
 
@@ -126,7 +127,19 @@ fn enter_pattern(seen: &mut Seen, p: &Pat) -> Result<(), AllocError>
             enter_all_patterns(seen, parts.as_slice())
         }
         PatNode::Alias(inner, _) => enter_pattern(seen, inner.get()),
+        PatNode::Fields(fields, _) => enter_field_patterns(seen, fields.as_slice()),
     }
+}
+
+#[cycle(pattern_entering)]
+fn enter_field_patterns(seen: &mut Seen, fields: &[FieldPat]) -> Result<(), AllocError>
+    ensures { OnOk result (seen_at seen.new ≡ patterns_seen (seen_at seen.old)
+        (field_patterns_of fields.now)) }
+{
+    for field in fields {
+        enter_pattern(seen, &field.value)?;
+    }
+    Ok(())
 }
 
 #[cycle(pattern_entering)]
@@ -179,6 +192,7 @@ pub fn enter_variables(alloc: Global, seen: &mut Seen, e: &Expr) -> Result<(), A
         }
         ExprNode::Prefix(_, inner) => enter_variables(alloc, seen, inner.get()),
         ExprNode::Dot(inner, _) => enter_variables(alloc, seen, inner.get()),
+        ExprNode::Fields(fields, _) => enter_values(alloc, seen, fields.as_slice()),
         ExprNode::Not(inner) => enter_variables(alloc, seen, inner.get()),
         ExprNode::Binary(left, _, right) => {
             enter_variables(alloc, seen, left.get())?;
@@ -235,6 +249,17 @@ fn enter_all(alloc: Global, seen: &mut Seen, list: &[Expr]) -> Result<(), AllocE
 {
     for e in list {
         enter_variables(alloc, seen, e)?;
+    }
+    Ok(())
+}
+
+#[cycle(entering)]
+fn enter_values(alloc: Global, seen: &mut Seen, fields: &[FieldValue]) -> Result<(), AllocError>
+    ensures { OnOk result (seen_at seen.new ≡ all_seen (seen_at seen.old)
+        (field_values_of fields.now)) }
+{
+    for field in fields {
+        enter_variables(alloc, seen, &field.value)?;
     }
     Ok(())
 }

@@ -1,11 +1,13 @@
-use Rattle.std.proofs.Common.{[], Err, refl, sym, ap, subst, ◌∙◌}
+use Rattle.std.proofs.Common.{◌≡◌, [], Ok, Err, None, refl, sym, ap, subst, ◌∙◌}
 use Rattle.surface.specs.Lexeme.{Word}
 use Rattle.surface.specs.Surface.{own_of}
 use Rattle.name_resolution.specs.Abstract.{expressions_of, connective_operator, equality_operator, symbol_operator, text_of_own}
+use Rattle.name_resolution.specs.Faults.{fault_if}
+use Rattle.name_resolution.specs.declared.NamingFault.TheVariants.{WrongKind}
 use Rattle.name_resolution.specs.Naming.{Tells, where_at, names_at, operation_at}
-use Rattle.name_resolution.proofs.Nodes.{triggers_at-Some, expression_at-Match, expression_at-Apply, expression_at-Int, expression_at-True, expression_at-False, expression_at-Cast, expression_at-Dot, expression_at-Not, expression_at-If, expression_at-Group, expression_at-Prefix, expression_at-Quant}
+use Rattle.name_resolution.proofs.Nodes.{triggers_at-Some, expression_at-Match, expression_at-Apply, expression_at-Int, expression_at-True, expression_at-False, expression_at-Cast, expression_at-Dot, expression_at-Fields, expression_at-Not, expression_at-If, expression_at-Group, expression_at-Prefix, expression_at-Quant}
 use Rattle.name_resolution.proofs.Operated.{operated_as, bound_as}
-use Rattle.name_resolution.proofs.Told.{of_first, of_rest, passed, counted, group_many, first_alone, name_same, due_group, let_as, whole_fault, whole_names, tells}
+use Rattle.name_resolution.proofs.Told.{of_first, of_rest, passed, counted, told_values, group_many, first_alone, name_same, due_group, let_as, whole_fault, whole_names, tells}
 use Rattle.name_resolution.proofs.names.+naming.Goals as goal
 
 pub check-returns-in_err-check_name-in-Apply : goal.check-returns-in_err-check_name-in-Apply
@@ -238,3 +240,25 @@ check_under-returns-in_err-check_alternatives t c s =
 pub check_under-returns : goal.check_under-returns
 check_under-returns t c s =
     of_rest c.check.result _ _ (c.in_ok-check_alternatives.ensures.fault s) (rw (c.as_slice.ensures, c.in_ok-check_alternatives.ensures.names) at c.check.ensures s)
+
+pub check-returns-in-Fields : goal.check-returns-in-Fields
+check-returns-in-Fields t c s =
+    let is = expression_at-Fields c.args.e.now c.in-Fields.fields c.in-Fields.field-1 c.in-Fields.is in
+    rw is (rw c.as_slice-in-Fields.ensures at c.check_fields.ensures s)
+
+pub check_fields-returns-in_err-refuse_if : goal.check_fields-returns-in_err-refuse_if
+check_fields-returns-in_err-refuse_if t c s =
+    passed c.from_residual.result c.in_err-refuse_if.field-0.0 _ c.from_residual.ensures.1 (of_first c.in_err-refuse_if.field-0.0 _ _ (tells _ _ c.in_err-refuse_if.ensures))
+
+pub check_fields-returns-in_err-check_record : goal.check_fields-returns-in_err-check_record
+check_fields-returns-in_err-check_record t c s =
+    let e = c.in_err-check_record.field-0.0 in
+    let none : fault_if c.args.due (WrongKind c.args.token) ≡ None = tells (Ok tt) (fault_if c.args.due (WrongKind c.args.token)) c.in_ok-refuse_if.ensures in
+    let told = told_values (where_at s c.args.world.now) (Err e) c.args.token c.args.fields.now (c.in_err-check_record.ensures s) in
+    passed c.from_residual-in_err-check_record.result e _ c.from_residual-in_err-check_record.ensures.1 (of_rest (Err e) _ _ none (of_first e _ _ told))
+
+pub check_fields-returns : goal.check_fields-returns
+check_fields-returns t c s =
+    let none : fault_if c.args.due (WrongKind c.args.token) ≡ None = tells (Ok tt) (fault_if c.args.due (WrongKind c.args.token)) c.in_ok-refuse_if.ensures in
+    let told = told_values (where_at s c.args.world.now) (Ok tt) c.args.token c.args.fields.now (c.in_ok-check_record.ensures s) in
+    of_rest c.check_values.result _ _ none (of_rest c.check_values.result _ _ told (c.check_values.ensures s))

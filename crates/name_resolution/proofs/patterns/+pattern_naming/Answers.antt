@@ -1,10 +1,10 @@
-use Rattle.std.proofs.Common.{[], ◌∷◌, append_assoc, refl, sym, subst, ◌∙◌}
+use Rattle.std.proofs.Common.{Ok, Err, [], ◌∷◌, append_assoc, refl, sym, subst, ◌∙◌}
 use mathlib.Core.List.{append-nil}
 use Rattle.name_resolution.specs.Abstract.{abstract_pattern_of}
 use Rattle.name_resolution.specs.Faults.{pattern_names}
 use Rattle.name_resolution.specs.Naming.{Tells, where_at}
-use Rattle.name_resolution.proofs.Nodes.{pattern_at-Wild, pattern_at-Var, pattern_at-Con, pattern_at-Group, pattern_at-Alias}
-use Rattle.name_resolution.proofs.Told.{of_first, of_rest, passed, counted_patterns, enclosed_fault, enclosed_names}
+use Rattle.name_resolution.proofs.Nodes.{pattern_at-Wild, pattern_at-Var, pattern_at-Con, pattern_at-Group, pattern_at-Alias, pattern_at-Fields}
+use Rattle.name_resolution.proofs.Told.{of_first, of_rest, passed, counted_patterns, told_patterns, enclosed_fault, enclosed_names}
 use Rattle.name_resolution.proofs.patterns.+pattern_naming.Goals as goal
 
 pub check_pattern-returns-in-Wild-clause-fault : goal.check_pattern-returns-in-Wild-clause-fault
@@ -61,3 +61,19 @@ pub check_pattern-returns-in_ok-check_pattern-in-Alias-clause-names : goal.check
 check_pattern-returns-in_ok-check_pattern-in-Alias-clause-names t c =
     let seen = rw c.get.ensures at c.in_ok-check_pattern-in-Alias.ensures.names in
     rw (pattern_at-Alias c.args.p.now c.in-Alias.inner c.in-Alias.name c.in-Alias.is) (rw (c.as_slice-in-Alias.ensures, seen, append_assoc c.args.names.now (pattern_names (abstract_pattern_of c.in-Alias.inner)) (c.in-Alias.name.text ∷ [])) at c.check_variable-in-Alias.ensures.names)
+
+pub check_pattern-returns-in_err-check_record-in-Fields-clause-fault : goal.check_pattern-returns-in_err-check_record-in-Fields-clause-fault
+check_pattern-returns-in_err-check_record-in-Fields-clause-fault t c s =
+    let is = pattern_at-Fields c.args.p.now c.in-Fields.fields c.in-Fields.field-1 c.in-Fields.is in
+    let e = c.in_err-check_record-in-Fields.field-0.0 in
+    let told = told_patterns (where_at s c.args.world.now) (Err e) c.args.p.now.at.main c.in-Fields.fields _ c.as_slice-fields.ensures (c.in_err-check_record-in-Fields.ensures s) in
+    passed c.from_residual-in_err-check_record-in-Fields.result e _ c.from_residual-in_err-check_record-in-Fields.ensures.1 (rw is (of_first e _ _ told))
+
+pub check_pattern-returns-in_ok-check_record-in-Fields-clause-fault : goal.check_pattern-returns-in_ok-check_record-in-Fields-clause-fault
+check_pattern-returns-in_ok-check_record-in-Fields-clause-fault t c s =
+    let is = pattern_at-Fields c.args.p.now c.in-Fields.fields c.in-Fields.field-1 c.in-Fields.is in
+    let told = told_patterns (where_at s c.args.world.now) (Ok tt) c.args.p.now.at.main c.in-Fields.fields _ c.as_slice-fields.ensures (c.in_ok-check_record-in-Fields.ensures s) in
+    rw is (of_rest c.check_field_patterns.result _ _ told (rw c.as_slice-fields.ensures at c.check_field_patterns.ensures.fault s))
+
+pub check_pattern-returns-in_ok-check_record-in-Fields-clause-names : goal.check_pattern-returns-in_ok-check_record-in-Fields-clause-names
+check_pattern-returns-in_ok-check_record-in-Fields-clause-names t c = rw (pattern_at-Fields c.args.p.now c.in-Fields.fields c.in-Fields.field-1 c.in-Fields.is) (rw c.as_slice-fields.ensures at c.check_field_patterns.ensures.names)

@@ -2,7 +2,7 @@ use Rattle.std.proofs.Common.{refl, sym}
 use Rattle.surface.specs.Surface as code
 use Rattle.surface.specs.Surface.{op_of}
 use Rattle.name_resolution.specs.Abstract.{operator_meaning, expression_of, let_name}
-use Rattle.name_resolution.proofs.Nodes.{expression_at-Apply, expression_at-Int, expression_at-True, expression_at-False, expression_at-Group, expression_at-Cast, expression_at-Prefix, expression_at-Dot, expression_at-Not, expression_at-Binary, expression_at-If, expression_at-Let, expression_at-Match, expression_at-Quant}
+use Rattle.name_resolution.proofs.Nodes.{expression_at-Apply, expression_at-Int, expression_at-True, expression_at-False, expression_at-Group, expression_at-Cast, expression_at-Prefix, expression_at-Dot, expression_at-Fields, expression_at-Not, expression_at-Binary, expression_at-If, expression_at-Let, expression_at-Match, expression_at-Quant}
 use Rattle.name_resolution.proofs.Told.{group_many, operated_head, operated_token, let_head, let_token}
 use Rattle.name_resolution.proofs.triggers.+heads.Goals as goal
 
@@ -106,3 +106,9 @@ trigger_of-returns-in-Let-clause-token t c =
     let is = expression_at-Let c.args.e.now c.in-Let.field-0 c.in-Let.field-1 c.in-Let.field-2 c.in-Let.is in
     let o = let_token (let_name (code.patterns c.in-Let.field-0)) c.args.e.now.at.main (code.patterns c.in-Let.field-0) (expression_of c.in-Let.field-1) (expression_of c.in-Let.field-2) in
     rw (is, o) c.no_head-in-Let.ensures.token
+
+pub trigger_of-returns-in-Fields-clause-head : goal.trigger_of-returns-in-Fields-clause-head
+trigger_of-returns-in-Fields-clause-head t c = let is = expression_at-Fields c.args.e.now c.in-Fields.field-0 c.in-Fields.field-1 c.in-Fields.is in rw is c.no_head-in-Fields.ensures.head
+
+pub trigger_of-returns-in-Fields-clause-token : goal.trigger_of-returns-in-Fields-clause-token
+trigger_of-returns-in-Fields-clause-token t c = let is = expression_at-Fields c.args.e.now c.in-Fields.field-0 c.in-Fields.field-1 c.in-Fields.is in rw is c.no_head-in-Fields.ensures.token

@@ -3,7 +3,7 @@ use Rattle.surface.specs.Surface as code
 use Rattle.surface.specs.Surface.{op_of}
 use Rattle.name_resolution.specs.Abstract.{first_tree, operator_meaning, expression_of}
 use Rattle.name_resolution.specs.variables.Entered.{seen_at}
-use Rattle.name_resolution.proofs.Nodes.{triggers_at-Some, expression_at-Apply, expression_at-Int, expression_at-True, expression_at-False, expression_at-Group, expression_at-Cast, expression_at-Prefix, expression_at-Dot, expression_at-Not, expression_at-Binary, expression_at-If, expression_at-Quant, expression_at-Match}
+use Rattle.name_resolution.proofs.Nodes.{triggers_at-Some, expression_at-Apply, expression_at-Int, expression_at-True, expression_at-False, expression_at-Group, expression_at-Cast, expression_at-Prefix, expression_at-Dot, expression_at-Fields, expression_at-Not, expression_at-Binary, expression_at-If, expression_at-Quant, expression_at-Match}
 use Rattle.name_resolution.proofs.variables.Widened.{expressions_widened, operated_seen}
 use Rattle.name_resolution.proofs.Operated.{bound_as, matched_as}
 use Rattle.name_resolution.proofs.variables.variables.+entering.Goals as goal
@@ -85,3 +85,6 @@ enter_variables-returns-in_ok-enter_patterns-in-None t c =
     let a = rw c.get-in-None.ensures at c.in_ok-enter_variables-in-None.ensures in
     let b = rw (c.as_slice-in-None.ensures, a) at c.in_ok-enter_patterns-in-None.ensures in
     rw is (rw (c.get-in-None-2.ensures, b) at c.enter_variables-in-None-2.ensures)
+
+pub enter_variables-returns-in-Fields : goal.enter_variables-returns-in-Fields
+enter_variables-returns-in-Fields t c = let is = expression_at-Fields c.args.e.now c.in-Fields.fields c.in-Fields.field-1 c.in-Fields.is in rw is (rw c.as_slice-in-Fields.ensures at c.enter_values.ensures)

@@ -1,6 +1,6 @@
 use Rattle.std.proofs.Common.{refl}
 use Rattle.name_resolution.specs.variables.Entered.{seen_at}
-use Rattle.name_resolution.proofs.Nodes.{pattern_at-Wild, pattern_at-Var, pattern_at-Con, pattern_at-Group, pattern_at-Alias}
+use Rattle.name_resolution.proofs.Nodes.{pattern_at-Wild, pattern_at-Var, pattern_at-Con, pattern_at-Group, pattern_at-Alias, pattern_at-Fields}
 use Rattle.name_resolution.proofs.variables.Widened.{patterns_widened}
 use Rattle.name_resolution.proofs.variables.variables.+pattern_entering.Goals as goal
 
@@ -21,3 +21,6 @@ enter_pattern-returns-in_ok-enter_tuple-in-Group t c =
 
 pub enter_pattern-returns-in-Alias : goal.enter_pattern-returns-in-Alias
 enter_pattern-returns-in-Alias t c = let is = pattern_at-Alias c.args.p.now c.in-Alias.inner c.in-Alias.field-1 c.in-Alias.is in rw is (rw c.get.ensures at c.enter_pattern.ensures)
+
+pub enter_pattern-returns-in-Fields : goal.enter_pattern-returns-in-Fields
+enter_pattern-returns-in-Fields t c = let is = pattern_at-Fields c.args.p.now c.in-Fields.fields c.in-Fields.field-1 c.in-Fields.is in rw is (rw c.as_slice-in-Fields.ensures at c.enter_field_patterns.ensures)
