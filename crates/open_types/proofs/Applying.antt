@@ -5,7 +5,7 @@ use Rattle.trees.specs.Tree.{Tree}
 use Rattle.trees.specs.Sorts.{sort_of}
 use Rattle.surface.specs.declared.expressions.Expr.{Expr}
 use Rattle.surface.specs.Lexeme.{Word}
-use Rattle.name_resolution.specs.Abstract.{Expression, Expressions, BoundNames, applied_expression, infix_expression, tuple_expression, field_expression, quantified_expression, no_expressions, more_expressions, count_expressions}
+use Rattle.name_resolution.specs.Abstract.{FieldName, Expression, Expressions, BoundNames, applied_expression, infix_expression, tuple_expression, field_expression, record_expression, quantified_expression, no_expressions, more_expressions, count_expressions}
 use Rattle.name_resolution.specs.Faults.{faults, fault_if, name_fault}
 use Rattle.name_resolution.specs.declared.NamingFault.TheVariants.{WrongKind}
 use Rattle.name_resolution.specs.declared.world.World.{World}
@@ -16,7 +16,7 @@ use Rattle.open_types.specs.Drafts.{CanWalk, CanUse, names_of_locals, is_due}
 use Rattle.open_types.specs.Pieces.{equality}
 use Rattle.trees.specs.declared.TermId.{TermId}
 use Rattle.open_types.specs.Sizes.{size_of, sizes_of}
-use Rattle.open_types.proofs.Walking.{in_infixed, in_tuple, in_field, none_both, must_be}
+use Rattle.open_types.proofs.Walking.{in_infixed, in_tuple, in_field, in_record, none_both, must_be}
 
 pub apply_same : (i : ℕ) {qs qs' : List Word} {x x' : Word} {es es' : Expressions} → qs ≡ qs' → x ≡ x' → es ≡ es' → applied_expression i qs x es ≡ applied_expression i qs' x' es'
 apply_same i {qs' = qs'} {x = x} {x' = x'} {es = es} a b c = ap (λ (q : List Word). applied_expression i q x es) a ∙ (ap (λ (y : Word). applied_expression i qs' y es) b ∙ ap (applied_expression i qs' x') c)
@@ -44,6 +44,9 @@ can_tuple {s} {w = w} {ls = ls} {t = t} i es c = record { set = c.set; wanted = 
 
 pub can_field : {s : List Tree} {d : Constraints} {w : World} {ls : Locals} {t : Option TermId} (i : ℕ) (e : Expression) (k : ℕ) (qs : List Word) (x : Word) → CanWalk s d w ls t (field_expression i e k qs x) → CanUse s d w ls t (more_expressions e no_expressions)
 can_field {s} {w = w} {ls = ls} {t = t} i e k qs x c = record { set = c.set; wanted = c.wanted; resolved = in_field (where_at s w) false (names_of_locals ls) (is_due t) i e k qs x c.resolved }
+
+pub can_record : {s : List Tree} {d : Constraints} {w : World} {ls : Locals} {t : Option TermId} (i : ℕ) (fs : List FieldName) (es : Expressions) → CanWalk s d w ls t (record_expression i fs es) → CanUse s d w ls t es
+can_record {s} {w = w} {ls = ls} {t = t} i fs es c = record { set = c.set; wanted = c.wanted; resolved = (in_record (where_at s w) false (names_of_locals ls) (is_due t) i fs es c.resolved).2 }
 
 -- under quantifiers a formula is due
 pub quantified_due : {s : List Tree} {d : Constraints} {w : World} {ls : Locals} {t : Option TermId} (i : ℕ) (all : Bool) (bs : List BoundNames) (gs : Expressions) (e : Expression) → CanWalk s d w ls t (quantified_expression i all bs gs e) → is_due t ≡ true

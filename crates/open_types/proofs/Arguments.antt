@@ -146,7 +146,7 @@ cell_fits a b h l = ((λ e. no_list (sym h ∙ e), rw h l), tt)
     no_list : Term ≡ sorts.List → ⊥
     no_list e = cc
 
-at_sort : (k : ℕ) (ts : List Tree) (t : Option TermId) (s : List Tree) (a : Tree) → sort_of (symbol_at_types k ts (option_map (tree_at s) t) a) ≡ due t
+pub at_sort : (k : ℕ) (ts : List Tree) (t : Option TermId) (s : List Tree) (a : Tree) → sort_of (symbol_at_types k ts (option_map (tree_at s) t) a) ≡ due t
 at_sort k ts None s a = refl
 at_sort k ts (Some w) s a = refl
 

@@ -49,7 +49,7 @@ pub list_more : (ts : List Tree) (m n : ℕ) → m ≤ n → AreBelow m ts → A
 list_more [] m n l h = tt
 list_more (t ∷ ts) m n l h = (below_more t m n l h.0, list_more ts m n l h.1)
 
-each : {A : Type 0} (P : A → Type 0) (xs : List A) → AllByRecursion P xs → (k : ℕ) (d : A) → P d → P (get_or xs k d)
+pub each : {A : Type 0} (P : A → Type 0) (xs : List A) → AllByRecursion P xs → (k : ℕ) (d : A) → P d → P (get_or xs k d)
 each P [] h k d p = p
 each P (x ∷ xs) h zero d p = h.0
 each P (x ∷ xs) h (suc k) d p = each P xs h.1 k d p

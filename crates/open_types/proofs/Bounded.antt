@@ -1,19 +1,23 @@
 -- The type variables of a piece are the declaration's own and the unknowns that it takes.
-use Rattle.std.proofs.Common.{◌≡◌, ℕ, ◌+◌, ◌≤◌, Bool, true, false, not, List, [], ◌∷◌, ◌++◌, reverse, replicate, length, Option, Some, None, IfSome, arith, length-append}
+use Rattle.std.proofs.Common.{◌≡◌, ℕ, ◌+◌, ◌≤◌, zero, suc, pos, map, Bool, true, false, not, List, [], ◌∷◌, ◌++◌, reverse, replicate, length, Option, Some, None, IfSome, arith, length-append}
 use Rattle.std.specs.List.{AllByRecursion}
-use Rattle.trees.specs.Tree.{Tree, Leaf, Two, HCell, HEnd}
+use Rattle.trees.specs.Tree.{Tree, Leaf, One, Two, Three, HCell, HEnd, HNum}
+use Rattle.trees.specs.Sorts.{int_type}
 use Rattle.trees.specs.Facts.{TyVarsBelow}
 use Rattle.tasks.specs.Equations.{type_variables}
+use Rattle.tasks.specs.Typing.{members}
 use Rattle.surface.specs.Lexeme.{Word}
-use Rattle.name_resolution.specs.Abstract.{Pattern, Patterns, wildcard_pattern, variable_pattern, constructor_pattern, tuple_pattern, alias_pattern, no_patterns, more_patterns, Alternatives, no_alternatives, more_alternatives, Expression, Expressions, MatchBranches, applied_expression, infix_expression, integer_expression, true_expression, false_expression, tuple_expression, cast_expression, field_expression, not_expression, connected_expression, equality_expression, if_expression, let_expression, match_expression, quantified_expression, no_expressions, more_expressions, no_branches, more_branches, count_patterns, count_expressions}
+use Rattle.name_resolution.specs.Abstract.{Pattern, Patterns, wildcard_pattern, variable_pattern, constructor_pattern, tuple_pattern, alias_pattern, record_pattern, no_patterns, more_patterns, Alternatives, no_alternatives, more_alternatives, Expression, Expressions, MatchBranches, applied_expression, infix_expression, integer_expression, true_expression, false_expression, tuple_expression, cast_expression, field_expression, record_expression, not_expression, connected_expression, equality_expression, if_expression, let_expression, match_expression, quantified_expression, no_expressions, more_expressions, no_branches, more_branches, count_patterns, count_expressions}
 use Rattle.name_resolution.specs.declared.NamingFault.TheVariants.{WrongKind}
-use Rattle.name_resolution.specs.Faults.{first_of, fault_if, form_fault, name_fault, field_fault, binders_fault, bound_names, alternatives_fault, alternatives_names, fault, faults, triggers_fault, branches_fault}
+use Rattle.name_resolution.specs.Faults.{first_of, fault_if, form_fault, name_fault, field_fault, record_fault, binders_fault, bound_names, alternatives_fault, alternatives_names, fault, faults, triggers_fault, branches_fault}
+use Rattle.name_resolution.specs.Records.{record_named, places_named, put_at_places}
 use Rattle.name_resolution.specs.Where.{Where}
-use Rattle.open_types.specs.Patterns.{no_notes, follow, taken, LocalTree, local, first_or_int, rest_of, NumberedEntry, entry_of, Matched, part_types, constructed_by, pattern_piece, patterns_piece, later_pieces, alternatives_pieces, all_notes, first_variables, places_among, later_arms, arms}
-use Rattle.open_types.specs.Pieces.{type_at, NotedTree, unknown_after, unknown, noted_before, piece, pieces, triggers_notes, branches_arms, Arms, Use, Local', Symbol', use_of_name, tuple_use, field_use, used_piece, use_vars, parameters, equality, binders_vars, quantify, names}
+use Rattle.name_resolution.proofs.Putting.{put_all}
+use Rattle.open_types.specs.Patterns.{no_notes, follow, taken, LocalTree, local, first_or_int, rest_of, NumberedEntry, entry_of, Matched, part_types, constructed_by, place_types, PatternTree, tree_of_matched, side_by_side_trees, wildcard_tree, fields_piece, part_pieces, pattern_piece, patterns_piece, later_pieces, alternatives_pieces, all_notes, first_variables, places_among, later_arms, arms}
+use Rattle.open_types.specs.Pieces.{type_at, NotedTree, unknown_after, unknown, noted_before, piece, pieces, triggers_notes, branches_arms, Arms, Use, Local', Symbol', use_of_name, tuple_use, field_use, record_use, field_places, values_placed, used_piece, use_vars, parameters, equality, binders_vars, quantify, names}
 use Rattle.open_types.specs.Pieces as pieces_of
 use Rattle.open_types.specs.Scoped.{IsScoped}
-use Rattle.open_types.proofs.Below.{below_more, AreBelow, LocalsBelow, locals_more, wanted_more, list_more, both_all, reversed, reordered_below, variables_all, cells_below, first_below, rest_below, UseBelow, parameters_of, typed_use, quantified_below, symbol_scoped, use_below, form_below, bound_below}
+use Rattle.open_types.proofs.Below.{below_more, each, AreBelow, LocalsBelow, locals_more, wanted_more, list_more, both_all, reversed, reordered_below, variables_all, cells_below, first_below, rest_below, UseBelow, parameters_of, typed_use, quantified_below, symbol_scoped, use_below, form_below, bound_below}
 use Rattle.open_types.proofs.Noting.{count_replicate}
 use Rattle.open_types.proofs.Walking.{none_both}
 use Rattle.open_types.proofs.Branching.{in_cases}
@@ -29,6 +33,43 @@ two_below n m p q l a b = (below_more p.tree (unknown_after n p) m (omega arith)
 record MatchedBelow (n : ℕ) (m : Matched) : Type 0 where
   tree : TyVarsBelow (n + taken m.notes) m.tree
   variables : LocalsBelow (n + taken m.notes) m.variables
+
+-- ---- the parts of a record
+record PartBelow (n : ℕ) (p : PatternTree) : Type 0 where
+  tree : TyVarsBelow n p.tree
+  variables : LocalsBelow n p.variables
+
+abbrev PartsBelow : ℕ → List Matched → Type 0
+PartsBelow n ms = AllByRecursion (λ (m : Matched). PartBelow n (tree_of_matched m)) ms
+
+parts_more : (ms : List Matched) (j k : ℕ) → j ≤ k → PartsBelow j ms → PartsBelow k ms
+parts_more [] j k l h = tt
+parts_more (x ∷ xs) j k l h = (record { tree = below_more x.tree j k l h.0.tree; variables = locals_more x.variables j k l h.0.variables }, parts_more xs j k l h.1)
+
+parts_are : (n : ℕ) (ms : List Matched) → PartsBelow n ms → AllByRecursion (PartBelow n) (map tree_of_matched ms)
+parts_are n [] h = tt
+parts_are n (x ∷ xs) h = (h.0, parts_are n xs h.1)
+
+wildcards_below : (n : ℕ) (ts : List Tree) → AreBelow n ts → AllByRecursion (PartBelow n) (map wildcard_tree ts)
+wildcards_below n [] h = tt
+wildcards_below n (t ∷ ts) h = (record { tree = h.0; variables = tt }, wildcards_below n ts h.1)
+
+beside_below : (n : ℕ) (ps : List PatternTree) → AllByRecursion (PartBelow n) ps → PartBelow n (side_by_side_trees ps)
+beside_below n [] h = record { tree = tt; variables = tt }
+beside_below n (p ∷ ps) h =
+    let rest = beside_below n ps h.1 in
+    record { tree = (h.0.tree, rest.tree); variables = both_all (λ (v : LocalTree). TyVarsBelow n v.type) p.variables (side_by_side_trees ps).variables h.0.variables rest.variables }
+
+fields_below : (n : ℕ) (places : List ℕ) (ts : List Tree) (ms : List Matched) → AreBelow n ts → PartsBelow (n + taken (all_notes ms)) ms → MatchedBelow n (fields_piece places ts ms)
+fields_below n places ts ms h k =
+    let m = n + taken (all_notes ms) in
+    let all = put_all (PartBelow m) places (map tree_of_matched ms) (map wildcard_tree ts) (parts_are m ms k) (wildcards_below m ts (list_more ts n m (omega arith) h)) in
+    let whole = beside_below m (put_at_places places (map tree_of_matched ms) (map wildcard_tree ts)) all in
+    record { tree = whole.tree; variables = whole.variables }
+
+places_below : (n : ℕ) (places : List ℕ) (ts : List Tree) → AreBelow n ts → AreBelow n (place_types places ts)
+places_below n [] ts h = tt
+places_below n (p ∷ ps) ts h = (each (TyVarsBelow n) ts h p int_type tt, places_below n ps ts h)
 
 module _ (w : Where) (sc : IsScoped w) where
   constructed_below : (n i : ℕ) (t : Tree) (c : NumberedEntry) (parts : Matched) → TyVarsBelow n t → MatchedBelow (n + c.symbol.vars) parts → MatchedBelow n (constructed_by n i t c parts)
@@ -59,6 +100,14 @@ module _ (w : Where) (sc : IsScoped w) where
           tree = below_more inner.tree (n + taken inner.notes) m (omega (arith, l)) b.tree;
           variables = both_all (λ (v : LocalTree). TyVarsBelow m v.type) inner.variables (local x t ∷ []) (locals_more inner.variables (n + taken inner.notes) m (omega (arith, l)) b.variables) (below_more t n m (omega arith) h, tt);
         }
+    pattern_below (record_pattern i fs ps) first n t h =
+        let k = record_named w.symbols w.names fs in
+        let c = entry_of w.symbols (Some k) in
+        let places = places_named w.symbols w.names k fs in
+        let ts = part_types n c in
+        let ms = part_pieces w first (n + c.symbol.vars) (place_types places ts) ps in
+        let below = parameters_of n (Symbol' c) (symbol_scoped w sc (Some k)) in
+        constructed_below n i t c (fields_piece places ts ms) h (fields_below (n + c.symbol.vars) places ts ms below (parts_below ps first (n + c.symbol.vars) (place_types places ts) (places_below (n + c.symbol.vars) places ts below)))
 
     patterns_below : (ps : Patterns) (first : Option (List LocalTree)) (n : ℕ) (ts : List Tree) → AreBelow n ts → MatchedBelow n (patterns_piece w first n ts ps)
     patterns_below no_patterns first n ts h = record { tree = tt; variables = tt }
@@ -74,6 +123,18 @@ module _ (w : Where) (sc : IsScoped w) where
           tree = (below_more one.tree i m (omega (arith, l)) a.tree, below_more rest.tree (i + taken rest.notes) m (omega (arith, l)) b.tree);
           variables = both_all (λ (v : LocalTree). TyVarsBelow m v.type) one.variables rest.variables (locals_more one.variables i m (omega (arith, l)) a.variables) (locals_more rest.variables (i + taken rest.notes) m (omega (arith, l)) b.variables);
         }
+
+    parts_below : (ps : Patterns) (first : Option (List LocalTree)) (n : ℕ) (ts : List Tree) → AreBelow n ts → PartsBelow (n + taken (all_notes (part_pieces w first n ts ps))) (part_pieces w first n ts ps)
+    parts_below no_patterns first n ts h = tt
+    parts_below (more_patterns p ps) first n ts h =
+        let one = pattern_piece w first n (first_or_int ts) p in
+        let i = n + taken one.notes in
+        let rest = part_pieces w first i (rest_of ts) ps in
+        let a = pattern_below p first n (first_or_int ts) (first_below n ts h) in
+        let b = parts_below ps first i (rest_of ts) (list_more (rest_of ts) n i (omega arith) (rest_below n ts h)) in
+        let m = n + length (one.notes.takers ++ (all_notes rest).takers) in
+        let l : m ≡ i + taken (all_notes rest) = omega (arith, length-append one.notes.takers (all_notes rest).takers) in
+        (record { tree = below_more one.tree i m (omega (arith, l)) a.tree; variables = locals_more one.variables i m (omega (arith, l)) a.variables }, parts_more rest (i + taken (all_notes rest)) m (omega (arith, l)) b)
 
   -- the trees of alternatives
   abbrev pub TreesBelow : ℕ → List Matched → Type 0
@@ -126,6 +187,21 @@ module _ (w : Where) (sc : IsScoped w) where
   equality_below : (m : ℕ) (same : Bool) (a b : Tree) → TyVarsBelow m a × TyVarsBelow m b → TyVarsBelow m (equality same a b)
   equality_below m true a b h = h
   equality_below m false a b h = h
+
+  members_below : (n : ℕ) (e : Tree) → TyVarsBelow n e → AreBelow n (members e)
+  members_below n (Two HCell a b) h = (h.0, members_below n b h.1)
+  members_below n (Leaf k) h = tt
+  members_below n (One k a) h = tt
+  members_below n (Two _ a b) h = tt
+  members_below n (Three k a b c) h = tt
+
+  -- the values of a record
+  values_below : (n : ℕ) (places : List ℕ) (count : ℕ) (e : Tree) → TyVarsBelow n e → TyVarsBelow n (values_placed places count e)
+  values_below n places count e h = cells_below n (put_at_places places (members e) (replicate count (Leaf (HNum (pos 0))))) (put_all (TyVarsBelow n) places (members e) (replicate count (Leaf (HNum (pos 0)))) (members_below n e h) (numbers count))
+    where
+      numbers : (k : ℕ) → AreBelow n (replicate k (Leaf (HNum (pos 0))))
+      numbers zero = tt
+      numbers (suc k) = (tt, numbers k)
 
   -- ---- terms and formulas
   used_below : (n : ℕ) (t : Option Tree) (i : ℕ) (u : Use) (a : NotedTree) → UseBelow n u → IfSome t (TyVarsBelow n) → IsBelow (n + use_vars u) a → IsBelow n (used_piece n t i u a)
@@ -184,6 +260,17 @@ module _ (w : Where) (sc : IsScoped w) where
         let b = bounded e ls m (Some (first_or_int ts)) ns false (locals_more ls n m (omega arith) h) (first_below m ts (parameters_of n u ub)) (omega (arith, o)) p.0 in
         let z = m + length (only.notes.takers ++ []) in
         used_below n t i u (record { tree = Two HCell only.tree (Leaf HEnd); notes = follow only.notes no_notes }) ub k (below_more only.tree (unknown_after m only) z (omega (arith, length-append only.notes.takers [])) b, tt)
+    bounded (record_expression i fs es) ls n t ns due h k o f =
+        let p = none_both (fault_if due (WrongKind i)) (first_of (record_fault w true i (count_expressions es) fs) (faults w false ns es)) f in
+        let q = none_both (record_fault w true i (count_expressions es) fs) (faults w false ns es) p.1 in
+        let u = record_use w fs in
+        let ub = symbol_scoped w sc (Some (record_named w.symbols w.names fs)) in
+        let m = n + use_vars u in
+        let ts = parameters n u in
+        let pb = parameters_of n u ub in
+        let all = pieces w ls m (place_types (field_places w fs) ts) es in
+        let b = all_bounded es ls m (place_types (field_places w fs) ts) ns (locals_more ls n m (omega arith) h) (places_below m (field_places w fs) ts pb) (omega (arith, o)) q.1 in
+        used_below n t i u (record { tree = values_placed (field_places w fs) (length ts) all.tree; notes = all.notes }) ub k (values_below (unknown_after m all) (field_places w fs) (length ts) all.tree b)
     bounded (not_expression i e) ls n t ns due h k o f =
         let p = none_both (fault_if (not due) (WrongKind i)) (fault w false ns true e) f in
         bounded e ls n None ns true h tt o p.1

@@ -1,5 +1,5 @@
 -- Walks of branches: their parts, told of the whole.
-use Rattle.std.proofs.Common.{◌≡◌, ℕ, ◌+◌, ◌<◌, suc, slice_set, Bool, true, false, not, List, [], ◌∷◌, ◌++◌, map, reverse, length, get_or, Option, Some, None, option_map, inl, refl, sym, ap, subst, ◌∙◌, arith, append_assoc, append-nil}
+use Rattle.std.proofs.Common.{◌≡◌, ℕ, ◌+◌, ◌<◌, suc, slice_set, Bool, true, false, not, List, [], ◌∷◌, ◌++◌, map, reverse, replicate, length, get_or, Option, Some, None, option_map, inl, refl, sym, ap, subst, ◌∙◌, arith, append_assoc, append-nil}
 use Rattle.std.specs.List.{All}
 use Rattle.std.proofs.lemmas.List.{reverse-append}
 use Rattle.std.proofs.lemmas.List.Elements.{All-append, All-cons, All-nil}
@@ -18,18 +18,21 @@ use Rattle.name_resolution.specs.Abstract as abstract
 use Rattle.surface.specs.declared.patterns.Pat.{Pat}
 use Rattle.surface.specs.Surface as code
 use Rattle.name_resolution.proofs.Nodes.{patterns_are}
-use Rattle.name_resolution.specs.Abstract.{first_form, side_by_side, grouped_patterns, patterns_of, Patterns, wildcard_pattern, variable_pattern, constructor_pattern, tuple_pattern, alias_pattern, no_patterns, more_patterns, Alternatives, no_alternatives, more_alternatives, Expression, MatchBranches, match_expression, no_branches, more_branches, count_patterns}
-use Rattle.name_resolution.specs.declared.NamingFault.TheVariants.{WrongKind}
+use Rattle.name_resolution.specs.Abstract.{first_form, side_by_side, grouped_patterns, patterns_of, Patterns, wildcard_pattern, variable_pattern, constructor_pattern, tuple_pattern, alias_pattern, record_pattern, no_patterns, more_patterns, Alternatives, no_alternatives, more_alternatives, Expression, MatchBranches, match_expression, no_branches, more_branches, count_patterns}
+use Rattle.name_resolution.specs.declared.NamingFault.TheVariants.{WrongKind, Duplicate}
 use Rattle.name_resolution.specs.declared.world.World.{World}
-use Rattle.name_resolution.specs.Faults.{fault_if, fault, branches_fault, alternatives_fault, alternatives_names, pattern_names, patterns_names, first_pattern_fault, has_alternative}
+use Rattle.name_resolution.specs.Faults.{fault_if, fault, branches_fault, record_fault, constructor_fault, pattern_fault, patterns_fault, later_fault, alternatives_fault, alternatives_names, pattern_names, patterns_names, first_pattern_fault, has_alternative}
 use Rattle.name_resolution.specs.Naming.{where_at}
-use Rattle.name_resolution.specs.Where.{Where}
+use Rattle.name_resolution.specs.Records.{record_named, places_named}
+use Rattle.name_resolution.specs.Where.{Where, place_of}
+use Rattle.name_resolution.proofs.Fielded.{AreNewPlaces, is_fielded, places_count}
+use Rattle.name_resolution.proofs.SameNames.{occurrences, occurs_both, SameNames, same_names_self, same_both, same_reverse}
 use Rattle.open_types.specs.declared.draft.Constraints.{Constraints}
 use Rattle.open_types.specs.declared.locals.Local.{Local}
 use Rattle.open_types.specs.declared.locals.Locals.{Locals}
 use Rattle.open_types.specs.declared.patterns.BranchPatterns.{BranchPatterns}
 use Rattle.open_types.specs.declared.patterns.LaterPattern.{LaterPattern}
-use Rattle.open_types.specs.Patterns.{Notes, no_notes, noted, with_match, follow, taken, LocalTree, local, entry_of, Matched, pattern_piece, patterns_piece, part_types, first_or_int, rest_of, alternatives_pieces, later_pieces, first_variables, pattern_trees, places_among, arms, later_arms, reordered, cells_onto}
+use Rattle.open_types.specs.Patterns.{Notes, no_notes, noted, with_match, follow, taken, LocalTree, local, entry_of, Matched, pattern_piece, patterns_piece, part_types, at_unknowns, place_types, tree_of_matched, part_pieces, first_or_int, rest_of, alternatives_pieces, later_pieces, first_variables, pattern_trees, places_among, arms, later_arms, reordered, cells_onto}
 use Rattle.open_types.specs.Pieces.{NotedTree, unknown_after, piece, unknown, Arms, with_branch, branches_arms, names}
 use Rattle.open_types.specs.Drafts.{HoldsType, WorldHeld, HoldsPattern, LaterHeld, PatternsHeld, IsMade, IsNoted, IsMatched, IsWalked, IsSet, CanWalk, LocalsHeld, IsLater, AreLater, AreDraftedAlternatives, AreArms, later_at, later_of, later_arm, branch_trees, branch_arms, local_at, local_name, locals_at, names_of_locals, is_due, due}
 use Rattle.open_types.proofs.Growing.{held_grows, world_stays, locals_stay, locals_grow, each_stays, type_stays, wanted_stays}
@@ -38,27 +41,64 @@ use Rattle.open_types.proofs.Walking.{none_both, must_be, as_begun}
 use Rattle.open_types.proofs.Quantified.{local_names}
 use Rattle.open_types.proofs.Binding.{mapped_both}
 use Rattle.open_types.proofs.Arguments.{names_both}
+use Rattle.open_types.proofs.FieldNames.{bound_by, bound_beside, fields_bound}
+use Rattle.std.proofs.Math.ListN.{length-map}
+use Rattle.std.specs.Option.{is_some}
 use Rattle.tasks.proofs.Growth.{map_agree as map_same}
 
 -- ---- the names that patterns bind
 
+pub parts_count : (w : Where) (first : Option (List LocalTree)) (n : ℕ) (ts : List Tree) (ps : Patterns) → length (part_pieces w first n ts ps) ≡ count_patterns ps
+parts_count w first n ts no_patterns = refl
+parts_count w first n ts (more_patterns p ps) = ap suc (parts_count w first (n + taken (pattern_piece w first n (first_or_int ts) p).notes) (rest_of ts) ps)
+
 mutual
-  pub pattern_variables : (w : Where) (first : Option (List LocalTree)) (n : ℕ) (t : Tree) (p : abstract.Pattern) → names (pattern_piece w first n t p).variables ≡ pattern_names p
-  pattern_variables w first n t (wildcard_pattern i) = refl
-  pattern_variables w first n t (variable_pattern i x) = refl
-  pattern_variables w first n t (constructor_pattern i qs x ps) = let c = entry_of w.symbols (w.names qs x) in patterns_variables w first (n + c.symbol.vars) (part_types n c) ps
-  pattern_variables w first n t (tuple_pattern i ps) = let c = entry_of w.symbols (w.tuples (count_patterns ps)) in patterns_variables w first (n + c.symbol.vars) (part_types n c) ps
-  pattern_variables w first n t (alias_pattern p i x) = names_both (pattern_piece w first n t p).variables (local x t ∷ []) ∙ ap (λ (r : List Word). r ++ x ∷ []) (pattern_variables w first n t p)
+  pub pattern_variables : (w : Where) (first : Option (List LocalTree)) (n : ℕ) (t : Tree) (p : abstract.Pattern) (seen : List Word) → pattern_fault w seen p ≡ None → SameNames (names (pattern_piece w first n t p).variables) (pattern_names p)
+  pattern_variables w first n t (wildcard_pattern i) seen h = λ y. refl
+  pattern_variables w first n t (variable_pattern i x) seen h = λ y. refl
+  pattern_variables w first n t (constructor_pattern i qs x ps) seen h =
+      let c = entry_of w.symbols (w.names qs x) in
+      patterns_variables w first (n + c.symbol.vars) (part_types n c) ps seen (none_both (constructor_fault w i (count_patterns ps) (w.names qs x)) (patterns_fault w seen ps) h).1
+  pattern_variables w first n t (tuple_pattern i ps) seen h = let c = entry_of w.symbols (w.tuples (count_patterns ps)) in patterns_variables w first (n + c.symbol.vars) (part_types n c) ps seen h
+  pattern_variables w first n t (alias_pattern p i x) seen h =
+      let k = pattern_variables w first n t p seen (none_both (pattern_fault w seen p) (fault_if (is_some (place_of x (seen ++ pattern_names p))) (Duplicate i)) h).0 in
+      λ y. ap (occurrences y) (names_both (pattern_piece w first n t p).variables (local x t ∷ [])) ∙ same_both (names (pattern_piece w first n t p).variables) (x ∷ []) (pattern_names p) (x ∷ []) k (same_names_self (x ∷ [])) y
+  pattern_variables w first n t (record_pattern i fs ps) seen h =
+      let k = record_named w.symbols w.names fs in
+      let c = entry_of w.symbols (Some k) in
+      let q = none_both (record_fault w false i (count_patterns ps) fs) (patterns_fault w seen ps) h in
+      let f = is_fielded w false i (count_patterns ps) fs q.0 in
+      let places = places_named w.symbols w.names k fs in
+      let ts = part_types n c in
+      let ms = part_pieces w first (n + c.symbol.vars) (place_types places ts) ps in
+      let none : AreNewPlaces (replicate (length ts) false) places = subst (λ (j : ℕ). AreNewPlaces (replicate j false) places) (sym (length-map c.symbol.args (at_unknowns n c.symbol))) f.places in
+      let count : length places ≡ length (map tree_of_matched ms) = places_count w.symbols w.names k fs ∙ f.count ∙ sym (parts_count w first (n + c.symbol.vars) (place_types places ts) ps) ∙ sym (length-map ms tree_of_matched) in
+      λ y. fields_bound y places ts (map tree_of_matched ms) none count ∙ parts_variables w first (n + c.symbol.vars) (place_types places ts) ps seen q.1 y
 
-  patterns_variables : (w : Where) (first : Option (List LocalTree)) (n : ℕ) (ts : List Tree) (ps : Patterns) → names (patterns_piece w first n ts ps).variables ≡ patterns_names ps
-  patterns_variables w first n ts no_patterns = refl
-  patterns_variables w first n ts (more_patterns p ps) =
+  patterns_variables : (w : Where) (first : Option (List LocalTree)) (n : ℕ) (ts : List Tree) (ps : Patterns) (seen : List Word) → patterns_fault w seen ps ≡ None → SameNames (names (patterns_piece w first n ts ps).variables) (patterns_names ps)
+  patterns_variables w first n ts no_patterns seen h = λ y. refl
+  patterns_variables w first n ts (more_patterns p ps) seen h =
       let one = pattern_piece w first n (first_or_int ts) p in
-      names_both one.variables (patterns_piece w first (n + taken one.notes) (rest_of ts) ps).variables ∙ cc (pattern_variables w first n (first_or_int ts) p, patterns_variables w first (n + taken one.notes) (rest_of ts) ps)
+      let rest = patterns_piece w first (n + taken one.notes) (rest_of ts) ps in
+      let q = none_both (pattern_fault w seen p) (patterns_fault w (seen ++ pattern_names p) ps) h in
+      let a = pattern_variables w first n (first_or_int ts) p seen q.0 in
+      let b = patterns_variables w first (n + taken one.notes) (rest_of ts) ps (seen ++ pattern_names p) q.1 in
+      λ y. ap (occurrences y) (names_both one.variables rest.variables) ∙ same_both (names one.variables) (names rest.variables) (pattern_names p) (patterns_names ps) a b y
 
-pub first_names : (w : Where) (n : ℕ) (t : Tree) (ps : Alternatives) → names (first_variables (alternatives_pieces w n t ps)) ≡ alternatives_names ps
-first_names w n t no_alternatives = refl
-first_names w n t (more_alternatives i p ps) = pattern_variables w None n t p
+  parts_variables : (w : Where) (first : Option (List LocalTree)) (n : ℕ) (ts : List Tree) (ps : Patterns) (seen : List Word) → patterns_fault w seen ps ≡ None
+      → (y : Word) → bound_by y (map tree_of_matched (part_pieces w first n ts ps)) ≡ occurrences y (patterns_names ps)
+  parts_variables w first n ts no_patterns seen h y = refl
+  parts_variables w first n ts (more_patterns p ps) seen h y =
+      let one = pattern_piece w first n (first_or_int ts) p in
+      let rest = part_pieces w first (n + taken one.notes) (rest_of ts) ps in
+      let q = none_both (pattern_fault w seen p) (patterns_fault w (seen ++ pattern_names p) ps) h in
+      let a = pattern_variables w first n (first_or_int ts) p seen q.0 y in
+      let b = parts_variables w first (n + taken one.notes) (rest_of ts) ps (seen ++ pattern_names p) q.1 y in
+      bound_beside y (tree_of_matched one) (map tree_of_matched rest) ∙ cc (a, b) ∙ sym (occurs_both y (pattern_names p) (patterns_names ps))
+
+pub first_names : (w : Where) (n : ℕ) (t : Tree) (ps : Alternatives) → alternatives_fault w ps ≡ None → SameNames (names (first_variables (alternatives_pieces w n t ps))) (alternatives_names ps)
+first_names w n t no_alternatives h = λ y. refl
+first_names w n t (more_alternatives i p ps) h = pattern_variables w None n t p [] (none_both (pattern_fault w [] p) (later_fault w (pattern_names p) ps) h).0
 
 -- ---- no fault in a whole, none in its parts
 pub in_cases : (w : Where) (ls : List Word) (b : Bool) (i : ℕ) (is_let : Bool) (e : Expression) (bs : MatchBranches) → fault w false ls b (match_expression i is_let e bs) ≡ None → (fault w false ls false e ≡ None) × (has_alternative bs ≡ true) × (branches_fault w false ls b bs ≡ None)
@@ -72,6 +112,9 @@ pub in_branches : (w : Where) (ls : List Word) (b : Bool) (ps : Alternatives) (e
 in_branches w ls b ps e bs h =
     let p = none_both (alternatives_fault w ps) _ h in
     none_both (fault w false (reverse (alternatives_names ps) ++ ls) b e) _ p.1
+
+pub in_alternatives : (w : Where) (ls : List Word) (b : Bool) (ps : Alternatives) (e : Expression) (bs : MatchBranches) → branches_fault w false ls b (more_branches ps e bs) ≡ None → alternatives_fault w ps ≡ None
+in_alternatives w ls b ps e bs h = (none_both (alternatives_fault w ps) _ h).0
 
 -- ---- lists of arms
 pub onto_cells : (xs ys : List Tree) (e : Tree) → e ≡ cells ys → cells_onto xs e ≡ cells (xs ++ ys)
@@ -275,10 +318,11 @@ no_arms {k} {s} {s1} {d} ids {id} g h m = record {
 -- under the variables of the first alternative
 module _ {s s1 : List Tree} {d d1 : Constraints} {w : World} {ls : Locals} {vs : List Local} {b : BranchPatterns} (n : ℕ) (t : Tree) (ps : Alternatives) (set : IsSet s d w ls) (g : Grows s s1)
     (a : AreDraftedAlternatives (alternatives_pieces (where_at s w) n t ps) s d s1 d1 vs b) where
-  pub branch_names : reverse (map local_name vs) ++ names_of_locals ls ≡ reverse (alternatives_names ps) ++ names_of_locals ls
-  branch_names =
-      let e : map local_name vs ≡ alternatives_names ps = sym (local_names s1 vs) ∙ ap names a.locals ∙ first_names (where_at s w) n t ps in
-      ap (λ (r : List Word). reverse r ++ names_of_locals ls) e
+  pub branch_names : alternatives_fault (where_at s w) ps ≡ None → SameNames (reverse (map local_name vs) ++ names_of_locals ls) (reverse (alternatives_names ps) ++ names_of_locals ls)
+  branch_names h =
+      let e : map local_name vs ≡ names (first_variables (alternatives_pieces (where_at s w) n t ps)) = sym (local_names s1 vs) ∙ ap names a.locals in
+      let same : SameNames (map local_name vs) (alternatives_names ps) = λ y. ap (occurrences y) e ∙ first_names (where_at s w) n t ps h y in
+      same_both (reverse (map local_name vs)) (names_of_locals ls) (reverse (alternatives_names ps)) (names_of_locals ls) (same_reverse (map local_name vs) (alternatives_names ps) same) (same_names_self (names_of_locals ls))
 
   pub branch_held : All (λ (l : Local). HoldsType s1 l.ty) vs × LocalsHeld s1 ls
   branch_held = (a.held, locals_grow s s1 g ls set.locals)

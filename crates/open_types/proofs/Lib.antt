@@ -1,4 +1,5 @@
 pub mod Growing
+pub mod Held
 pub mod Noting
 pub mod Taking
 pub mod Binding
@@ -13,7 +14,9 @@ pub mod Firsts
 pub mod PatternSizes
 pub mod Applying
 pub mod Quantified
+pub mod FieldNames
 pub mod Branching
+pub mod Fielding
 pub mod Rows
 pub mod Below
 pub mod Bounded

@@ -58,8 +58,8 @@ one_bound {s} ls l h k n = record { held = held_more s s (Grows_refl s) ls l h k
 pub bound_grows : {s s1 s2 : List Tree} {d d1 : Constraints} {ls ls1 : List Local} {n : Notes} {xs : List LocalTree} → AreBound s d ls s1 d1 ls1 n xs → Grows s1 s2 → AreBound s d ls s2 d1 ls1 n xs
 bound_grows {s1 = s1} {s2 = s2} {ls1 = ls1} a g = record { held = each_grows s1 s2 g ls1 a.held; locals = each_stays s1 s2 g ls1 a.held ∙ a.locals; noted = noted_before a.noted g }
 
-pub bound_behind : {s s1 s2 : List Tree} {d d1 : Constraints} {ls ls1 : List Local} {n : Notes} {xs : List LocalTree} → Grows s s1 → IsReady s d → All (λ (l : Local). HoldsType s l.ty) ls → AreBound s1 d ls s2 d1 ls1 n xs → AreBound s d ls s2 d1 ls1 n xs
-bound_behind {s} {s1} {ls = ls} {xs = xs} g r h a = record { held = a.held; locals = a.locals ∙ ap (λ (ys : List LocalTree). ys ++ xs) (each_stays s s1 g ls h); noted = noted_after g r a.noted }
+pub bound_following : {s s1 s2 : List Tree} {d d1 : Constraints} {ls ls1 : List Local} {n : Notes} {xs : List LocalTree} → Grows s s1 → IsReady s d → All (λ (l : Local). HoldsType s l.ty) ls → AreBound s1 d ls s2 d1 ls1 n xs → AreBound s d ls s2 d1 ls1 n xs
+bound_following {s} {s1} {ls = ls} {xs = xs} g r h a = record { held = a.held; locals = a.locals ∙ ap (λ (ys : List LocalTree). ys ++ xs) (each_stays s s1 g ls h); noted = noted_after g r a.noted }
 
 -- ---- what a further walk asks for
 pub match_on : {s : List Tree} {d : Constraints} {w : World} {ls : List Local} {ty : TermId} {a : Alternative} → CanMatch s d w ls ty a
@@ -140,7 +140,7 @@ constructor_matched {s} {d} {w} {ls} {ty} {a} {token} ps can {s1} {s2} {s3} {s4}
     let inside : tree_at s4 x ≡ tree_at s3 x = tree_at-grows s3 s4 x l inner.held in
     let own : tree_at s4 ty ≡ t = type_stays s s4 (Grows_trans s s2 s4 o (Grows_trans s2 s3 s4 j l)) ty can.wanted in
     let begun : AreBound s d ls s1 d1 ls _ [] = none_bound ls g can.held b.noted in
-    let whole = more_bound begun (bound_behind h b.noted.ready begun.held inner.bound) in
+    let whole = more_bound begun (bound_following h b.noted.ready begun.held inner.bound) in
     let entry : one ≡ c = (let f : one ≡ entry_of ww.symbols (Some k) = cc y in f) ∙ z in
     let it : IsMatched (constructor_piece ww first n t token one ps) s d ls s5 d3 ls3 id = record {
       held = m.held;

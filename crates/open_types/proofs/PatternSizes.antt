@@ -1,12 +1,13 @@
 -- The number of patterns in a pattern, itself counted.
-use Rattle.std.proofs.Common.{◌≡◌, ℕ, ◌+◌, ◌≤◌, suc, List, [], ◌∷◌, length, get_or, refl, ap, ◌∙◌, arith}
+use Rattle.std.proofs.Common.{◌≡◌, ℕ, ◌+◌, ◌≤◌, suc, Bool, List, [], ◌∷◌, map, length, get_or, refl, ap, ◌∙◌, arith}
 use Rattle.surface.specs.declared.names.Name.{Name}
 use Rattle.surface.specs.declared.names.QName.{QName}
+use Rattle.surface.specs.declared.patterns.FieldPat.{FieldPat}
 use Rattle.surface.specs.declared.patterns.Pat.{Pat}
 use Rattle.surface.specs.declared.patterns.PatNode.TheVariants as pv
-use Rattle.surface.specs.Forms.{SyntaxForm, SyntaxForms, wild, variable, type_variable, composed, enclosed, aliased, no_forms, more_forms}
+use Rattle.surface.specs.Forms.{SyntaxForm, SyntaxForms, wild, variable, type_variable, composed, enclosed, aliased, fielded_form, no_forms, more_forms}
 use Rattle.surface.specs.Surface as code
-use Rattle.surface.proofs.TreeLemmas.{pattern_is, pattern_of_node-Con, pattern_of_node-Group, pattern_of_node-Alias}
+use Rattle.surface.proofs.TreeLemmas.{pattern_is, pattern_of_node-Con, pattern_of_node-Group, pattern_of_node-Alias, pattern_of_node-Fields, form_part_of-fields}
 
 abbrev mutual
   pub form_size : SyntaxForm → ℕ
@@ -16,6 +17,7 @@ abbrev mutual
   form_size (composed a c fs) = suc (forms_size fs)
   form_size (enclosed a fs) = suc (forms_size fs)
   form_size (aliased a f n) = suc (form_size f)
+  form_size (fielded_form a cs fs semi) = suc (forms_size fs)
 
   pub forms_size : SyntaxForms → ℕ
   forms_size no_forms = 0
@@ -35,6 +37,7 @@ some_pattern (type_variable a w) = omega arith
 some_pattern (composed a c fs) = omega arith
 some_pattern (enclosed a fs) = omega arith
 some_pattern (aliased a f n) = omega arith
+some_pattern (fielded_form a cs fs semi) = omega arith
 
 sizes_are : (ps : List Pat) → forms_size (code.patterns ps) ≡ patterns_size ps
 sizes_are [] = refl
@@ -48,6 +51,22 @@ pattern_size-Group p ps is = ap form_size (pattern_is p (pv.Group ps) is ∙ pat
 
 pub pattern_size-Alias : (p a : Pat) (n : Name) → p.node ≡ pv.Alias a n → pattern_size p ≡ suc (pattern_size a)
 pattern_size-Alias p a n is = ap form_size (pattern_is p (pv.Alias a n) is ∙ pattern_of_node-Alias a n p.at)
+
+-- the patterns of fields
+abbrev pub fields_size : List FieldPat → ℕ
+fields_size [] = 0
+fields_size (f ∷ fs) = pattern_size f.value + fields_size fs
+
+fields_are : (fs : List FieldPat) → forms_size (code.form_values (map code.form_part_of fs)) ≡ fields_size fs
+fields_are [] = refl
+fields_are (f ∷ fs) =
+    ap (λ (x : code.FormPart). form_size x.form + forms_size (code.form_values (map code.form_part_of fs))) (form_part_of-fields f) ∙ ap (λ (n : ℕ). pattern_size f.value + n) (fields_are fs)
+
+pub pattern_size-Fields : (p : Pat) (fs : List FieldPat) (semi : Bool) → p.node ≡ pv.Fields fs semi → pattern_size p ≡ suc (fields_size fs)
+pattern_size-Fields p fs semi is = ap form_size (pattern_is p (pv.Fields fs semi) is ∙ pattern_of_node-Fields fs semi p.at) ∙ ap suc (fields_are fs)
+
+pub fields_split : (fs gs : List FieldPat) (f : FieldPat) → fs ≡ f ∷ gs → fields_size fs ≡ pattern_size f.value + fields_size gs
+fields_split fs gs f e = ap fields_size e
 
 -- one alone counts as itself
 pub first_pattern : (ps : List Pat) (d : Pat) → length ps ≡ 1 → pattern_size (get_or ps 0 d) ≡ patterns_size ps

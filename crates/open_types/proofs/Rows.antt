@@ -1,16 +1,16 @@
 -- The definitions on small sources: by computation alone.
 use Rattle.std.proofs.Common.{◌≡◌, ℕ, zero, suc, pos, true, false, List, [], ◌∷◌, Option, Some, None, refl, codes}
-use Rattle.trees.specs.Tree.{Tree, Leaf, One, Two, Three, HTyVar, HTyApp, HEnd, HBound, HFun, HEq, HForall, HLet, HPatVar}
+use Rattle.trees.specs.Tree.{Tree, Leaf, One, Two, Three, HTyVar, HTyApp, HEnd, HBound, HFun, HEq, HForall, HLet, HPatAny, HPatVar, HPatCon}
 use Rattle.trees.specs.Sorts.{int_type}
 use Rattle.tasks.specs.declared.signature.SymbolKind.{SymbolKind}
 use Rattle.tasks.specs.declared.signature.SymbolKind.TheVariants.{Kind, Function, Predicate, Constructor, Projection}
 use Rattle.tasks.specs.Task.{SymbolTree, int_symbol}
 use Rattle.tasks.specs.Equations.{cells}
 use Rattle.surface.specs.Lexeme.{Word}
-use Rattle.name_resolution.specs.Abstract.{composed_type, no_types, more_types, Pattern, variable_pattern, tuple_pattern, no_patterns, more_patterns, no_alternatives, more_alternatives, Expression, applied_expression, infix_expression, integer_expression, true_expression, tuple_expression, field_expression, equality_expression, let_expression, match_expression, quantified_expression, no_expressions, more_expressions, no_branches, more_branches}
+use Rattle.name_resolution.specs.Abstract.{FieldName, composed_type, no_types, more_types, Pattern, variable_pattern, tuple_pattern, record_pattern, Patterns, no_patterns, more_patterns, no_alternatives, more_alternatives, Expression, applied_expression, infix_expression, integer_expression, true_expression, tuple_expression, field_expression, record_expression, equality_expression, let_expression, match_expression, quantified_expression, no_expressions, more_expressions, no_branches, more_branches}
 use Rattle.name_resolution.specs.Where.{Where}
 use Rattle.scopes.specs.declared.Referent.TheVariants as stands
-use Rattle.open_types.specs.Patterns.{local, alternatives_pieces, all_notes, reordered}
+use Rattle.open_types.specs.Patterns.{local, Matched, pattern_piece, alternatives_pieces, all_notes, reordered}
 use Rattle.open_types.specs.Pieces.{NotedTree, piece, type_at}
 use Rattle.name_resolution.proofs.Rows.{called}
 
@@ -33,16 +33,22 @@ abbrev pair_at : ℕ → Option ℕ
 pair_at (suc (suc zero)) = Some 9
 pair_at n = None
 
--- `int`, a type `t`, constants `c` and `d` of it, `+`, a type `list` with `Nil`, a predicate `p` of one argument, pairs, and a field `head` of a list
+abbrev record_at : Tree → Tree
+record_at a = One (HTyApp 11) (cells (a ∷ []))
+
+-- `int`, a type `t`, constants `c` and `d` of it, `+`, a type `list` with `Nil`, a predicate `p` of one argument, pairs, a field `head` of a list, and
+-- `type r 'a = {a: 'a; b: t}`
 abbrev here : Where
 here = record {
   symbols = int_symbol ∷ entry (codes "t") Kind 0 [] None ∷ entry (codes "c") Function 0 [] (Some t_type) ∷ entry (codes "d") Function 0 [] (Some t_type)
       ∷ entry (codes "+") Function 0 (int_type ∷ int_type ∷ []) (Some int_type) ∷ entry (codes "list") Kind 1 [] None
       ∷ entry (codes "Nil") Constructor 1 [] (Some (list_of (unknown 0))) ∷ entry (codes "p") Predicate 0 (t_type ∷ []) None
       ∷ entry (codes "tuple2") Kind 2 [] None ∷ entry (codes "Tuple2") Constructor 2 (unknown 0 ∷ unknown 1 ∷ []) (Some (pair_of (unknown 0) (unknown 1)))
-      ∷ entry (codes "head") Projection 1 (list_of (unknown 0) ∷ []) (Some (unknown 0)) ∷ [];
+      ∷ entry (codes "head") Projection 1 (list_of (unknown 0) ∷ []) (Some (unknown 0))
+      ∷ entry (codes "r") Kind 1 [] None ∷ entry (codes "mk_r") Constructor 1 (unknown 0 ∷ t_type ∷ []) (Some (record_at (unknown 0)))
+      ∷ entry (codes "a") Projection 1 (record_at (unknown 0) ∷ []) (Some (unknown 0)) ∷ entry (codes "b") Projection 1 (record_at (unknown 0) ∷ []) (Some t_type) ∷ [];
   types = called ((codes "pair", stands.Alias 1 (list_of (list_of (unknown 0)))) ∷ (codes "t", stands.Entry 1) ∷ []);
-  names = called ((codes "c", 2) ∷ (codes "d", 3) ∷ (codes "+", 4) ∷ (codes "Nil", 6) ∷ (codes "p", 7) ∷ (codes "head", 10) ∷ []);
+  names = called ((codes "c", 2) ∷ (codes "d", 3) ∷ (codes "+", 4) ∷ (codes "Nil", 6) ∷ (codes "p", 7) ∷ (codes "head", 10) ∷ (codes "a", 13) ∷ (codes "b", 14) ∷ []);
   tuples = pair_at;
   vars = [];
 }
@@ -87,6 +93,35 @@ field_tree = refl
 
 field_equations : head_of_nil.notes.equations ≡ (unknown 1, unknown 0) ∷ (list_of (unknown 2), list_of (unknown 1)) ∷ []
 field_equations = refl
+
+-- `{b = c; a = d}`, of which a type is wanted: the equations are in the written order, the values in that of the fields
+abbrev fields : List Word → List FieldName
+fields [] = []
+fields (x ∷ xs) = record { at = 0; scopes = []; text = x } ∷ fields xs
+
+abbrev constant : ℕ → Tree → Tree
+constant k t = Three (HFun k) (Leaf HEnd) (Leaf HEnd) t
+
+abbrev record_of_two : NotedTree
+record_of_two = piece here [] 1 (Some (unknown 0)) (record_expression 0 (fields (codes "b" ∷ codes "a" ∷ [])) (more_expressions (name 3 (codes "c")) (more_expressions (name 7 (codes "d")) no_expressions)))
+
+record_tree : record_of_two.tree ≡ Three (HFun 12) (cells (unknown 1 ∷ [])) (cells (constant 3 (unknown 1) ∷ constant 2 t_type ∷ [])) (unknown 0)
+record_tree = refl
+
+record_equations : record_of_two.notes.equations ≡ (record_at (unknown 1), unknown 0) ∷ (t_type, t_type) ∷ (t_type, unknown 1) ∷ []
+record_equations = refl
+
+-- `{b = x}` and `{b = x; a = y}`: a field that isn't named is a wildcard, and the variables are in the order of the fields
+abbrev record_of_patterns : List Word → Patterns → Matched
+record_of_patterns xs ps = pattern_piece here None 1 (unknown 0) (record_pattern 0 (fields xs) ps)
+
+one_field : (record_of_patterns (codes "b" ∷ []) (more_patterns (variable_pattern 3 (codes "x")) no_patterns)).tree
+    ≡ Three (HPatCon 12) (cells (unknown 1 ∷ [])) (cells (One HPatAny (unknown 1) ∷ One HPatVar t_type ∷ [])) (unknown 0)
+one_field = refl
+
+two_fields : (record_of_patterns (codes "b" ∷ codes "a" ∷ []) (more_patterns (variable_pattern 3 (codes "x")) (more_patterns (variable_pattern 7 (codes "y")) no_patterns))).variables
+    ≡ local (codes "y") (unknown 1) ∷ local (codes "x") t_type ∷ []
+two_fields = refl
 
 -- an alias's type at its argument
 alias_type : type_at here (composed_type 0 [] (codes "pair") (more_types (composed_type 1 [] (codes "t") no_types) no_types)) ≡ list_of (list_of t_type)

@@ -7,12 +7,13 @@ use Rattle.surface.specs.declared.patterns.Pat.{Pat}
 use Rattle.surface.specs.declared.expressions.BinderTree.{BinderTree}
 use Rattle.surface.specs.declared.expressions.BranchTree.{BranchTree}
 use Rattle.surface.specs.declared.expressions.Expr.{Expr}
+use Rattle.surface.specs.declared.expressions.FieldValue.{FieldValue}
 use Rattle.surface.specs.declared.expressions.TriggerTree.{TriggerTree, out-TriggerTree}
 use Rattle.surface.specs.declared.expressions.ExprNode.TheVariants as ev
 use Rattle.surface.specs.Surface as code
-use Rattle.surface.specs.Trees.{SyntaxTree, apply, literal, truth, falsity, group, cast, access, prefixed, negation, binary, choice, cases, binding, quantified}
-use Rattle.surface.proofs.TreeLemmas.{tree_is, tree_of_node-Apply, tree_of_node-Group, tree_of_node-Cast, tree_of_node-Dot, tree_of_node-Prefix, tree_of_node-Not, tree_of_node-Binary, tree_of_node-If, tree_of_node-Let, tree_of_node-Match, tree_of_node-Quant, arm_of-fields, terms_of-fields}
-use Rattle.open_types.specs.Sizes.{source_size, sizes, branch_sizes, size_of, sizes_of, branches_size, triggers_size}
+use Rattle.surface.specs.Trees.{SyntaxTree, apply, literal, truth, falsity, group, cast, access, fielded_tree, prefixed, negation, binary, choice, cases, binding, quantified}
+use Rattle.surface.proofs.TreeLemmas.{tree_is, tree_of_node-Apply, tree_of_node-Group, tree_of_node-Cast, tree_of_node-Dot, tree_of_node-Fields, tree_part_of-fields, tree_of_node-Prefix, tree_of_node-Not, tree_of_node-Binary, tree_of_node-If, tree_of_node-Let, tree_of_node-Match, tree_of_node-Quant, arm_of-fields, terms_of-fields}
+use Rattle.open_types.specs.Sizes.{source_size, sizes, branch_sizes, size_of, sizes_of, values_size, branches_size, triggers_size}
 
 -- each expression counts
 pub some_size : (e : SyntaxTree) → 1 ≤ source_size e
@@ -23,6 +24,7 @@ some_size (falsity a) = omega arith
 some_size (group a es) = omega arith
 some_size (cast a e f) = omega arith
 some_size (access a e c) = omega arith
+some_size (fielded_tree a cs es semi) = omega arith
 some_size (prefixed a o e) = omega arith
 some_size (negation a e) = omega arith
 some_size (binary a e o f) = omega arith
@@ -49,6 +51,14 @@ size_at-Prefix e o a is = ap source_size (tree_is e (ev.Prefix o a) is ∙ tree_
 
 pub size_at-Dot : (e : Expr) (a : Expr) (q : QName) → e.node ≡ ev.Dot a q → size_of e ≡ suc (size_of a)
 size_at-Dot e a q is = ap source_size (tree_is e (ev.Dot a q) is ∙ tree_of_node-Dot a q e.at)
+
+values_are : (fs : List FieldValue) → sizes (code.tree_values (map code.tree_part_of fs)) ≡ values_size fs
+values_are [] = refl
+values_are (f ∷ fs) =
+    ap (λ (x : code.TreePart). source_size x.tree + sizes (code.tree_values (map code.tree_part_of fs))) (tree_part_of-fields f) ∙ ap (λ (n : ℕ). size_of f.value + n) (values_are fs)
+
+pub size_at-Fields : (e : Expr) (fs : List FieldValue) (semi : Bool) → e.node ≡ ev.Fields fs semi → size_of e ≡ suc (values_size fs)
+size_at-Fields e fs semi is = ap source_size (tree_is e (ev.Fields fs semi) is ∙ tree_of_node-Fields fs semi e.at) ∙ ap suc (values_are fs)
 
 pub size_at-Not : (e : Expr) (a : Expr) → e.node ≡ ev.Not a → size_of e ≡ suc (size_of a)
 size_at-Not e a is = ap source_size (tree_is e (ev.Not a) is ∙ tree_of_node-Not a e.at)

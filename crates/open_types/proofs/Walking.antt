@@ -4,7 +4,7 @@ use Rattle.std.specs.List.{All}
 use Rattle.std.proofs.lemmas.List.Elements.{All-cons, All-nil}
 use Rattle.trees.specs.declared.TermId.{TermId}
 use Rattle.trees.specs.declared.Sort.{Sort}
-use Rattle.trees.specs.declared.Sort.TheVariants.{Kind, Term, Formula}
+use Rattle.trees.specs.declared.Sort.TheVariants.{Term, Formula}
 use Rattle.trees.specs.declared.Sort.TheVariants as sorts
 use Rattle.trees.specs.declared.Op.{Op}
 use Rattle.trees.specs.Tree.{Tree, Two, Three, Head, HIf, HLet, HEnd, HCell, HArm, head_of}
@@ -12,11 +12,11 @@ use Rattle.trees.specs.Node.{tree_at, Holds, Grows}
 use Rattle.trees.specs.Sorts.{Fits, sort_of, yield, top_sort, IsExpression}
 use Rattle.trees.proofs.Nodes.{tree_at-grows, Grows_trans}
 use Rattle.surface.specs.Lexeme.{Word}
-use Rattle.name_resolution.specs.Abstract.{TypeExpression, Expression, Expressions, applied_expression, infix_expression, cast_expression, field_expression, not_expression, connected_expression, equality_expression, if_expression, let_expression, tuple_expression, no_expressions, more_expressions}
+use Rattle.name_resolution.specs.Abstract.{FieldName, TypeExpression, Expression, Expressions, applied_expression, infix_expression, cast_expression, field_expression, record_expression, not_expression, connected_expression, equality_expression, if_expression, let_expression, tuple_expression, no_expressions, more_expressions, count_expressions}
 use Rattle.name_resolution.specs.declared.NamingFault.{NamingFault}
 use Rattle.name_resolution.specs.declared.NamingFault.TheVariants.{WrongKind}
 use Rattle.name_resolution.specs.declared.world.World.{World}
-use Rattle.name_resolution.specs.Faults.{fault, faults, form_fault, first_of, fault_if, name_fault}
+use Rattle.name_resolution.specs.Faults.{fault, faults, form_fault, first_of, fault_if, name_fault, record_fault}
 use Rattle.name_resolution.specs.Naming.{where_at}
 use Rattle.name_resolution.specs.Where.{Where}
 use Rattle.open_types.specs.declared.locals.Local.{Local}
@@ -29,14 +29,8 @@ use Rattle.open_types.proofs.Growing.{world_stays, world_grows, locals_stay, loc
 use Rattle.open_types.proofs.Noting.{more_noted, follow_nothing}
 pub use Rattle.name_resolution.proofs.variables.Closing.{both_none}
 pub use Rattle.name_resolution.proofs.variables.Closing.{none_both}
-
-pub not_if : (b : Bool) (f : NamingFault) → fault_if b f ≡ None → b ≡ false
-not_if true f h = absurd (cc)
-not_if false f h = refl
-
-pub not_not : (b : Bool) → not b ≡ false → b ≡ true
-not_not true h = refl
-not_not false h = absurd (cc)
+pub use Rattle.name_resolution.proofs.Fielded.{not_false as not_not}
+pub use Rattle.name_resolution.proofs.Fielded.{not_at_fault as not_if}
 
 pub must_be : (b : Bool) (f : NamingFault) → fault_if (not b) f ≡ None → b ≡ true
 must_be b f h = not_not b (not_if (not b) f h)
@@ -178,6 +172,13 @@ module _ (w : Where) (o : Bool) (ls : List Word) (b : Bool) (i : ℕ) where
 
   pub in_tuple : (es : Expressions) → fault w o ls b (tuple_expression i es) ≡ None → (b ≡ false) × (faults w o ls es ≡ None)
   in_tuple es h = let p = none_both (fault_if b (WrongKind i)) _ h in (not_if b _ p.0, p.1)
+
+  -- the fields of a record
+  pub in_record : (fs : List FieldName) (es : Expressions) → fault w o ls b (record_expression i fs es) ≡ None → (b ≡ false) × (record_fault w true i (count_expressions es) fs ≡ None) × (faults w o ls es ≡ None)
+  in_record fs es h =
+      let p = none_both (fault_if b (WrongKind i)) (first_of (record_fault w true i (count_expressions es) fs) (faults w o ls es)) h in
+      let q = none_both (record_fault w true i (count_expressions es) fs) (faults w o ls es) p.1 in
+      (not_if b (WrongKind i) p.0, q.0, q.1)
 
   -- a field's term is the one operand of its function
   pub in_field : (e : Expression) (k : ℕ) (qs : List Word) (v : Word) → fault w o ls b (field_expression i e k qs v) ≡ None → faults w o ls (more_expressions e no_expressions) ≡ None

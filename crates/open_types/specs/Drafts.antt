@@ -18,7 +18,7 @@ use Rattle.scopes.specs.Names.{TypeName}
 use Rattle.scopes.specs.declared.Referent.TheVariants as stands
 use Rattle.surface.specs.Lexeme.{Word}
 use Rattle.name_resolution.specs.declared.world.World.{World}
-use Rattle.name_resolution.specs.Abstract.{Expression, Expressions, MatchBranches, no_expressions, more_expressions, expression_of, expressions_of}
+use Rattle.name_resolution.specs.Abstract.{Expression, Expressions, MatchBranches, no_expressions, more_expressions, expression_of, expressions_of, field_values_of}
 use Rattle.name_resolution.specs.Faults.{fault, faults, triggers_fault, branches_fault}
 use Rattle.name_resolution.specs.Naming.{where_at, type_named}
 use Rattle.open_types.specs.declared.draft.Constraints.{Constraints}
@@ -26,14 +26,16 @@ use Rattle.open_types.specs.declared.draft.MatchAt.{MatchAt}
 use Rattle.open_types.specs.declared.locals.Local.{Local}
 use Rattle.open_types.specs.declared.locals.Locals.{Locals, Outside, Inside'}
 use Rattle.open_types.specs.declared.operands.Operands.{Operands}
-use Rattle.open_types.specs.declared.operands.Operands.TheVariants.{Many, One, Two}
+use Rattle.open_types.specs.declared.operands.Operands.TheVariants.{Many, One, Two, Values}
 use Rattle.open_types.specs.declared.patterns.Alternative.{Alternative}
 use Rattle.open_types.specs.declared.patterns.Alternative.TheVariants.{First, Later}
 use Rattle.open_types.specs.declared.patterns.LaterPattern.{LaterPattern}
+use Rattle.open_types.specs.declared.patterns.Part.{Part}
 use Rattle.open_types.specs.declared.patterns.BranchPatterns.{BranchPatterns}
-use Rattle.open_types.specs.Patterns.{Notes, Matched, arms, pattern_trees, first_variables, all_notes, places_among, reordering, noted, follow, LocalTree, at_unknowns, result_or_int}
+use Rattle.name_resolution.specs.Records.{put_at_places}
+use Rattle.open_types.specs.Patterns.{Notes, no_notes, Matched, PatternTree, pattern_tree, tree_of_matched, arms, pattern_trees, first_variables, all_notes, places_among, reordering, noted, follow, LocalTree, at_unknowns, result_or_int}
 use Rattle.open_types.specs.Pieces.{NotedTree, Arms, wanting}
-use Rattle.open_types.specs.Sizes.{sizes_of}
+use Rattle.open_types.specs.Sizes.{sizes_of, values_size}
 
 -- the number is held, of a type
 pub record HoldsType (s : List Tree) (id : TermId) : Type 0 where
@@ -87,11 +89,13 @@ operands_at (Many es) = expressions_of es.now
 operands_at (One e) = more_expressions (expression_of e.now) no_expressions
 operands_at (Two a b) =
     more_expressions (expression_of a.now) (more_expressions (expression_of b.now) no_expressions)
+operands_at (Values fs) = field_values_of fs.now
 
 abbrev pub operands_size : Operands → ℕ
 operands_size (Many es) = sizes_of es.now
 operands_size (One e) = sizes_of (e.now ∷ [])
 operands_size (Two a b) = sizes_of (a.now ∷ b.now ∷ [])
+operands_size (Values fs) = values_size fs.now
 
 -- ---- drafts
 abbrev pub match_at : List Tree → MatchAt → ℕ × List Tree
@@ -182,13 +186,51 @@ pub record IsMatched (m : Matched) (s : List Tree) (d : Constraints) (ls : List 
   pub sort : sort_of (tree_at s' id) ≡ Pattern
   pub bound : AreBound s d ls s' d' ls' m.notes m.variables
 
--- the same of patterns side by side
+-- the number of the list of the patterns' trees; their notes and variables after those that were
+-- there
 pub record AreMatched (m : Matched) (s : List Tree) (d : Constraints) (ls : List Local)
     (s' : List Tree) (d' : Constraints) (ls' : List Local) (id : TermId) : Type 0 where
   pub held : Holds s' id
   pub tree : tree_at s' id ≡ m.tree
   pub patterns : IsList Pattern (tree_at s' id)
   pub bound : AreBound s d ls s' d' ls' m.notes m.variables
+
+-- ---- the parts of a record
+pub record HoldsPattern (s : List Tree) (id : TermId) : Type 0 where
+  pub held : Holds s id
+  pub sort : sort_of (tree_at s id) ≡ Pattern
+
+abbrev pub part_at : List Tree → Part → PatternTree
+part_at s p = pattern_tree (tree_at s p.pattern) (map (local_at s) p.variables)
+
+pub record PartHeld (s : List Tree) (p : Part) : Type 0 where
+  pub pattern : HoldsPattern s p.pattern
+  pub variables : All (λ (l : Local). HoldsType s l.ty) p.variables
+
+-- what a walk of the fields of a record asks for
+pub record CanMatchFields (s : List Tree) (d : Constraints) (w : World) (parts : List Part)
+    (ts : List TermId) (a : Alternative) : Type 0 where
+  pub world : WorldHeld s w
+  pub ready : IsReady s d
+  pub held : All (PartHeld s) parts
+  pub wanted : All (HoldsType s) ts
+  pub earlier : EarlierHeld s a
+
+-- patterns at their places among parts
+pub record ArePut (places : List ℕ) (ms : List Matched) (s : List Tree) (d : Constraints)
+    (parts : List Part) (s' : List Tree) (d' : Constraints) (parts' : List Part) : Type 0 where
+  pub held : All (PartHeld s') parts'
+  pub trees : map (part_at s') parts'
+      ≡ put_at_places places (map tree_of_matched ms) (map (part_at s) parts)
+  pub noted : IsNoted s d s' d' (all_notes ms)
+
+-- the number of their list, and their variables after those that were there
+pub record ArePartsJoined (p : PatternTree) (s : List Tree) (d : Constraints) (ls : List Local)
+    (s' : List Tree) (ls' : List Local) (id : TermId) : Type 0 where
+  pub held : Holds s' id
+  pub tree : tree_at s' id ≡ p.tree
+  pub patterns : IsList Pattern (tree_at s' id)
+  pub bound : AreBound s d ls s' d ls' no_notes p.variables
 
 -- a later alternative's pattern, and where the first one's variables are in it
 abbrev pub later_at : List Tree → LaterPattern → Tree × List ℕ
@@ -200,10 +242,6 @@ later_of first m = (m.tree, places_among (reverse first) (reverse m.variables))
 -- an arm of a later alternative
 abbrev pub later_arm : Tree → Tree × List ℕ → Tree
 later_arm body p = Two HArm p.0 (change (reordering p.1) 0 body)
-
-pub record HoldsPattern (s : List Tree) (id : TermId) : Type 0 where
-  pub held : Holds s id
-  pub sort : sort_of (tree_at s id) ≡ Pattern
 
 abbrev pub LaterHeld : List Tree → LaterPattern → Type 0
 LaterHeld s l = HoldsPattern s l.pattern
@@ -266,7 +304,7 @@ pub record IsWalked (p : NotedTree) (k : Sort) (s : List Tree) (d : Constraints)
   pub sort : sort_of (tree_at s' id) ≡ k
   pub noted : IsNoted s d s' d' p.notes
 
--- the same of arguments
+-- the number of the list of the arguments' trees, and their notes after those that were there
 pub record AreWalked (p : NotedTree) (s : List Tree) (d : Constraints) (s' : List Tree)
     (d' : Constraints) (id : TermId) : Type 0 where
   pub walked : IsWalked p sorts.List s d s' d' id

@@ -8,7 +8,8 @@ use Rattle.trees.specs.Binding.{Change, change, Bound, Param, TyVar, inst_types}
 use Rattle.tasks.specs.Task.{SymbolTree, symbol_or}
 use Rattle.tasks.specs.Equations.{cells, type_variables}
 use Rattle.surface.specs.Lexeme.{Word}
-use Rattle.name_resolution.specs.Abstract.{Pattern, Patterns, wildcard_pattern, variable_pattern, constructor_pattern, tuple_pattern, alias_pattern, no_patterns, more_patterns, Alternatives, no_alternatives, more_alternatives, count_patterns}
+use Rattle.name_resolution.specs.Abstract.{Pattern, Patterns, wildcard_pattern, variable_pattern, constructor_pattern, tuple_pattern, alias_pattern, record_pattern, no_patterns, more_patterns, Alternatives, no_alternatives, more_alternatives, count_patterns}
+use Rattle.name_resolution.specs.Records.{record_named, places_named, standing_at, put_at_places}
 use Rattle.name_resolution.specs.Where.{Where}
 
 -- what is noted in preorder beside the tree: the type equations; for each unknown the token of the
@@ -83,6 +84,10 @@ pub record Matched : Type 0 where
 abbrev pub matched_piece : Tree → Notes → List LocalTree → Matched
 matched_piece t n vs = record { tree = t; notes = n; variables = vs }
 
+abbrev pub all_notes : List Matched → Notes
+all_notes [] = no_notes
+all_notes (m ∷ ms) = follow m.notes (all_notes ms)
+
 abbrev pub local_type : Word → List LocalTree → Tree
 local_type x [] = int_type
 local_type x (l ∷ ls) = cond (bytes_eq l.name x) l.type (local_type x ls)
@@ -102,6 +107,44 @@ constructed_by n i t c parts =
 abbrev pub part_types : ℕ → NumberedEntry → List Tree
 part_types n c = map (at_unknowns n c.symbol) c.symbol.args
 
+-- ---- the parts of a record
+-- these types at places
+abbrev pub place_types : List ℕ → List Tree → List Tree
+place_types places ts = standing_at int_type places ts
+
+-- a pattern's tree with its variables
+pub record PatternTree : Type 0 where
+  pub tree : Tree
+  pub variables : List LocalTree
+
+abbrev pub pattern_tree : Tree → List LocalTree → PatternTree
+pattern_tree e vs = record { tree = e; variables = vs }
+
+abbrev pub tree_of_matched : Matched → PatternTree
+tree_of_matched m = pattern_tree m.tree m.variables
+
+abbrev pub beside : PatternTree → PatternTree → PatternTree
+beside p q = pattern_tree (Two HCell p.tree q.tree) (p.variables ++ q.variables)
+
+-- patterns side by side
+abbrev pub side_by_side_trees : List PatternTree → PatternTree
+side_by_side_trees [] = pattern_tree (Leaf HEnd) []
+side_by_side_trees (p ∷ ps) = beside p (side_by_side_trees ps)
+
+abbrev pub wildcard_tree : Tree → PatternTree
+wildcard_tree t = pattern_tree (One HPatAny t) []
+
+-- patterns at places among the fields of a record of these types; any other field is a wildcard
+abbrev pub fields_tree : List ℕ → List Tree → List PatternTree → PatternTree
+fields_tree places ts ps = side_by_side_trees (put_at_places places ps (map wildcard_tree ts))
+
+-- What the patterns note is in the order in which they are written, and their variables are in that
+-- of the fields.
+abbrev pub fields_piece : List ℕ → List Tree → List Matched → Matched
+fields_piece places ts ms =
+    let whole = fields_tree places ts (map tree_of_matched ms) in
+    matched_piece whole.tree (all_notes ms) whole.variables
+
 -- Of a pattern that takes a type, with the next unknown n; `first` has the variables of the first
 -- alternative, in a later one.
 abbrev mutual
@@ -120,6 +163,12 @@ abbrev mutual
       matched_piece (One HPatAlias inner.tree)
       (follow inner.notes (noted (variable_equations first x t) []))
       (inner.variables ++ local x t ∷ [])
+  pattern_piece w first n t (record_pattern i fs ps) =
+      let k = record_named w.symbols w.names fs in
+      let c = entry_of w.symbols (Some k) in
+      let places = places_named w.symbols w.names k fs in
+      constructed_by n i t c (fields_piece places (part_types n c)
+      (part_pieces w first (n + c.symbol.vars) (place_types places (part_types n c)) ps))
 
   pub patterns_piece : Where → Option (List LocalTree) → ℕ → List Tree → Patterns → Matched
   patterns_piece w first n ts no_patterns = matched_piece (Leaf HEnd) no_notes []
@@ -128,6 +177,13 @@ abbrev mutual
       let rest = patterns_piece w first (n + taken one.notes) (rest_of ts) ps in
       matched_piece (Two HCell one.tree rest.tree) (follow one.notes rest.notes)
       (one.variables ++ rest.variables)
+
+  -- each by itself
+  pub part_pieces : Where → Option (List LocalTree) → ℕ → List Tree → Patterns → List Matched
+  part_pieces w first n ts no_patterns = []
+  part_pieces w first n ts (more_patterns p ps) =
+      let one = pattern_piece w first n (first_or_int ts) p in
+      one ∷ part_pieces w first (n + taken one.notes) (rest_of ts) ps
 
 -- a constructor's entry before its parts
 abbrev pub constructor_piece : Where → Option (List LocalTree) → ℕ → Tree → ℕ → NumberedEntry
@@ -148,10 +204,6 @@ alternatives_pieces w n t no_alternatives = []
 alternatives_pieces w n t (more_alternatives i p ps) =
     let one = pattern_piece w None n t p in
     one ∷ later_pieces w one.variables (n + taken one.notes) t ps
-
-abbrev pub all_notes : List Matched → Notes
-all_notes [] = no_notes
-all_notes (m ∷ ms) = follow m.notes (all_notes ms)
 
 -- the variables of the first alternative, which the body is under
 abbrev pub first_variables : List Matched → List LocalTree

@@ -2,19 +2,21 @@
 -- Both are in preorder. A type variable below the number of the declaration's own stands for
 -- itself; the others are the unknowns, numbered as they are taken (rank-1 polymorphism: a use of a
 -- symbol takes fresh unknowns for its type variables).
-use Rattle.std.specs.Prelude.{ℕ, suc, ℤ, ◌+◌, Bool, true, false, cond, List, [], ◌∷◌, ◌++◌, map, reverse, replicate, length, Option, Some, None}
+use Rattle.std.specs.Prelude.{ℕ, suc, ℤ, pos, ◌+◌, Bool, true, false, cond, List, [], ◌∷◌, ◌++◌, map, reverse, replicate, length, Option, Some, None}
 use Rattle.std.specs.Option.{option_map}
 use Rattle.std.specs.Str.{bytes_eq}
 use Rattle.trees.specs.Tree.{Tree, Leaf, One, Two, Three, HTyVar, HTyApp, HEnd, HCell, HBound, HNum, HFun, HPred, HEq, HTrue, HFalse, HNot, HJoin, HForall, HExists, HLet, HIf, HCase}
 use Rattle.trees.specs.Sorts.{int_type}
 use Rattle.trees.specs.Binding.{inst_types}
 use Rattle.tasks.specs.Equations.{cells, type_variables}
+use Rattle.tasks.specs.Typing.{members}
 use Rattle.surface.specs.Lexeme.{Word}
-use Rattle.name_resolution.specs.Abstract.{TypeExpression, TypeExpressions, variable_type, composed_type, product_type, no_types, more_types, BoundNames, Expression, Expressions, MatchBranches, applied_expression, infix_expression, integer_expression, true_expression, false_expression, tuple_expression, cast_expression, field_expression, not_expression, connected_expression, equality_expression, if_expression, let_expression, match_expression, quantified_expression, no_expressions, more_expressions, no_branches, more_branches, count_forms, count_expressions}
+use Rattle.name_resolution.specs.Abstract.{FieldName, TypeExpression, TypeExpressions, variable_type, composed_type, product_type, no_types, more_types, BoundNames, Expression, Expressions, MatchBranches, applied_expression, infix_expression, integer_expression, true_expression, false_expression, tuple_expression, cast_expression, field_expression, record_expression, not_expression, connected_expression, equality_expression, if_expression, let_expression, match_expression, quantified_expression, no_expressions, more_expressions, no_branches, more_branches, count_forms, count_expressions}
 use Rattle.name_resolution.specs.Faults.{is_formula_trigger, token}
+use Rattle.name_resolution.specs.Records.{record_named, places_named, put_at_places}
 use Rattle.name_resolution.specs.Where.{Where, MeaningTree, place_of}
 use Rattle.scopes.specs.declared.Referent.TheVariants as stands
-use Rattle.open_types.specs.Patterns.{Notes, noted, no_notes, follow, taken, LocalTree, local, at_unknowns, result_or_int, first_or_int, rest_of, NumberedEntry, entry_of, Matched, alternatives_pieces, all_notes, first_variables, pattern_trees, arms}
+use Rattle.open_types.specs.Patterns.{Notes, noted, no_notes, follow, taken, LocalTree, local, at_unknowns, result_or_int, first_or_int, rest_of, place_types, NumberedEntry, entry_of, Matched, alternatives_pieces, all_notes, first_variables, pattern_trees, arms}
 
 -- ---- types
 -- the type that a name with arguments stands for
@@ -109,6 +111,13 @@ field_use w qs x = Symbol' (entry_of w.symbols (w.names qs x))
 abbrev pub tuple_use : Where → ℕ → Use
 tuple_use w n = Symbol' (entry_of w.symbols (w.tuples n))
 
+-- the constructor of the record to which fields belong
+abbrev pub record_use : Where → List FieldName → Use
+record_use w fs = Symbol' (entry_of w.symbols (Some (record_named w.symbols w.names fs)))
+
+abbrev pub field_places : Where → List FieldName → List ℕ
+field_places w fs = places_named w.symbols w.names (record_named w.symbols w.names fs) fs
+
 abbrev pub use_vars : Use → ℕ
 use_vars (Local' i t) = 0
 use_vars (Symbol' e) = e.symbol.vars
@@ -132,6 +141,12 @@ used_piece n t i (Symbol' e) args =
     noted_before (noted (wanting (at_unknowns n e.symbol (result_or_int e.symbol.result)) t)
     (replicate e.symbol.vars i))
     (piece_under (symbol_at_types e.number (type_variables n e.symbol.vars) t) args)
+
+-- The values of a record's fields, which are a list in the order in which they are written, in the
+-- order of the fields. Where a field has no value it is 0, which no right source has.
+abbrev pub values_placed : List ℕ → ℕ → Tree → Tree
+values_placed places count values =
+    cells (put_at_places places (members values) (replicate count (Leaf (HNum (pos 0)))))
 
 -- ---- binders
 -- each name with the unknown that it takes, from n on
@@ -234,6 +249,12 @@ abbrev mutual
       used_piece n t i u (both_pieces (Two HCell)
       (piece w ls (n + use_vars u) (Some (first_or_int (parameters n u))) e)
       (bare_piece (Leaf HEnd)))
+  piece w ls n t (record_expression i fs es) =
+      let u = record_use w fs in
+      let places = field_places w fs in
+      let ts = parameters n u in
+      used_piece n t i u (piece_under (values_placed places (length ts))
+      (pieces w ls (n + use_vars u) (place_types places ts) es))
   piece w ls n t (not_expression i e) = piece_under (One HNot) (piece w ls n None e)
   piece w ls n t (connected_expression i a o b) =
       let left = piece w ls n None a in

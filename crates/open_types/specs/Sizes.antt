@@ -1,9 +1,10 @@
 -- The number of expressions in a surface tree, itself counted, also those in parentheses.
 use Rattle.std.specs.Prelude.{ℕ, suc, ◌+◌, List, [], ◌∷◌, Option, option_map}
-use Rattle.surface.specs.Trees.{SyntaxTree, SyntaxTrees, Branches, SyntaxTrigger, apply, literal, truth, falsity, group, cast, access, prefixed, negation, binary, choice, cases, binding, quantified, none, more, no_branch, branch, untriggered, triggered}
+use Rattle.surface.specs.Trees.{SyntaxTree, SyntaxTrees, Branches, SyntaxTrigger, apply, literal, truth, falsity, group, cast, access, fielded_tree, prefixed, negation, binary, choice, cases, binding, quantified, none, more, no_branch, branch, untriggered, triggered}
 use Rattle.surface.specs.Surface as code
 use Rattle.surface.specs.declared.expressions.BranchTree.{BranchTree}
 use Rattle.surface.specs.declared.expressions.Expr.{Expr}
+use Rattle.surface.specs.declared.expressions.FieldValue.{FieldValue}
 use Rattle.surface.specs.declared.expressions.TriggerTree.{TriggerTree}
 
 abbrev mutual
@@ -14,6 +15,7 @@ abbrev mutual
   source_size (falsity a) = 1
   source_size (group a es) = suc (sizes es)
   source_size (access a e c) = suc (source_size e)
+  source_size (fielded_tree a cs es semi) = suc (sizes es)
   source_size (cast a e f) = suc (source_size e)
   source_size (prefixed a o e) = suc (source_size e)
   source_size (negation a e) = suc (source_size e)
@@ -41,6 +43,10 @@ size_of e = source_size (code.tree_of e)
 abbrev pub sizes_of : List Expr → ℕ
 sizes_of [] = 0
 sizes_of (e ∷ es) = size_of e + sizes_of es
+
+abbrev pub values_size : List FieldValue → ℕ
+values_size [] = 0
+values_size (f ∷ fs) = size_of f.value + values_size fs
 
 abbrev pub triggers_size : Option TriggerTree → ℕ
 triggers_size g = trigger_size (code.trigger (option_map code.terms_of g))

@@ -6,7 +6,7 @@ ghost use Rattle.trees.specs.Sorts.{sort_of};
 ghost use Rattle.tasks.specs.Meaning.{trees_at};
 ghost use Rattle.trees.specs.declared.Sort.TheVariants.{Term, Formula};
 ghost use Rattle.surface.specs.Surface.{integer_word};
-ghost use Rattle.name_resolution.specs.Abstract.{expression_of, expressions_of, grouped, applied_expression, quantified_expression, binders_of, triggers_of, integer_value, match_expression, first_tree, more_branches, no_branches, more_alternatives, no_alternatives, first_form, side_by_side, alternatives_of, branches_of};
+ghost use Rattle.name_resolution.specs.Abstract.{expression_of, expressions_of, record_expression, value_fields_of, field_values_of, grouped, applied_expression, quantified_expression, binders_of, triggers_of, integer_value, match_expression, first_tree, more_branches, no_branches, more_alternatives, no_alternatives, first_form, side_by_side, alternatives_of, branches_of};
 ghost use Rattle.surface.specs.Surface as code;
 ghost use Rattle.name_resolution.specs.Naming.{where_at};
 ghost use Rattle.open_types.specs.Patterns.{entry_of};
@@ -19,15 +19,19 @@ use crate::draft::{Constraints, equate, fill, make, new_unknown, reserve};
 use crate::locals::{Local, Locals, local_named};
 use crate::operands::{Operands, split_operands};
 use crate::patterns::walk_alternatives;
+use crate::records::{place_types, place_values};
 use crate::triggers::trigger_type;
 use crate::types::{entry_at, entry_number, int, type_of_form};
 use crate::uses::{
     begin_use, entry_args, finish_use, first_type, other_types, types_put, walk_local,
 };
-use name_resolution::{Operation, World, infix_operation, let_name, own_name, prefix_operator};
+use name_resolution::{
+    Fields, Operation, World, infix_operation, let_name, own_name, places_named, prefix_operator,
+    record_named,
+};
 use scopes::{Seq, Text};
 use std::alloc::{AllocError, Global};
-use surface::{BinderTree, BranchTree, Expr, ExprNode, Pat, TriggerTree};
+use surface::{BinderTree, BranchTree, Expr, ExprNode, FieldValue, Pat, TriggerTree};
 use trees::store::{Grow, Node, Store, TermId};
 
 // The value of an integer, which in a source isn't below zero.
@@ -162,6 +166,10 @@ pub fn walk(
             walk_symbol(
                 alloc, store, draft, token, symbol, operands, world, locals, wanted,
             )
+        }
+        ExprNode::Fields(fields, _) => {
+            let fields = fields.as_slice();
+            walk_record(alloc, store, draft, token, fields, world, locals, wanted)
         }
         ExprNode::Not(inner) => {
             let a = walk(alloc, store, draft, inner.get(), world, locals, None)?;
@@ -316,6 +324,40 @@ fn walk_symbol(
         parameters.as_slice(),
     )?;
     finish_use(store, draft, symbol, types.as_slice(), args, wanted)
+}
+
+// The fields of a record.
+#[cycle(walking)]
+fn walk_record(
+    alloc: Global,
+    store: &mut Store,
+    draft: &mut Constraints,
+    token: usize,
+    fields: &[FieldValue],
+    world: &World<'_>,
+    locals: &Locals<'_>,
+    wanted: Option<TermId>,
+) -> Result<TermId, AllocError>
+    requires { CanWalk store.old draft.old world.now locals.now wanted
+        (record_expression token (value_fields_of fields.now) (field_values_of fields.now)) }
+    ensures walked { IfOk result (IsWalked (piece (where_at store.old world.now) (locals_at
+        store.old locals.now) (length draft.old.takers) (option_map (tree_at store.old) wanted)
+        (record_expression token (value_fields_of fields.now) (field_values_of fields.now)))
+        (due wanted) store.old draft.old store.new draft.new) }
+    ensures grows { Grows store.old store.new }
+{
+    let owner = record_named(alloc, world, Fields::Values(fields))?;
+    let places = places_named(alloc, world, owner, Fields::Values(fields))?;
+    let info = entry_at(world.symbols, owner);
+    let types = begin_use(alloc, store, draft, token, info, wanted)?;
+    let parameters = types_put(alloc, store, entry_args(info), types.as_slice())?;
+    let parameters = parameters.as_slice();
+    let own = place_types(alloc, store, parameters, places.as_slice())?;
+    let operands = Operands::Values(fields);
+    let values = walk_all(alloc, store, draft, operands, world, locals, own.as_slice())?;
+    let count = parameters.len();
+    let args = place_values(alloc, store, values, places.as_slice(), count)?;
+    finish_use(store, draft, owner, types.as_slice(), args, wanted)
 }
 
 // Arguments, of which these types are wanted.

@@ -11,6 +11,7 @@ mod expression;
 mod locals;
 mod operands;
 mod patterns;
+mod records;
 mod reorder;
 mod triggers;
 mod types;

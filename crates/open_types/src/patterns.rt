@@ -1,23 +1,25 @@
 // Patterns: their trees over unknowns, what they note, and their variables.
 // They depend on drafts, on uses and on types; the walk of branches depends on them.
-ghost use Rattle.std.specs.Prelude.{◌≡◌, ◌≤◌, ℕ, List, IfOk, OnOk, [], ◌∷◌, ◌++◌, Some, length, map, reverse, All};
+ghost use Rattle.std.specs.Prelude.{◌≡◌, ◌≤◌, ℕ, List, IfOk, OnOk, [], ◌∷◌, ◌++◌, Some, length, map, reverse, slice_set, All};
 ghost use Rattle.trees.specs.Tree.{Tree};
 ghost use Rattle.trees.specs.Node.{tree_at, Grows};
-ghost use Rattle.tasks.specs.Meaning.{trees_at};
-ghost use Rattle.name_resolution.specs.Abstract.{abstract_pattern_of, patterns_of, grouped_patterns, first_form, side_by_side, more_alternatives, alternatives_of};
+ghost use Rattle.tasks.specs.Meaning.{symbols_at, trees_at};
+ghost use Rattle.name_resolution.specs.Abstract.{abstract_pattern_of, patterns_of, record_pattern, pattern_fields_of, field_patterns_of, grouped_patterns, first_form, side_by_side, more_alternatives, alternatives_of};
 ghost use Rattle.surface.specs.Surface as code;
-ghost use Rattle.name_resolution.specs.Naming.{where_at};
-ghost use Rattle.open_types.specs.Patterns.{local, variable_equations, local_type, noted, entry_of, pattern_piece, patterns_piece, constructor_piece, place_among, places_among, later_pieces, alternatives_pieces};
-ghost use Rattle.open_types.specs.Drafts.{HoldsType, IsReady, IsNoted, AreBound, local_at, earlier_variables, EarlierHeld, CanMatch, CanMatchAll, IsMatched, AreMatched, WorldHeld, LaterHeld, IsLater, AreLater, AreDraftedAlternatives};
+ghost use Rattle.name_resolution.specs.Naming.{where_at, symbol_named};
+ghost use Rattle.name_resolution.specs.Records.{places_named};
+ghost use Rattle.open_types.specs.Patterns.{local, variable_equations, local_type, noted, entry_of, pattern_piece, patterns_piece, part_pieces, place_types, wildcard_tree, side_by_side_trees, constructor_piece, place_among, places_among, later_pieces, alternatives_pieces};
+ghost use Rattle.open_types.specs.Drafts.{HoldsType, IsReady, IsNoted, AreBound, local_at, earlier_variables, EarlierHeld, CanMatch, CanMatchAll, IsMatched, AreMatched, part_at, PartHeld, ArePartsJoined, CanMatchFields, ArePut, WorldHeld, LaterHeld, IsLater, AreLater, AreDraftedAlternatives};
 
 use crate::draft::{Constraints, equate, make};
 use crate::locals::Local;
+use crate::records::place_type;
 use crate::types::{entry_at, entry_number, int, list_of};
 use crate::uses::{begin_use, entry_args, first_type, other_types, types_put};
-use name_resolution::{World, own_name};
+use name_resolution::{Fields, World, own_name, place_named, record_named};
 use scopes::Seq;
 use std::alloc::{AllocError, Global};
-use surface::{Pat, PatNode};
+use surface::{FieldPat, Pat, PatNode};
 use trees::store::{Grow, Node, Store, TermId};
 
 /// Which alternative of a branch is walked: the first, or a later one, whose variables have the types of those of the first.
@@ -158,7 +160,189 @@ pub fn walk_pattern<'a>(
             bind_variable(store, draft, locals, name.text.as_slice(), ty, alternative)?;
             make(store, draft, Node::PatAlias(made))
         }
+        PatNode::Fields(fields, _) => {
+            let fields = fields.as_slice();
+            let token = p.at.main;
+            walk_record(
+                alloc,
+                store,
+                draft,
+                locals,
+                token,
+                fields,
+                world,
+                ty,
+                alternative,
+            )
+        }
     }
+}
+
+/// A part of a record: its pattern, and its variables.
+#[derive(Drop)]
+pub struct Part<'a> {
+    pub pattern: TermId,
+    pub variables: Seq<Local<'a>>,
+}
+
+// A wildcard for each of these types, after the parts that are there.
+fn push_wildcards<'a>(
+    alloc: Global,
+    store: &mut Store,
+    draft: &Constraints,
+    types: &[TermId],
+    parts: &mut Seq<Part<'a>>,
+) -> Result<(), AllocError>
+    requires types { All (HoldsType store.old) types.now }
+    requires ready { IsReady store.old draft.now }
+    requires held { All (PartHeld store.old) parts.old }
+    ensures held { OnOk result (All (PartHeld store.new) parts.new) }
+    ensures parts { OnOk result (map (part_at store.new) parts.new
+        ≡ map (part_at store.old) parts.old
+        ++ map wildcard_tree (trees_at store.old types.now)) }
+    ensures noted { OnOk result (IsNoted store.old draft.now store.new draft.now (noted [] [])) }
+    ensures grows { Grows store.old store.new }
+{
+    let Some((first, rest)) = types.split_first() else {
+        return Ok(());
+    };
+    let pattern = make(store, draft, Node::PatAny(*first))?;
+    let variables = Seq::new(alloc);
+    parts.push(Part { pattern, variables })?;
+    push_wildcards(alloc, store, draft, rest, parts)
+}
+
+// A part at its place.
+#[tactic(auto, using(name_resolution::proofs::Putting::set_past))]
+fn put_part<'a>(parts: &mut Seq<Part<'a>>, place: usize, part: Part<'a>)
+    ensures { parts.new ≡ slice_set parts.old place part.entry }
+{
+    if place < parts.len() {
+        parts.set(place, part);
+    }
+}
+
+// Variables after those that are there.
+fn push_locals<'a>(locals: &mut Vec<Local<'a>>, more: &[Local<'a>]) -> Result<(), AllocError>
+    ensures { OnOk result (locals.new.items ≡ locals.old.items ++ more.now) }
+{
+    for local in more {
+        locals.push(*local)?;
+    }
+    Ok(())
+}
+
+// The parts side by side; their variables are put after those that are there.
+fn join_parts<'a>(
+    store: &mut Store,
+    draft: &Constraints,
+    locals: &mut Vec<Local<'a>>,
+    parts: &[Part<'a>],
+) -> Result<TermId, AllocError>
+    requires ready { IsReady store.old draft.now }
+    requires held { All (λ l. HoldsType store.old l.ty) locals.old.items }
+    requires parts { All (PartHeld store.old) parts.now }
+    ensures joined { IfOk result (ArePartsJoined (side_by_side_trees (map (part_at store.old)
+        parts.now)) store.old draft.now locals.old.items store.new locals.new.items) }
+    ensures grows { Grows store.old store.new }
+{
+    let Some((first, rest)) = parts.split_first() else {
+        return make(store, draft, Node::End);
+    };
+    push_locals(locals, first.variables.as_slice())?;
+    let list = join_parts(store, draft, locals, rest)?;
+    make(store, draft, Node::Cell(first.pattern, list))
+}
+
+// The fields of a record.
+#[cycle(matching)]
+fn walk_record<'a>(
+    alloc: Global,
+    store: &mut Store,
+    draft: &mut Constraints,
+    locals: &mut Vec<Local<'a>>,
+    token: usize,
+    fields: &'a [FieldPat],
+    world: &World<'_>,
+    ty: TermId,
+    alternative: Alternative<'_>,
+) -> Result<TermId, AllocError>
+    requires { CanMatch store.old draft.old world.now locals.old.items ty alternative }
+    ensures matched { IfOk result (IsMatched (pattern_piece (where_at store.old world.now)
+        (earlier_variables store.old alternative.entry) (length draft.old.takers)
+        (tree_at store.old ty) (record_pattern token (pattern_fields_of fields.now)
+        (field_patterns_of fields.now))) store.old draft.old locals.old.items store.new draft.new
+        locals.new.items) }
+    ensures grows { Grows store.old store.new }
+{
+    let owner = record_named(alloc, world, Fields::Patterns(fields))?;
+    let info = entry_at(world.symbols, owner);
+    let types = begin_use(alloc, store, draft, token, info, Some(ty))?;
+    let wanted = types_put(alloc, store, entry_args(info), types.as_slice())?;
+    let wanted = wanted.as_slice();
+    let mut parts = Seq::new(alloc);
+    push_wildcards(alloc, store, draft, wanted, &mut parts)?;
+    walk_fields(
+        alloc,
+        store,
+        draft,
+        &mut parts,
+        fields,
+        owner,
+        world,
+        wanted,
+        alternative,
+    )?;
+    let made = join_parts(store, draft, locals, parts.as_slice())?;
+    let list = list_of(store, types.as_slice())?;
+    make(store, draft, Node::PatCon(owner, list, made, ty))
+}
+
+// The patterns of fields, put at their places among the parts.
+#[cycle(matching)]
+fn walk_fields<'a>(
+    alloc: Global,
+    store: &mut Store,
+    draft: &mut Constraints,
+    parts: &mut Seq<Part<'a>>,
+    fields: &'a [FieldPat],
+    owner: usize,
+    world: &World<'_>,
+    wanted: &[TermId],
+    alternative: Alternative<'_>,
+) -> Result<(), AllocError>
+    requires { CanMatchFields store.old draft.old world.now parts.old wanted.now alternative }
+    ensures put { OnOk result (ArePut (places_named (symbols_at store.old world.now.symbols.now)
+        (symbol_named world.now.scope.now) owner (pattern_fields_of fields.now))
+        (part_pieces (where_at store.old world.now)
+        (earlier_variables store.old alternative.entry) (length draft.old.takers)
+        (place_types (places_named (symbols_at store.old world.now.symbols.now)
+        (symbol_named world.now.scope.now) owner (pattern_fields_of fields.now))
+        (trees_at store.old wanted.now)) (field_patterns_of fields.now))
+        store.old draft.old parts.old store.new draft.new parts.new) }
+    ensures grows { Grows store.old store.new }
+{
+    let Some((first, rest)) = fields.split_first() else {
+        return Ok(());
+    };
+    let place = place_named(alloc, world, owner, &first.name)?;
+    let ty = place_type(store, wanted, place);
+    let mut own = Vec::new(alloc);
+    let value = &first.value;
+    let pattern = walk_pattern(alloc, store, draft, &mut own, value, world, ty, alternative)?;
+    let variables = Seq::from_vec(own);
+    put_part(parts, place, Part { pattern, variables });
+    walk_fields(
+        alloc,
+        store,
+        draft,
+        parts,
+        rest,
+        owner,
+        world,
+        wanted,
+        alternative,
+    )
 }
 
 // The entry of a constructor before its parts.

@@ -76,7 +76,7 @@ fn has_types(store: &Store, e: Equation)
     let _right = store.node(e.right);
 }
 
-// The same of all equations.
+// Both sides of each equation are types by their shape too.
 #[tactic(auto, using(crate::proofs::unify_types::Bridge::more_equations, crate::proofs::unify_types::Bridge::no_equations))]
 fn have_types(store: &Store, equations: &[Equation])
     requires { HoldEquations store.now equations.now }

@@ -51,7 +51,8 @@ fn eliminate(
     Ok(true)
 }
 
-// The same of any equation between types. What was made the same is remembered, so that shared types are taken apart once.
+// Takes an equation between types apart, down to unknowns, which it binds; it doesn't if it has no solution. What was made the
+// same is remembered, so that shared types are taken apart once.
 #[cycle(unification)]
 fn unify_sides(
     alloc: Global,

@@ -14,25 +14,27 @@ use Rattle.surface.specs.declared.expressions.BranchTree.{BranchTree}
 use Rattle.surface.specs.declared.expressions.Expr.{Expr}
 use Rattle.surface.specs.declared.patterns.Pat.{Pat}
 use Rattle.name_resolution.specs.declared.NamingFault.TheVariants.{WrongKind}
-use Rattle.name_resolution.specs.Abstract.{Expression, MatchBranches, match_expression, text_of_own, applied_expression, grouped, connective_operator, equality_operator, symbol_operator, more_expressions, no_expressions, type_expression_of, expression_of, expressions_of, binders_of, triggers_of, branches_of, no_alternatives, more_alternatives, more_branches, no_branches, first_tree, first_form, side_by_side, alternatives_of}
+use Rattle.name_resolution.specs.Abstract.{value_fields_of, field_values_of, Expression, MatchBranches, match_expression, text_of_own, applied_expression, grouped, connective_operator, equality_operator, symbol_operator, more_expressions, no_expressions, type_expression_of, expression_of, expressions_of, binders_of, triggers_of, branches_of, no_alternatives, more_alternatives, more_branches, no_branches, first_tree, first_form, side_by_side, alternatives_of}
 use Rattle.name_resolution.specs.Faults.{fault}
 use Rattle.name_resolution.specs.Naming.{where_at, operation_at}
-use Rattle.name_resolution.proofs.Nodes.{triggers_at-Some, expression_at-Apply, expression_at-Int, expression_at-True, expression_at-False, expression_at-Cast, expression_at-Dot, expression_at-Not, expression_at-If, expression_at-Group, expression_at-Prefix, expression_at-Quant, expression_at-Match}
+use Rattle.name_resolution.proofs.Nodes.{triggers_at-Some, expression_at-Apply, expression_at-Int, expression_at-True, expression_at-False, expression_at-Cast, expression_at-Dot, expression_at-Fields, expression_at-Not, expression_at-If, expression_at-Group, expression_at-Prefix, expression_at-Quant, expression_at-Match}
+use Rattle.name_resolution.proofs.SameNames.{fault_same}
 use Rattle.name_resolution.proofs.Operated.{operated_as, bound_as, matched_as}
 use Rattle.name_resolution.proofs.Told.{counted, group_one, group_many}
 use Rattle.open_types.specs.Patterns.{noted, taken, local, first_or_int, alternatives_pieces, all_notes, first_variables}
 use Rattle.open_types.specs.Pieces.{piece, branches_arms, unknown_after, unknown, type_at, triggers_notes, bound, binders_vars, wanting}
 use Rattle.open_types.specs.Pieces as of
-use Rattle.open_types.specs.Sizes.{size_of, sizes_of, branches_size}
+use Rattle.open_types.specs.Sizes.{size_of, sizes_of, values_size, branches_size}
 use Rattle.open_types.specs.Drafts.{SymbolTyped, symbol_got, IsWalked, AreArms, due, names_of_locals, local_at, locals_at, operands_at, is_due}
 use Rattle.open_types.proofs.Growing.{ready_grows, type_stays, types_stay, types_grow, wanted_stays, wanted_grows, type_grows, world_stays, locals_stay, locals_grow, each_stays, each_grows}
 use Rattle.open_types.proofs.Noting.{next, matches_more, no_elements, nothing_noted, noted_after, noted_as}
 use Rattle.open_types.proofs.Walking.{must_be, not_if, set_on, set_inside, go_on, go_inside, as_begun, as_inside, one_held, one_inside, walked_bare, walked_under, walked_both, walked_choice, walked_after, formula_due, term_due, in_cast, in_negation, in_joined, in_equated, in_choice, in_binding, choice_fits, choice_sort, let_fits, let_sort, grown_sort, yields_due, is_expression}
-use Rattle.open_types.proofs.Applying.{can_as, apply_same, can_infix, can_use, can_tuple, can_field, first_size, quantified_due, can_quantify, equality_sort, ifok_both, ifok_three}
+use Rattle.open_types.proofs.Applying.{can_as, apply_same, can_infix, can_use, can_tuple, can_field, can_record, first_size, quantified_due, can_quantify, equality_sort, ifok_both, ifok_three}
 use Rattle.open_types.proofs.Arguments.{term_of_local, local_walked, symbol_walked, entry_got, got_one, go_all, go_first, go_rest, as_rest, walked_end, walked_cell, cell_fits, used_walked}
 use Rattle.open_types.proofs.Quantified.{in_quantified, inside_names, inside_held, inside_locals, next_unknown, triggers_as, quantified_walked, in_triggers, trigger_walked}
-use Rattle.open_types.proofs.Branching.{in_cases, has_arm, case_fits, in_branches, as_arms, branch_names, branch_held, branch_locals, branch_walked, branch_dropped, no_arms, match_walked, numbers_held, ids_grow, patterns_grow}
-use Rattle.open_types.proofs.Sizing.{some_size, branches_split, size_at-Apply, size_at-Group, size_at-Cast, size_at-Dot, size_at-Prefix, size_at-Not, size_at-Binary, size_at-If, size_at-Let, size_at-Quant, size_at-Match, triggers_size-Some}
+use Rattle.open_types.proofs.Branching.{in_cases, has_arm, case_fits, in_branches, in_alternatives, as_arms, branch_names, branch_held, branch_locals, branch_walked, branch_dropped, no_arms, match_walked, numbers_held, ids_grow, patterns_grow}
+use Rattle.open_types.proofs.Fielding.{record_walked, record_written}
+use Rattle.open_types.proofs.Sizing.{some_size, branches_split, size_at-Apply, size_at-Group, size_at-Cast, size_at-Dot, size_at-Fields, size_at-Prefix, size_at-Not, size_at-Binary, size_at-If, size_at-Let, size_at-Quant, size_at-Match, triggers_size-Some}
 use Rattle.open_types.proofs.expression.+walking.Goals as goal
 
 -- ---- uses
@@ -91,6 +93,17 @@ walk-returns-in_ok-own-in-Dot-clause-walked t c =
     let is = expression_at-Dot c.args.e.now c.in-Dot.inner c.in-Dot.field c.in-Dot.is in
     let own = c.as_slice-in-Dot-3.ensures ∙ c.in_ok-own-in-Dot.ensures ∙ ap (λ (x : Word). text_of_own (own_of c.in-Dot.field.style x)) c.as_slice-in-Dot.ensures in
     rw is (rw (c.symbol_named-symbol.ensures, c.as_slice-in-Dot-2.ensures, own, c.get-in-Dot.ensures) at c.walk_symbol.ensures.walked)
+
+-- ---- the fields of a record
+pub walk-walk_record-requires : goal.walk-walk_record-requires
+walk-walk_record-requires t c =
+    let is = expression_at-Fields c.args.e.now c.in-Fields.fields c.in-Fields.field-1 c.in-Fields.is in
+    (omega (arith, size_at-Fields c.args.e.now c.in-Fields.fields c.in-Fields.field-1 c.in-Fields.is, ap values_size c.as_slice-fields.ensures), rw c.as_slice-fields.ensures (can_as is c.requires))
+
+pub walk-returns-in-Fields-clause-walked : goal.walk-returns-in-Fields-clause-walked
+walk-returns-in-Fields-clause-walked t c =
+    let is = expression_at-Fields c.args.e.now c.in-Fields.fields c.in-Fields.field-1 c.in-Fields.is in
+    rw is (rw c.as_slice-fields.ensures at c.walk_record.ensures.walked)
 
 -- ---- constants
 pub walk-walk_literal-requires-clause-term : goal.walk-walk_literal-requires-clause-term
@@ -592,9 +605,10 @@ walk_branch-walk-requires t c =
     let ps = more_alternatives (first_form (code.patterns c.args.first.now)) (side_by_side (code.patterns c.args.first.now)) (alternatives_of c.args.rest.now) in
     let a = c.in_ok-branch.ensures.alternatives (first_form (code.patterns c.args.first.now)) in
     let h = in_branches (where_at s c.args.world.now) (names_of_locals c.args.locals.now) (is_due c.args.wanted) ps (expression_of c.args.body.now) (branches_of c.args.others.now) c.requires.resolved in
+    let q = in_alternatives (where_at s c.args.world.now) (names_of_locals c.args.locals.now) (is_due c.args.wanted) ps (expression_of c.args.body.now) (branches_of c.args.others.now) c.requires.resolved in
     let n : ℕ = length c.args.draft.now.takers in
     let held = branch_held n (tree_at s c.args.subject) ps set g a in
-    (omega arith, rw c.as_slice.ensures.value (go_inside set _ g a.noted.ready held (wanted_grows _ _ g c.args.wanted c.requires.wanted) (rw (branch_names n (tree_at s c.args.subject) ps set g a) h.0)))
+    (omega arith, rw c.as_slice.ensures.value (go_inside set _ g a.noted.ready held (wanted_grows _ _ g c.args.wanted c.requires.wanted) (fault_same (where_at s c.args.world.now) (expression_of c.args.body.now) false _ _ (is_due c.args.wanted) (branch_names n (tree_at s c.args.subject) ps set g a q) ∙ h.0)))
 
 pub walk_branch-walk_branches-requires : goal.walk_branch-walk_branches-requires
 walk_branch-walk_branches-requires t c =
@@ -849,3 +863,45 @@ walk_branch-returns-in_err-body-clause-grows t c = Grows_trans _ _ _ c.walk_alte
 
 pub walk_branch-returns-in_err-list-clause-grows : goal.walk_branch-returns-in_err-list-clause-grows
 walk_branch-returns-in_err-list-clause-grows t c = Grows_trans _ _ _ c.walk_alternatives.ensures.grows (Grows_trans _ _ _ c.walk.ensures.grows c.walk_branches.ensures.grows)
+
+-- ---- the fields of a record
+pub walk_record-begin_use-requires-clause-info : goal.walk_record-begin_use-requires-clause-info
+walk_record-begin_use-requires-clause-info t c = rw (sym c.entry_at-info.ensures) at (got_one {X = SymbolInfo} (SymbolTyped c.args.store.now) c.args.world.now.symbols.now c.in_ok-owner.owner c.requires.set.world.symbols)
+
+pub walk_record-types_put-requires-clause-args : goal.walk_record-types_put-requires-clause-args
+walk_record-types_put-requires-clause-args t c =
+    let typed = rw (sym c.entry_at-info.ensures) at (got_one {X = SymbolInfo} (SymbolTyped c.args.store.now) c.args.world.now.symbols.now c.in_ok-owner.owner c.requires.set.world.symbols) in
+    types_grow _ _ c.begin_use.ensures.grows c.entry_args.result.now (c.entry_args.ensures.held c.args.store.now typed)
+
+pub walk_record-walk_all-requires : goal.walk_record-walk_all-requires
+walk_record-walk_all-requires t c =
+    let g = Grows_trans _ _ _ c.begin_use.ensures.grows c.types_put.ensures.grows in
+    let can = can_record c.args.token (value_fields_of c.args.fields.now) (field_values_of c.args.fields.now) c.requires in
+    (omega arith, go_all can g (ready_grows _ _ c.types_put.ensures.grows c.begin_use.new.draft c.in_ok-types.ensures.begun.noted.ready) (rw c.as_slice-3.ensures.value c.in_ok-own.ensures.held))
+
+pub walk_record-finish_use-requires-clause-types : goal.walk_record-finish_use-requires-clause-types
+walk_record-finish_use-requires-clause-types t c =
+    let g = Grows_trans _ _ _ (Grows_trans _ _ _ c.types_put.ensures.grows c.walk_all.ensures.grows) c.place_values.ensures.grows in
+    rw c.as_slice-5.ensures.value (types_grow _ _ g c.in_ok-types.types.items c.in_ok-types.ensures.begun.held)
+
+pub walk_record-finish_use-requires-clause-wanted : goal.walk_record-finish_use-requires-clause-wanted
+walk_record-finish_use-requires-clause-wanted t c =
+    let g = Grows_trans _ _ _ (Grows_trans _ _ _ (Grows_trans _ _ _ c.begin_use.ensures.grows c.types_put.ensures.grows) c.walk_all.ensures.grows) c.place_values.ensures.grows in
+    wanted_grows _ _ g c.args.wanted c.requires.wanted
+
+pub walk_record-returns-clause-walked : goal.walk_record-returns-clause-walked
+walk_record-returns-clause-walked t c =
+    let s = c.args.store.now in
+    let k = c.in_ok-owner.owner in
+    let typed = rw (sym c.entry_at-info.ensures) at (got_one {X = SymbolInfo} (SymbolTyped s) c.args.world.now.symbols.now k c.requires.set.world.symbols) in
+    let e = symbol_got s (option_copied c.entry_at-info.result) in
+    let g = c.begin_use.ensures.grows in
+    let same = entry_got s c.args.world.now.symbols.now k ∙ ap (symbol_got s) (sym c.entry_at-info.ensures) in
+    let args = types_stay _ _ g c.entry_args.result.now (c.entry_args.ensures.held s typed) ∙ c.entry_args.ensures.trees s in
+    let put = rw c.as_slice.ensures.value at c.in_ok-parameters.ensures.trees in
+    let own = rw (c.as_slice-parameters.ensures.value, c.as_slice-2.ensures.value) at c.in_ok-own.ensures.trees in
+    let can = can_record c.args.token (value_fields_of c.args.fields.now) (field_values_of c.args.fields.now) c.requires in
+    let walked = rw c.as_slice-3.ensures.value at c.in_ok-values.ensures.walked in
+    let placed = rw (c.as_slice-4.ensures.value, c.as_slice-parameters.ensures.value) at c.in_ok-args.ensures.tree in
+    let made = rw c.as_slice-5.ensures.value at c.finish_use.ensures.made in
+    IfOk-weaker c.finish_use.result _ _ (λ id m. record_written c.args.world.now c.args.locals.now c.args.wanted c.args.token (field_values_of c.args.fields.now) (value_fields_of c.args.fields.now) k c.in_ok-places.places.items (c.in_ok-owner.ensures s) (c.in_ok-places.ensures s) (record_walked can c.in_ok-parameters.parameters.items c.entry_args.result.now c.in_ok-own.own.items c.in_ok-args.args k c.in_ok-places.places.items e same c.in_ok-types.ensures.begun g c.types_put.ensures.grows put args own walked c.walk_all.ensures.grows c.place_values.ensures.grows placed m)) made

@@ -1,6 +1,6 @@
 use Rattle.std.proofs.Common.{◌+◌, ◌*◌}
 use Rattle.open_types.specs.Drafts.{operands_size}
-use Rattle.open_types.specs.Sizes.{size_of, sizes_of, branches_size, triggers_size}
+use Rattle.open_types.specs.Sizes.{size_of, sizes_of, values_size, branches_size, triggers_size}
 use Rattle.open_types.proofs.expression.+walking.Given as goal
 
 abbrev pub decreases-walk : goal.decreases-walk
@@ -38,3 +38,6 @@ decreases-walk_branches l = 5 * branches_size l.list.now + 2
 
 abbrev pub decreases-walk_branch : goal.decreases-walk_branch
 decreases-walk_branch l = 5 * (size_of l.body.now + branches_size l.others.now) + 1
+
+abbrev pub decreases-walk_record : goal.decreases-walk_record
+decreases-walk_record l = 5 * values_size l.fields.now + 2

@@ -1,5 +1,5 @@
 use Rattle.std.proofs.Common.{ℕ, ◌+◌, length, refl, sym, ap, ◌∙◌, arith}
-use Rattle.std.proofs.lemmas.Result.{IfOk-weaker}
+use Rattle.std.proofs.lemmas.Result.{IfOk-weaker, on_ok_weaker}
 use Rattle.std.specs.Option.{option_copied}
 use Rattle.trees.specs.Tree.{One, HPatAlias}
 use Rattle.trees.specs.Node.{tree_at}
@@ -9,18 +9,21 @@ use Rattle.tasks.specs.declared.signature.SymbolInfo.{SymbolInfo}
 use Rattle.surface.specs.Lexeme.{Word}
 use Rattle.surface.specs.Surface.{own_of}
 use Rattle.surface.specs.Surface as code
-use Rattle.name_resolution.specs.Abstract.{text_of_own, abstract_pattern_of, patterns_of}
+use Rattle.name_resolution.specs.Abstract.{text_of_own, abstract_pattern_of, patterns_of, field_name_of, pattern_fields_of, field_patterns_of}
 use Rattle.name_resolution.specs.Naming.{where_at}
-use Rattle.name_resolution.proofs.Nodes.{pattern_at-Wild, pattern_at-Var, pattern_at-Con, pattern_at-Group, pattern_at-Alias}
+use Rattle.name_resolution.proofs.Nodes.{pattern_at-Wild, pattern_at-Var, pattern_at-Con, pattern_at-Group, pattern_at-Alias, pattern_at-Fields}
 use Rattle.name_resolution.proofs.Told.{counted_patterns}
+use Rattle.open_types.specs.declared.patterns.Part.{Part}
 use Rattle.open_types.specs.Patterns.{taken, first_or_int, rest_of, pattern_piece}
 use Rattle.open_types.specs.Drafts.{HoldsType, SymbolTyped, symbol_got, earlier_variables}
-use Rattle.open_types.proofs.Growing.{held_grows, each_grows, ready_grows, type_grows, type_stays, types_grow, types_stay}
+use Rattle.std.proofs.lemmas.List.Elements.{All-nil}
+use Rattle.open_types.proofs.Fielding.{none_put, put_held, more_fields, parts_grow, part_made, fields_on, field_match, record_matched}
+use Rattle.open_types.proofs.Growing.{held_grows, each_grows, world_grows, ready_grows, type_grows, type_stays, types_grow, types_stay}
 use Rattle.open_types.proofs.Noting.{next, nothing_noted, no_elements}
 use Rattle.open_types.proofs.Walking.{grown_sort}
 use Rattle.open_types.proofs.Arguments.{entry_got, got_one, rest_all, rest_trees}
 use Rattle.open_types.proofs.Matching.{earlier_stays, earlier_grows, none_bound, more_bound, match_on, match_first, match_rest, as_all_matched, matched_made, matched_end, matched_cell, pattern_cell_fits, constructor_matched, grouped_one, grouped_many}
-use Rattle.open_types.proofs.PatternSizes.{some_pattern, patterns_size, pattern_size, pattern_size-Con, pattern_size-Group, pattern_size-Alias, first_pattern, parts_size}
+use Rattle.open_types.proofs.PatternSizes.{some_pattern, patterns_size, pattern_size, pattern_size-Con, pattern_size-Group, pattern_size-Alias, pattern_size-Fields, fields_size, fields_split, first_pattern, parts_size}
 use Rattle.open_types.proofs.patterns.+matching.Goals as goal
 
 -- ---- leaves
@@ -159,3 +162,105 @@ walk_grouped-walk_constructor-requires t c = (omega arith, c.requires)
 pub walk_grouped-returns-clause-matched : goal.walk_grouped-returns-clause-matched
 walk_grouped-returns-clause-matched t c =
     rw (grouped_many c.args.token c.args.list.now c.if-list-eq1.false) (rw (c.tuple_named-symbol.ensures c.args.store.now, sym (counted_patterns c.args.list.now)) at c.walk_constructor.ensures.matched)
+
+-- ---- the fields of a record
+pub walk_pattern-walk_record-requires : goal.walk_pattern-walk_record-requires
+walk_pattern-walk_record-requires t c =
+    (omega (arith, pattern_size-Fields c.args.p.now c.in-Fields.fields c.in-Fields.field-1 c.in-Fields.is, ap fields_size c.as_slice-fields.ensures), c.requires)
+
+pub walk_pattern-returns-in-Fields-clause-matched : goal.walk_pattern-returns-in-Fields-clause-matched
+walk_pattern-returns-in-Fields-clause-matched t c = rw (pattern_at-Fields c.args.p.now c.in-Fields.fields c.in-Fields.field-1 c.in-Fields.is) (rw c.as_slice-fields.ensures at c.walk_record.ensures.matched)
+
+pub walk_record-begin_use-requires-clause-info : goal.walk_record-begin_use-requires-clause-info
+walk_record-begin_use-requires-clause-info t c = rw (sym c.entry_at-info.ensures) at (got_one {X = SymbolInfo} (SymbolTyped c.args.store.now) c.args.world.now.symbols.now c.in_ok-owner.owner c.requires.world.symbols)
+
+pub walk_record-types_put-requires-clause-args : goal.walk_record-types_put-requires-clause-args
+walk_record-types_put-requires-clause-args t c =
+    let typed = rw (sym c.entry_at-info.ensures) at (got_one {X = SymbolInfo} (SymbolTyped c.args.store.now) c.args.world.now.symbols.now c.in_ok-owner.owner c.requires.world.symbols) in
+    types_grow _ _ c.begin_use.ensures.grows c.entry_args.result.now (c.entry_args.ensures.held c.args.store.now typed)
+
+pub walk_record-push_wildcards-requires-clause-types : goal.walk_record-push_wildcards-requires-clause-types
+walk_record-push_wildcards-requires-clause-types t c = rw c.as_slice-wanted.ensures.value c.in_ok-wanted.ensures.held
+
+pub walk_record-push_wildcards-requires-clause-ready : goal.walk_record-push_wildcards-requires-clause-ready
+walk_record-push_wildcards-requires-clause-ready t c = ready_grows _ _ c.types_put.ensures.grows c.begin_use.new.draft c.in_ok-types.ensures.begun.noted.ready
+
+pub walk_record-push_wildcards-requires-clause-held : goal.walk_record-push_wildcards-requires-clause-held
+walk_record-push_wildcards-requires-clause-held t c = rw c.new-parts.ensures (All-nil _)
+
+pub walk_record-walk_fields-requires : goal.walk_record-walk_fields-requires
+walk_record-walk_fields-requires t c =
+    let g = Grows_trans _ _ _ (Grows_trans _ _ _ c.begin_use.ensures.grows c.types_put.ensures.grows) c.push_wildcards.ensures.grows in (
+      omega arith,
+      record {
+        world = world_grows _ _ g c.args.world.now c.requires.world;
+        ready = c.in_ok-push_wildcards.ensures.noted.ready;
+        held = c.in_ok-push_wildcards.ensures.held;
+        wanted = rw c.as_slice-wanted.ensures.value (types_grow _ _ c.push_wildcards.ensures.grows c.in_ok-wanted.wanted.items c.in_ok-wanted.ensures.held);
+        earlier = earlier_grows _ _ g c.args.alternative c.requires.earlier;
+      },
+    )
+
+pub walk_record-join_parts-requires-clause-ready : goal.walk_record-join_parts-requires-clause-ready
+walk_record-join_parts-requires-clause-ready t c = c.in_ok-walk_fields.ensures.put.noted.ready
+
+pub walk_record-join_parts-requires-clause-held : goal.walk_record-join_parts-requires-clause-held
+walk_record-join_parts-requires-clause-held t c =
+    let g = Grows_trans _ _ _ (Grows_trans _ _ _ (Grows_trans _ _ _ c.begin_use.ensures.grows c.types_put.ensures.grows) c.push_wildcards.ensures.grows) c.walk_fields.ensures.grows in
+    each_grows _ _ g c.args.locals.now.items c.requires.held
+
+pub walk_record-join_parts-requires-clause-parts : goal.walk_record-join_parts-requires-clause-parts
+walk_record-join_parts-requires-clause-parts t c = rw c.as_slice-2.ensures c.in_ok-walk_fields.ensures.put.held
+
+pub walk_record-list_of-requires : goal.walk_record-list_of-requires
+walk_record-list_of-requires t c =
+    let g = Grows_trans _ _ _ (Grows_trans _ _ _ (Grows_trans _ _ _ c.types_put.ensures.grows c.push_wildcards.ensures.grows) c.walk_fields.ensures.grows) c.join_parts.ensures.grows in
+    rw c.as_slice-3.ensures.value (types_grow _ _ g c.in_ok-types.types.items c.in_ok-types.ensures.begun.held)
+
+pub walk_record-make-requires-clause-held : goal.walk_record-make-requires-clause-held
+walk_record-make-requires-clause-held t c =
+    let g = Grows_trans _ _ _ (Grows_trans _ _ _ (Grows_trans _ _ _ (Grows_trans _ _ _ (Grows_trans _ _ _ c.begin_use.ensures.grows c.types_put.ensures.grows) c.push_wildcards.ensures.grows) c.walk_fields.ensures.grows) c.join_parts.ensures.grows) c.list_of.ensures.grows in
+    (c.in_ok-list.ensures.held, held_grows _ _ c.list_of.ensures.grows c.in_ok-made.made c.in_ok-made.ensures.joined.held, held_grows _ _ g c.args.ty c.requires.wanted.held)
+
+pub walk_record-make-requires-clause-fits : goal.walk_record-make-requires-clause-fits
+walk_record-make-requires-clause-fits t c =
+    let g = Grows_trans _ _ _ (Grows_trans _ _ _ (Grows_trans _ _ _ (Grows_trans _ _ _ (Grows_trans _ _ _ c.begin_use.ensures.grows c.types_put.ensures.grows) c.push_wildcards.ensures.grows) c.walk_fields.ensures.grows) c.join_parts.ensures.grows) c.list_of.ensures.grows in
+    let parts = c.in_ok-made.ensures.joined in
+    (c.in_ok-list.ensures.list, rw (tree_at-grows _ _ c.in_ok-made.made c.list_of.ensures.grows parts.held) parts.patterns, (type_grows _ _ g c.args.ty c.requires.wanted).kind)
+
+pub walk_record-returns-clause-matched : goal.walk_record-returns-clause-matched
+walk_record-returns-clause-matched t c =
+    let s = c.args.store.now in
+    let k = c.in_ok-owner.owner in
+    let typed = rw (sym c.entry_at-info.ensures) at (got_one {X = SymbolInfo} (SymbolTyped s) c.args.world.now.symbols.now k c.requires.world.symbols) in
+    let e = symbol_got s (option_copied c.entry_at-info.result) in
+    let g = c.begin_use.ensures.grows in
+    let same = entry_got s c.args.world.now.symbols.now k ∙ ap (symbol_got s) (sym c.entry_at-info.ensures) in
+    let args = types_stay _ _ g c.entry_args.result.now (c.entry_args.ensures.held s typed) ∙ c.entry_args.ensures.trees s in
+    let put = rw c.as_slice.ensures.value at c.in_ok-wanted.ensures.trees in
+    let wild = rw (c.new-parts.ensures, c.as_slice-wanted.ensures.value) at c.in_ok-push_wildcards.ensures.parts in
+    let fields = rw c.as_slice-wanted.ensures.value at c.in_ok-walk_fields.ensures.put in
+    let joined = rw c.as_slice-2.ensures at c.in_ok-made.ensures.joined in
+    let list = rw c.as_slice-3.ensures.value at c.in_ok-list.ensures.tree in
+    IfOk-weaker c.make.result _ _ (λ id m. record_matched (field_patterns_of c.args.fields.now) (pattern_fields_of c.args.fields.now) c.requires c.in_ok-wanted.wanted.items c.entry_args.result.now c.in_ok-list.list k e (sym (c.in_ok-owner.ensures s)) same c.in_ok-types.ensures.begun g c.types_put.ensures.grows put args wild c.in_ok-push_wildcards.ensures.noted c.push_wildcards.ensures.grows c.in_ok-wanted.ensures.held fields c.walk_fields.ensures.grows joined c.join_parts.ensures.grows c.list_of.ensures.grows list m c.make.ensures.grows) c.make.ensures.made
+
+pub walk_fields-returns-in_default-clause-put : goal.walk_fields-returns-in_default-clause-put
+walk_fields-returns-in_default-clause-put t c = rw (no_elements c.args.fields.now c.in_default.ensures.cases) (none_put c.requires)
+
+pub walk_fields-walk_pattern-requires : goal.walk_fields-walk_pattern-requires
+walk_fields-walk_pattern-requires t c =
+    (omega (arith, fields_split c.args.fields.now c.in-Some.rest.now c.in-Some.first.now c.in-Some.ensures.cases.0), field_match c.requires c.new-own.result.items c.new-own.ensures.items c.place_type-ty.result c.place_type-ty.ensures.held)
+
+pub walk_fields-walk_fields-requires : goal.walk_fields-walk_fields-requires
+walk_fields-walk_fields-requires t c =
+    let g = c.walk_pattern.ensures.grows in
+    let a = c.in_ok-pattern.ensures.matched in
+    let one = part_made c.new-own.ensures.items a (record { pattern = c.in_ok-pattern.pattern; variables = c.from_vec-variables.result }) refl c.from_vec-variables.ensures in
+    (omega (arith, fields_split c.args.fields.now c.in-Some.rest.now c.in-Some.first.now c.in-Some.ensures.cases.0, some_pattern (code.pattern_of c.in-Some.first.now.value)), fields_on c.requires g a.bound.noted.ready (put_held _ c.args.parts.now _ _ _ (parts_grow _ _ g c.args.parts.now c.requires.held) one.0 c.put_part.ensures))
+
+pub walk_fields-returns-clause-put : goal.walk_fields-returns-clause-put
+walk_fields-returns-clause-put t c =
+    let a = c.in_ok-pattern.ensures.matched in
+    let p : Part = record { pattern = c.in_ok-pattern.pattern; variables = c.from_vec-variables.result } in
+    let one = part_made c.new-own.ensures.items a p refl c.from_vec-variables.ensures in
+    rw c.in-Some.ensures.cases.0 (on_ok_weaker c.walk_fields.result (more_fields c.requires (field_name_of c.in-Some.first.now.name) (pattern_fields_of c.in-Some.rest.now) (abstract_pattern_of c.in-Some.first.now.value) (field_patterns_of c.in-Some.rest.now) c.args.owner c.in_ok-place.place c.place_type-ty.result p (c.in_ok-place.ensures c.args.store.now) c.place_type-ty.ensures.tree c.walk_pattern.ensures.grows a one.1 c.put_part.ensures) c.walk_fields.ensures.put)
