@@ -1,4 +1,5 @@
 pub mod Alike
+pub mod RecordsKept
 pub mod AtScope
 pub mod Scopes
 pub mod Refused

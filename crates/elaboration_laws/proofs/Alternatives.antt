@@ -12,21 +12,24 @@ use Rattle.elab_groups.specs.open_types.unify_types.Assigned.{assign}
 use Rattle.elab_groups.specs.open_types.unify_types.Pairs.{SolvesAll}
 use Rattle.elab_groups.specs.surface.Lexeme.{Word}
 use Rattle.elab_groups.specs.tasks.Vocabulary.{Vocabulary}
-use Rattle.elab_groups.specs.name_resolution.Abstract.{Pattern, Patterns, wildcard_pattern, variable_pattern, constructor_pattern, tuple_pattern, alias_pattern, no_patterns, more_patterns, Alternatives, no_alternatives, more_alternatives, count_patterns}
+use Rattle.elab_groups.specs.name_resolution.Abstract.{Pattern, Patterns, wildcard_pattern, variable_pattern, constructor_pattern, tuple_pattern, alias_pattern, record_pattern, no_patterns, more_patterns, Alternatives, no_alternatives, more_alternatives, count_patterns}
 use Rattle.elab_groups.specs.name_resolution.declared.NamingFault.TheVariants.{WrongKind}
 use Rattle.elab_groups.specs.name_resolution.Faults.{first_of, fault_if, pattern_names, pattern_fault, all_among, same_names, later_fault, alternatives_fault}
+use Rattle.elab_groups.specs.name_resolution.Records.{record_named}
 use Rattle.elab_groups.specs.name_resolution.Where.{Where, place_of}
-use Rattle.elab_groups.specs.open_types.Patterns.{LocalTree, local, taken, first_or_int, rest_of, entry_of, part_types, Matched, local_type, variable_equations, pattern_piece, patterns_piece, later_pieces, alternatives_pieces, all_notes, pattern_trees, first_variables, place_among, places_among, reordered, later_arms, arms}
-use Rattle.elab_groups.specs.open_types.Pieces.{names}
+use Rattle.elab_groups.specs.open_types.Patterns.{LocalTree, local, taken, first_or_int, rest_of, entry_of, part_types, place_types, PatternTree, tree_of_matched, part_pieces, Matched, local_type, variable_equations, pattern_piece, patterns_piece, later_pieces, alternatives_pieces, all_notes, pattern_trees, first_variables, place_among, places_among, reordered, later_arms, arms}
+use Rattle.elab_groups.specs.open_types.Pieces.{field_places, names}
+use Rattle.elab_groups.proofs.name_resolution.SameNames.{SameNames}
 use Rattle.elab_groups.proofs.open_types.Walking.{none_both, must_be}
 use Rattle.elab_groups.proofs.open_types.Below.{both_all}
 use Rattle.elab_groups.proofs.open_types.Branching.{pattern_variables}
 use Rattle.elaboration_laws.specs.Signature.{IsWellFormed, AlternativesTuples}
 use Rattle.elaboration_laws.specs.Typed.{assigned_types}
-use Rattle.elaboration_laws.proofs.Words.{same_word, self_word, is_in, is_in_reverse, AreNew, pattern_new, among_count}
+use Rattle.elaboration_laws.proofs.Words.{same_word, self_word, is_in, is_in_reverse, AreNew, pattern_new, same_new, same_among, among_count}
 use Rattle.elaboration_laws.proofs.Over.{IsOver, IsGood}
 use Rattle.elaboration_laws.proofs.Forms.{TypedAs}
 use Rattle.elaboration_laws.proofs.Sound.{IsPatternAt, AreNoted, both_noted, none_noted, first_solved, rest_solved, LocalsOver, sig}
+use Rattle.elaboration_laws.proofs.Placing.{fields_all}
 use Rattle.elaboration_laws.proofs.Patterns.{inner_types, IsMatched, pattern_sound}
 use Rattle.elaboration_laws.proofs.Arms.{AreArms, arm_typed, order_assigned}
 use Rattle.elaboration_laws.proofs.Reordering.{sort_at, type_at, reordered_good}
@@ -104,6 +107,11 @@ module _ (w : Where) (r : ℕ) (f : ℕ → Tree) (first : List LocalTree) where
         let inner = pattern_piece w (Some first) n t p in
         let b = variable_equations (Some first) x t in
         both_all (HasFirst r f first) inner.variables (local x t ∷ []) (pattern_binds p n t (first_solved r f inner.notes.equations b s)) ((rest_solved r f inner.notes.equations b s).0, tt)
+    pattern_binds (record_pattern i fs ps) n t s =
+        let c = entry_of w.symbols (Some (record_named w.symbols w.names fs)) in
+        let places = field_places w fs in
+        let ts = part_types n c in
+        fields_all (HasFirst r f first) places ts (map tree_of_matched (part_pieces w (Some first) (n + c.symbol.vars) (place_types places ts) ps)) (parts_bind ps (n + c.symbol.vars) (place_types places ts) s.1)
 
     patterns_bind : (ps : Patterns) (n : ℕ) (ts : List Tree) → SolvesAll r f (patterns_piece w (Some first) n ts ps).notes.equations → AllByRecursion (HasFirst r f first) (patterns_piece w (Some first) n ts ps).variables
     patterns_bind no_patterns n ts s = tt
@@ -112,6 +120,14 @@ module _ (w : Where) (r : ℕ) (f : ℕ → Tree) (first : List LocalTree) where
         let rest = patterns_piece w (Some first) (n + taken one.notes) (rest_of ts) ps in
         both_all (HasFirst r f first) one.variables rest.variables (pattern_binds p n (first_or_int ts) (first_solved r f one.notes.equations rest.notes.equations s))
         (patterns_bind ps (n + taken one.notes) (rest_of ts) (rest_solved r f one.notes.equations rest.notes.equations s))
+
+    parts_bind : (ps : Patterns) (n : ℕ) (ts : List Tree) → SolvesAll r f (all_notes (part_pieces w (Some first) n ts ps)).equations
+        → AllByRecursion (λ (q : PatternTree). AllByRecursion (HasFirst r f first) q.variables) (map tree_of_matched (part_pieces w (Some first) n ts ps))
+    parts_bind no_patterns n ts s = tt
+    parts_bind (more_patterns p ps) n ts s =
+        let one = pattern_piece w (Some first) n (first_or_int ts) p in
+        let rest = all_notes (part_pieces w (Some first) (n + taken one.notes) (rest_of ts) ps) in
+        (pattern_binds p n (first_or_int ts) (first_solved r f one.notes.equations rest.equations s), parts_bind ps (n + taken one.notes) (rest_of ts) (rest_solved r f one.notes.equations rest.equations s))
 
 -- ---- the arms of a branch
 module _ (base : Vocabulary) (w : Where) (good : IsWellFormed base w) (rigid : ℕ) where
@@ -126,23 +142,23 @@ module _ (base : Vocabulary) (w : Where) (good : IsWellFormed base w) (rigid : �
   abbrev AreLater : List LocalTree → Tree → List Matched → Type 0
   AreLater first t ms = AllByRecursion (IsLater first t) ms
 
-  later_sound : (ps : Alternatives) (first : List LocalTree) (n : ℕ) (t : Tree) → LocalsOver (sig base w) first → IsOver (sig base w) true t → AlternativesTuples base w ps → later_fault w (names first) ps ≡ None → AreLater first t (later_pieces w first n t ps)
-  later_sound no_alternatives first n t h o u q = tt
-  later_sound (more_alternatives i p ps) first n t h o u q =
-      let same = same_names (names first) (pattern_names p) in
-      let k = none_both (fault_if (not same) (WrongKind i)) (first_of (pattern_fault w [] p) (later_fault w (names first) ps)) q in
-      let l = none_both (pattern_fault w [] p) (later_fault w (names first) ps) k.1 in
-      let z = both_true (all_among (names first) (pattern_names p)) (all_among (pattern_names p) (names first)) (must_be same (WrongKind i) k.0) in
+  later_sound : (ps : Alternatives) (first : List LocalTree) (ns : List Word) (n : ℕ) (t : Tree) → SameNames (names first) ns → LocalsOver (sig base w) first → IsOver (sig base w) true t → AlternativesTuples base w ps → later_fault w ns ps ≡ None → AreLater first t (later_pieces w first n t ps)
+  later_sound no_alternatives first ns n t b h o u q = tt
+  later_sound (more_alternatives i p ps) first ns n t b h o u q =
+      let same = same_names ns (pattern_names p) in
+      let k = none_both (fault_if (not same) (WrongKind i)) (first_of (pattern_fault w [] p) (later_fault w ns ps)) q in
+      let l = none_both (pattern_fault w [] p) (later_fault w ns ps) k.1 in
+      let z = both_true (all_among ns (pattern_names p)) (all_among (pattern_names p) ns) (must_be same (WrongKind i) k.0) in
       let one = pattern_piece w (Some first) n t p in
-      let e : names one.variables ≡ pattern_names p = pattern_variables w (Some first) n t p in
+      let e : SameNames (names one.variables) (pattern_names p) = pattern_variables w (Some first) n t p [] l.0 in
       let it : IsLater first t one = record {
         matched = pattern_sound base w good rigid p (Some first) n t [] h o u.0 l.0;
         binds = λ f s. pattern_binds w rigid f first p n t s;
-        among = rw e z.0;
-        back = rw e z.1;
-        new = rw e (pattern_new w p [] l.0);
+        among = same_among (names first) (names one.variables) ns (pattern_names p) b e z.0;
+        back = same_among (names one.variables) (names first) (pattern_names p) ns e b z.1;
+        new = same_new (names one.variables) (pattern_names p) e (pattern_new w p [] l.0);
       } in
-      (it, later_sound ps first (n + taken one.notes) t h o u.1 l.1)
+      (it, later_sound ps first ns (n + taken one.notes) t b h o u.1 l.1)
 
   count_names : (vs : List LocalTree) → length (names vs) ≡ length vs
   count_names vs = length-map vs (λ (l : LocalTree). l.name)
@@ -217,11 +233,11 @@ module _ (base : Vocabulary) (w : Where) (good : IsWellFormed base w) (rigid : �
   alternatives_sound (more_alternatives i p ps) n s o u q =
       let k = none_both (pattern_fault w [] p) (later_fault w (pattern_names p) ps) q in
       let one = pattern_piece w None n s p in
-      let e : names one.variables ≡ pattern_names p = pattern_variables w None n s p in
+      let e : SameNames (names one.variables) (pattern_names p) = pattern_variables w None n s p [] k.0 in
       let x = pattern_sound base w good rigid p None n s [] tt o u.0 k.0 in
-      let new : AreNew [] (names one.variables) = rw e (pattern_new w p [] k.0) in
+      let new : AreNew [] (names one.variables) = same_new (names one.variables) (pattern_names p) e (pattern_new w p [] k.0) in
       let ms = later_pieces w one.variables (n + taken one.notes) s ps in
-      let y = later_sound ps one.variables (n + taken one.notes) s x.variables o u.1 (rw e k.1) in
+      let y = later_sound ps one.variables (pattern_names p) (n + taken one.notes) s e x.variables o u.1 k.1 in
       record {
         notes = both_noted base w rigid one.notes (all_notes ms) x.notes (later_over one.variables s ms y);
         patterns = λ f g z.

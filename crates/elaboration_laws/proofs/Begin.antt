@@ -1,12 +1,13 @@
 -- A signature with `int` alone and a scope without names are typed.
-use Rattle.std.proofs.Common.{◌≡◌, ℕ, zero, suc, true, false, [], ◌∷◌, length, slice_get, Some, IsTrue, refl, subst}
+use Rattle.std.proofs.Common.{◌≡◌, ℕ, ◌<◌, zero, suc, true, false, [], ◌∷◌, length, slice_get, Some, IsTrue, refl, subst, arith}
 use Rattle.std.proofs.lemmas.List.Elements.{All-nil, All-cons}
 use Rattle.elab_groups.specs.trees.Facts.{TyVarsBelow}
 use Rattle.elab_groups.specs.tasks.declared.signature.SymbolKind.TheVariants.{Constructor}
-use Rattle.elab_groups.specs.tasks.Task.{SymbolTree, int_symbol}
+use Rattle.elab_groups.specs.tasks.Task.{SymbolTree, int_symbol, symbol_or}
 use Rattle.elab_groups.specs.tasks.Vocabulary.{Vocabulary, is_empty}
 use Rattle.elab_groups.specs.tasks.Valid.{IsTypeIn}
 use Rattle.elab_groups.specs.scopes.Names.{empty_names}
+use Rattle.elab_groups.specs.name_resolution.Records.{constructor_before}
 use Rattle.elab_groups.specs.parts.Outcomes.{Setting}
 use Rattle.elab_groups.specs.open_types.Scoped.{IsScopedEntry}
 use Rattle.std.specs.Str.{bytes_eq}
@@ -32,6 +33,10 @@ module _ (base : Vocabulary) (may : IsTrue (base.usable 0)) where
   int_at zero e q = may
   int_at (suc k) e q = absurd (cc)
 
+  none_before : (k : ℕ) → k < 1 → (symbol_or (int_symbol ∷ []) (constructor_before (int_symbol ∷ []) k)).kind ≡ Constructor → ⊥
+  none_before zero l q = absurd (cc (q))
+  none_before (suc k) l q = absurd (omega (arith, l))
+
   int_typed : IsTypedSignature base (int_symbol ∷ [])
   int_typed = record {
     int = refl;
@@ -41,6 +46,7 @@ module _ (base : Vocabulary) (may : IsTrue (base.usable 0)) where
     constructors = λ k e q u c. absurd (int_alone (λ (i : SymbolTree). i.kind ≡ Constructor → ⊥) (λ z. cc) k e q c);
     patterns = λ k e q u. int_at k e q;
     tuples = λ n k e q t. absurd (int_alone (λ (i : SymbolTree). is_tuple n i ≡ true → ⊥) (λ z. cc) k e q t);
+    records = λ k l u q. absurd (none_before k l q);
   }
 
   pub begins : (c : Setting) → is_empty c.theory ≡ false → bytes_eq c.theory builtin ≡ false → c.symbols ≡ int_symbol ∷ [] → c.scope ≡ empty_names → IsTypedSetting base c

@@ -1,12 +1,14 @@
 -- A theory that begins is sound, and one that ends stays so.
-use Rattle.std.proofs.Common.{◌≡◌, ◌≢◌, ◌⊎◌, inl, inr, ℕ, ◌+◌, ◌-◌, ◌<◌, ◌&&◌, ◌||◌, zero, suc, cond, Bool, true, false, List, [], ◌∷◌, ◌++◌, length, get_or, slice_get, All, Option, Some, None, IsTrue, codes, refl, sym, ap, subst, ◌∙◌, arith, append-nil}
+use Rattle.std.proofs.Common.{◌≡◌, ◌≢◌, ◌⊎◌, inl, inr, ℕ, ◌+◌, ◌-◌, ◌<◌, ◌&&◌, ◌||◌, zero, suc, cond, Bool, true, false, List, [], ◌∷◌, ◌++◌, length, get_or, slice_get, All, Option, Some, None, IsTrue, codes, refl, sym, ap, subst, ◌∙◌, arith, append-nil, not}
 use Rattle.std.specs.List.{Contains}
 use Rattle.std.specs.Str.{bytes_eq}
 use Rattle.std.specs.Fmt.{decimal}
 use Rattle.std.proofs.lemmas.List.Elements.{All-nil, All-cons, All-append, All-contains, Contains-get_or, Contains-append_left, Contains-append_right}
 use Rattle.elab_groups.specs.trees.Facts.{TyVarsBelow}
 use Rattle.elab_groups.specs.tasks.declared.signature.SymbolKind.{SymbolKind}
-use Rattle.elab_groups.specs.tasks.declared.signature.SymbolKind.TheVariants.{Constructor}
+use Rattle.elab_groups.specs.tasks.declared.signature.SymbolKind.TheVariants.{Constructor, Projection}
+use Rattle.elab_groups.specs.name_resolution.Records.{is_projection, constructor_before}
+use Rattle.elaboration_laws.proofs.Extended.{plain_before}
 use Rattle.elab_groups.specs.tasks.Task.{SymbolTree, int_symbol, symbol_or, DeclarationTree}
 use Rattle.elab_groups.specs.tasks.Equations.{type_variables}
 use Rattle.elab_groups.specs.tasks.Vocabulary.{Vocabulary, is_empty, passes, is_constructor_kind}
@@ -46,6 +48,14 @@ slice_or (x ∷ xs) (suc k) e q = slice_or xs k e q
 or_none : (a : Bool) → IsTrue (a || false) → IsTrue a
 or_none true h = refl
 or_none false h = h
+
+-- what is built in is no projection
+pub built_plain : (e : SymbolTree) → is_built e ≡ true → is_projection e.kind ≡ false
+built_plain e h = of e.kind (both_true (bytes_eq e.theory builtin) (not (is_projection_kind e.kind)) h).1
+  where
+    of : (k : SymbolKind) → not (is_projection_kind k) ≡ true → is_projection k ≡ false
+    of Projection q = absurd (cc (q))
+    of _ q = refl
 
 module _ (symbols : List SymbolTree) (built : IsBuiltRight symbols) where
   abbrev v : Vocabulary
@@ -117,6 +127,9 @@ module _ (symbols : List SymbolTree) (built : IsBuiltRight symbols) where
     constructors = λ k e q h z. con_matched k e q (usable_built k e q h) z;
     patterns = λ k e q h. matched_usable symbols [] k h;
     tuples = λ n k e q z. built_usable k e q (tuple_built n e z);
+    records = λ k l u q.
+        let b = usable_built k (symbol_or symbols k) (some_at symbols k int_symbol l) u in
+        subst (λ (j : ℕ). IsTrue (v.usable j)) (sym (plain_before symbols k (built_plain (symbol_or symbols k) b))) u;
   }
 
 -- ---- a theory begins

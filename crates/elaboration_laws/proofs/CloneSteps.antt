@@ -14,7 +14,7 @@ use Rattle.elaboration_laws.proofs.Distinct.{IsDistinct, pairs_distinct}
 use Rattle.elaboration_laws.proofs.TupleDecls.{made_both}
 use Rattle.elaboration_laws.proofs.Grown.{front_sound}
 use Rattle.elaboration_laws.specs.Cloning.{IsImage, BecomesNew, IsFixed, IsCloning}
-use Rattle.elaboration_laws.specs.Steps.{CopyStep, copies, leaves, joins, declaration_of, declarations_of, taken_of, made_of, made_from, StepFits, IsClone}
+use Rattle.elaboration_laws.specs.Steps.{CopyStep, copies, leaves, joins, declaration_of, declarations_of, taken_of, made_of, made_from, StepFits, IsClone, BecomesNumbered}
 use Rattle.elaboration_laws.proofs.Vocabularies.{made_below}
 use Rattle.elaboration_laws.proofs.Extending.{image_more}
 use Rattle.elaboration_laws.proofs.Copied.{made_mapped, in_mapped, cloning_copied}
@@ -201,7 +201,10 @@ module _ (m : Map) (theory within : List ℕ) (first : List DeclarationTree) whe
     -- a copy
     module _ (pre rest : List CopyStep) (d : DeclarationTree) (whole : ss ≡ (pre ++ copies d ∷ []) ++ rest) (before : IsCloning xs (declarations_of pre) m all (first ++ makes pre)) where
       copy_fits : All (λ (k : ℕ). BecomesNew xs all m theory within k × (Contains (made first) (m.symbols k) → ⊥)) (made_by d.body)
-      copy_fits = fits pre rest (copies d) whole before (copies d) (this_in pre rest (copies d) whole before)
+      copy_fits = (fits pre rest (copies d) whole before (copies d) (this_in pre rest (copies d) whole before)).0
+
+      copy_numbers : BecomesNumbered m d
+      copy_numbers = (fits pre rest (copies d) whole before (copies d) (this_in pre rest (copies d) whole before)).1
 
       new_at : (k : ℕ) → Contains (made_by d.body) k → BecomesNew xs all m theory within k
       new_at k c = (All-contains (λ (k : ℕ). BecomesNew xs all m theory within k × (Contains (made first) (m.symbols k) → ⊥)) (made_by d.body) k copy_fits c).0
@@ -236,7 +239,7 @@ module _ (m : Map) (theory within : List ℕ) (first : List DeclarationTree) whe
 
       copied_step : IsCloning xs (declarations_of (pre ++ copies d ∷ [])) m all (first ++ makes (pre ++ copies d ∷ []))
       copied_step = finished pre rest (copies d) whole before
-          (cloning_copied xs (declarations_of pre) m all (first ++ makes pre) before d (source_next pre rest (copies d) whole before) theory within h.named h.not_built (λ i k l. (copy_fits i k l).0) apart_at)
+          (cloning_copied xs (declarations_of pre) m all (first ++ makes pre) before d (source_next pre rest (copies d) whole before) theory within h.named h.not_built (λ i k l. (copy_fits i k l).0) apart_at copy_numbers)
 
     -- one that is left out
     left_step : (pre rest : List CopyStep) (d : DeclarationTree) → ss ≡ (pre ++ leaves d ∷ []) ++ rest → IsCloning xs (declarations_of pre) m all (first ++ makes pre) → IsCloning xs (declarations_of (pre ++ leaves d ∷ [])) m all (first ++ makes (pre ++ leaves d ∷ []))

@@ -21,7 +21,7 @@ use Rattle.theory_states.specs.goal_tasks.Theories.{GoalTree}
 use Rattle.elaboration_laws.specs.Built.{IsBuiltRight}
 use Rattle.elaboration_laws.specs.Joined.{has_theory, fresh, Agree}
 use Rattle.elaboration_laws.specs.Tasks.{AreSound}
-use Rattle.elaboration_laws.proofs.Grown.{more_part, sound_more, behind_more}
+use Rattle.elaboration_laws.proofs.Grown.{more_part, sound_more, after_more}
 use Rattle.elaboration_laws.proofs.Joined.{later_sound, into_made}
 use Rattle.theory_states.specs.declared.states.AxiomAt.{AxiomAt}
 use Rattle.theory_states.specs.States.{KnownTree, StateTree, visible_in, visible_now}
@@ -152,7 +152,7 @@ module _ (c c' : StateTree) (t : KnownTree) (tuples more : List SymbolTree) (new
   goal_next g y =
       over_next (λ (zs : List SymbolTree) (ds : List DeclarationTree). IsSoundAmong zs ds g)
       (among_more all first (made_from m p within first ss) g
-      (subst (λ (zs : List SymbolTree). IsSoundAmong zs first g) (sym grown) (record { before = y.before; sound = behind_more c.symbols (tuples ++ more) (take g.before first) g y.sound (subst IsBuiltRight grown built_all) })))
+      (subst (λ (zs : List SymbolTree). IsSoundAmong zs first g) (sym grown) (record { before = y.before; sound = after_more c.symbols (tuples ++ more) (take g.before first) g y.sound (subst IsBuiltRight grown built_all) })))
 
   -- ---- places
   new_theory : (i : ℕ) (d : DeclarationTree) → slice_get new i ≡ Some d → d.theory ≡ p

@@ -19,7 +19,10 @@ use Rattle.clones.specs.Copies.{definition_mapped, inductive_mapped, con_mapped,
 use Rattle.elab_groups.specs.parts.Entries.{builtin}
 use Rattle.elaboration_laws.specs.Lists.{is_built, after}
 use Rattle.elaboration_laws.proofs.Lists.{maker_both, list_part, list_valid}
-use Rattle.elaboration_laws.specs.Tasks.{IsOwnSymbol, IsOfTheory, AreSound}
+use Rattle.elab_groups.specs.name_resolution.Records.{is_projection}
+use Rattle.elaboration_laws.specs.Steps.{BecomesNumbered}
+use Rattle.elaboration_laws.proofs.MadeRecords.{numbered_records}
+use Rattle.elaboration_laws.specs.Tasks.{IsOwnSymbol, IsOfTheory, AreSound, HasRecords}
 use Rattle.elaboration_laws.proofs.Distinct.{IsDistinct, distinct_pairs, pairs_distinct, distinct_both}
 use Rattle.elaboration_laws.proofs.TupleDecls.{made_both}
 use Rattle.elaboration_laws.proofs.Grown.{then_valid, front_distinct}
@@ -183,7 +186,7 @@ kinds_become _ n = tt
 
 -- ---- a copy
 module _ (xs : List SymbolTree) (pre : List DeclarationTree) (m : Map) (symbols : List SymbolTree) (now : List DeclarationTree) (h : IsCloning xs pre m symbols now) (d : DeclarationTree) (whole : AreSound xs (pre ++ d ∷ []))
-    (theory within : List ℕ) (named : is_empty theory ≡ false) (source : bytes_eq theory builtin ≡ false) (news : All (BecomesNew xs symbols m theory within) (made_by d.body)) (apart : (k : ℕ) → Contains (made_by d.body) k → Contains (made now) (m.symbols k) → ⊥) where
+    (theory within : List ℕ) (named : is_empty theory ≡ false) (source : bytes_eq theory builtin ≡ false) (news : All (BecomesNew xs symbols m theory within) (made_by d.body)) (apart : (k : ℕ) → Contains (made_by d.body) k → Contains (made now) (m.symbols k) → ⊥) (numbers : BecomesNumbered m d) where
   abbrev copy : DeclarationTree
   copy = declaration_copied m theory within d
 
@@ -272,6 +275,23 @@ module _ (xs : List SymbolTree) (pre : List DeclarationTree) (m : Map) (symbols 
   of_theory : IsOfTheory symbols copy
   of_theory = subst (All (λ (k : ℕ). (symbol_or symbols k).theory ≡ theory)) (sym (made_mapped m d.body)) (All-map (λ (k : ℕ). (symbol_or symbols k).theory ≡ theory) m.symbols (made_by d.body) (λ i j l. ap (λ (e : SymbolTree). e.theory) (entry_is (get_or (made_by d.body) i j) (Contains-get_or (made_by d.body) i j l))))
 
+  abbrev HasTheirs : DeclarationTree → Type 0
+  HasTheirs b = HasRecords symbols (made_by b.body)
+
+  records_copied : HasTheirs copy
+  records_copied = subst (HasRecords symbols) (sym (made_mapped m d.body)) (numbered_records symbols numbers.0 (map m.symbols (made_by d.body)) numbers.1 (first (made_by d.body) refl))
+    where
+      old : HasRecords xs (made_by d.body)
+      old = All-contains (λ (b : DeclarationTree). HasRecords xs (made_by b.body)) (pre ++ d ∷ []) d whole.records (Contains-append_right pre (d ∷ []) d (0, omega arith, refl))
+
+      first : (ks : List ℕ) → made_by d.body ≡ ks → (k : ℕ) → slice_get (map m.symbols ks) 0 ≡ Some k → is_projection (symbol_or symbols k).kind ≡ false
+      first [] q k e = absurd (cc (e))
+      first (j ∷ js) q k e =
+          let z : m.symbols j ≡ k = cc (e) in
+          let c : Contains (made_by d.body) j = subst (λ (ks : List ℕ). Contains ks j) (sym q) (0, omega arith, refl) in
+          let kind : (symbol_or symbols (m.symbols j)).kind ≡ (symbol_or xs j).kind = ap (λ (i : SymbolTree). i.kind) (entry_is j c) in
+          subst (λ (i : ℕ). is_projection (symbol_or symbols i).kind ≡ false) z (ap is_projection kind ∙ old.first j (ap (λ (ks : List ℕ). slice_get ks 0) q))
+
   made_copy : made (now ++ copy ∷ []) ≡ made now ++ map m.symbols (made_by d.body)
   made_copy = made_both now (copy ∷ []) ∙ ap (λ (ks : List ℕ). made now ++ ks) (append-nil (made_by copy.body) ∙ made_mapped m d.body)
 
@@ -292,6 +312,7 @@ module _ (xs : List SymbolTree) (pre : List DeclarationTree) (m : Map) (symbols 
       once = distinct_pairs (made (now ++ copy ∷ [])) distinct_copy;
       own = subst (All (IsOwnSymbol symbols)) (sym (made_both now (copy ∷ []) ∙ ap (λ (ks : List ℕ). made now ++ ks) (append-nil (made_by copy.body)))) (All-append (IsOwnSymbol symbols) (made now) (made_by copy.body) h.sound.own own_copied);
       theories = All-append (IsOfTheory symbols) now (copy ∷ []) h.sound.theories (All-cons (IsOfTheory symbols) copy [] of_theory (All-nil (IsOfTheory symbols)));
+      records = All-append HasTheirs now (copy ∷ []) h.sound.records (All-cons HasTheirs copy [] records_copied (All-nil HasTheirs));
     };
     morphism = morphism_copied;
   }

@@ -14,13 +14,14 @@ use Rattle.clones.specs.Mapped.{Map, mapped}
 use Rattle.clones.specs.Copies.{declaration_copied, entry_copied}
 use Rattle.elab_groups.specs.open_types.Scoped.{IsScopedEntry}
 use Rattle.elaboration_laws.specs.Scopes.{is_projection_kind, IsTypedEntry, IsTypedSignature}
-use Rattle.elaboration_laws.proofs.Extended.{entry_more}
+use Rattle.elaboration_laws.proofs.Extended.{entry_more, plain_before}
 use Rattle.elaboration_laws.specs.Lists.{is_built, after}
 use Rattle.elaboration_laws.proofs.Lists.{list_part, list_valid}
-use Rattle.elaboration_laws.specs.Tasks.{IsOwnSymbol, AreSound}
+use Rattle.elab_groups.specs.name_resolution.Records.{constructor_before}
+use Rattle.elaboration_laws.specs.Tasks.{IsOwnSymbol, AreSound, HasRecords}
 use Rattle.elaboration_laws.proofs.Distinct.{pairs_distinct}
-use Rattle.elaboration_laws.proofs.Joined.{matched_usable, into_made, maker_found, maker_is}
-use Rattle.elaboration_laws.proofs.Begun.{built_typed, slice_or}
+use Rattle.elaboration_laws.proofs.Joined.{matched_usable, into_made, maker_found, maker_is, from_made}
+use Rattle.elaboration_laws.proofs.Begun.{built_typed, slice_or, built_plain}
 use Rattle.elaboration_laws.specs.Cloning.{BecomesNew, IsMadeRight, AreMadeRight}
 use Rattle.elaboration_laws.proofs.Vocabularies.{usable_cases, made_below}
 use Rattle.elaboration_laws.proofs.Copied.{made_mapped, role_mapped}
@@ -94,6 +95,16 @@ module _ (symbols : List SymbolTree) (ds : List DeclarationTree) (sound : AreSou
         right_of (passes (λ (x : SymbolTree). is_built x && is_constructor_kind x.kind) (slice_get symbols k)) (is_constructor (role_by k (maker ds k)))
         (subst (λ (o : Option DeclarationTree). IsTrue (is_constructor (role_by k o))) (sym y) ((right_in k d y).constructor kind)))
 
+    record_usable : (k : ℕ) → k < length symbols → IsTrue (v.usable k) → IsTrue (passes is_built (slice_get symbols k)) ⊎ Contains (made ds) k → IsTrue (v.usable (constructor_before symbols k))
+    record_usable k l u (inl b) =
+        let e = symbol_or symbols k in
+        let is : is_built e ≡ true = subst (λ (o : Option SymbolTree). IsTrue (passes is_built o)) (some_at symbols k int_symbol l) b in
+        subst (λ (j : ℕ). IsTrue (v.usable j)) (sym (plain_before symbols k (built_plain e is))) u
+    record_usable k l u (inr c) =
+        let z = from_made ds k c in
+        let records = All-contains (λ (d : DeclarationTree). HasRecords symbols (made_by d.body)) ds z.0 sound.records z.1 in
+        usable_at (constructor_before symbols k) (into_made ds z.0 (constructor_before symbols k) z.1 (All-contains (λ (j : ℕ). Contains (made_by z.0.body) (constructor_before symbols j)) (made_by z.0.body) k records.before z.2))
+
     pub signature_of : IsTypedSignature v symbols
     signature_of = record {
       int = begun.int;
@@ -103,6 +114,7 @@ module _ (symbols : List SymbolTree) (ds : List DeclarationTree) (sound : AreSou
       constructors = λ k e q u z. con_matched k e q z (usable_cases symbols ds k u);
       patterns = λ k e q m. matched_usable symbols ds k m;
       tuples = λ n k e q z. (list_part symbols [] [] ds).usable k e q (begun.tuples n k e q z);
+      records = λ k l u q. record_usable k l u (usable_cases symbols ds k u);
     }
 
 -- ---- a copy

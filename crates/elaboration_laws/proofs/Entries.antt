@@ -11,7 +11,9 @@ use Rattle.clones.specs.Mapped.{Map, mapped}
 use Rattle.clones.specs.Copies.{entry_copied}
 use Rattle.elab_groups.specs.parts.Entries.{builtin}
 use Rattle.elaboration_laws.specs.Scopes.{NamesNew, AgreeBelow, IsTypedEntry, IsTypedSignature}
-use Rattle.elaboration_laws.proofs.Extended.{further, slice_all, in_either, signature_more, signature_agrees}
+use Rattle.elab_groups.specs.name_resolution.Records.{constructor_before}
+use Rattle.elab_groups.proofs.parts.RecordsKept.{before_below}
+use Rattle.elaboration_laws.proofs.Extended.{further, slice_all, in_either, signature_more, signature_agrees, RecordsFrom}
 use Rattle.elaboration_laws.specs.Built.{IsBuiltRight}
 use Rattle.elaboration_laws.proofs.Kept.{IsOfSource, source_kept}
 use Rattle.elaboration_laws.specs.Morphisms.{MapsTypes}
@@ -56,7 +58,7 @@ module _ (xs ys : List SymbolTree) (h : IsTypedSignature (of_signature xs) xs) (
       of (inr z) = slice_all IsGrounded ys grounded (k - length xs) e z.1
 
   pub further_typed : IsTypedSignature base (xs ++ ys)
-  further_typed = signature_more base xs ys (signature_agrees (of_signature xs) base xs agree h) typed news
+  further_typed = signature_more base xs ys (signature_agrees (of_signature xs) base xs agree h) typed news later
     where
       news : NamesNew base (length xs) (xs ++ ys)
       news k e l q = record {
@@ -65,6 +67,24 @@ module _ (xs ys : List SymbolTree) (h : IsTypedSignature (of_signature xs) xs) (
         pattern = λ m. subst (λ (o : Option SymbolTree). IsTrue (passes (λ i. not (is_empty i.theory)) o)) (sym q)
             (not_true (is_empty e.theory) (grounded_at k e l q (subst (λ (o : Option SymbolTree). IsTrue (passes (λ i. is_constructor_kind i.kind) o)) q m)));
       }
+
+      later : RecordsFrom base (length xs) (xs ++ ys)
+      later k l m u q =
+          let c = constructor_before (xs ++ ys) k in
+          let e = symbol_or (xs ++ ys) c in
+          let there = some_at (xs ++ ys) c int_symbol (omega (arith, m, before_below (xs ++ ys) k)) in
+          of (in_either xs ys c e there)
+        where
+          of : (slice_get xs (constructor_before (xs ++ ys) k) ≡ Some (symbol_or (xs ++ ys) (constructor_before (xs ++ ys) k)))
+              ⊎ ((length xs ≤ constructor_before (xs ++ ys) k) × (slice_get ys (constructor_before (xs ++ ys) k - length xs) ≡ Some (symbol_or (xs ++ ys) (constructor_before (xs ++ ys) k)))) → IsTrue (base.usable (constructor_before (xs ++ ys) k))
+          of (inl z) =
+              let c = constructor_before (xs ++ ys) k in
+              subst (λ (b : Bool). IsTrue b) (agree.usable c (slice_below xs c (symbol_or (xs ++ ys) c) z))
+              (h.patterns c (symbol_or (xs ++ ys) c) z (subst (λ (o : Option SymbolTree). IsTrue (passes (λ i. is_constructor_kind i.kind) o)) (sym z) (rw q refl)))
+          of (inr z) =
+              let c = constructor_before (xs ++ ys) k in
+              let n = news c (symbol_or (xs ++ ys) c) z.0 (some_at (xs ++ ys) c int_symbol (omega (arith, m, before_below (xs ++ ys) k))) in
+              n.pattern (n.matched q)
 
 -- ---- copies
 pub result_mapped : (m : Map) (o : Option Tree) → IsSomeAnd o (λ t. Unit {0}) → IsSomeAnd (option_map (mapped m) o) (λ t. Unit {0})

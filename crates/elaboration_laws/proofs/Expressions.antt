@@ -1,5 +1,5 @@
 -- Each piece is well typed at each solution of its equations, which are between types over the signature.
-use Rattle.std.proofs.Common.{◌≡◌, ℕ, ◌+◌, suc, Bool, true, false, cond, List, [], ◌∷◌, ◌++◌, map, reverse, replicate, length, Option, Some, None, IfSome, option_map, sym, ap, subst, ◌∙◌, append_assoc}
+use Rattle.std.proofs.Common.{◌≡◌, ℕ, ◌+◌, suc, Bool, true, false, cond, List, [], ◌∷◌, ◌++◌, map, reverse, replicate, length, Option, Some, None, IfSome, option_map, refl, sym, ap, subst, ◌∙◌, append_assoc}
 use Rattle.std.specs.Option.{is_none}
 use Rattle.std.specs.List.{AllByRecursion}
 use Rattle.std.proofs.lemmas.List.{map-append}
@@ -12,11 +12,15 @@ use Rattle.elab_groups.specs.open_types.unify_types.Assigned.{assign}
 use Rattle.elab_groups.specs.open_types.unify_types.Pairs.{SolvesAll}
 use Rattle.elab_groups.specs.surface.Lexeme.{Word}
 use Rattle.elab_groups.specs.tasks.Vocabulary.{Vocabulary}
-use Rattle.elab_groups.specs.name_resolution.Abstract.{TypeExpression, BoundNames, Expression, Expressions, MatchBranches, applied_expression, infix_expression, integer_expression, true_expression, false_expression, tuple_expression, cast_expression, field_expression, not_expression, connected_expression, equality_expression, if_expression, let_expression, match_expression, quantified_expression, no_expressions, more_expressions, no_branches, more_branches, count_expressions, no_alternatives, more_alternatives}
-use Rattle.elab_groups.specs.name_resolution.Faults.{first_of, name_fault, field_fault, type_fault, binders_fault, bound_names, is_formula_trigger, token, fault, faults, triggers_fault, branches_fault, alternatives_fault, alternatives_names, has_alternative}
+use Rattle.elab_groups.specs.name_resolution.Abstract.{TypeExpression, BoundNames, Expression, Expressions, MatchBranches, applied_expression, infix_expression, integer_expression, true_expression, false_expression, tuple_expression, cast_expression, field_expression, record_expression, not_expression, connected_expression, equality_expression, if_expression, let_expression, match_expression, quantified_expression, no_expressions, more_expressions, no_branches, more_branches, count_expressions, no_alternatives, more_alternatives}
+use Rattle.elab_groups.specs.name_resolution.Faults.{first_of, name_fault, field_fault, record_fault, type_fault, binders_fault, bound_names, is_formula_trigger, token, fault, faults, triggers_fault, branches_fault, alternatives_fault, alternatives_names, has_alternative}
+use Rattle.elab_groups.specs.name_resolution.Records.{record_named}
 use Rattle.elab_groups.specs.name_resolution.Where.{Where}
-use Rattle.elab_groups.specs.open_types.Patterns.{LocalTree, local, noted, taken, first_or_int, rest_of, alternatives_pieces, follow, no_notes, all_notes, pattern_trees, first_variables, arms}
-use Rattle.elab_groups.specs.open_types.Pieces.{type_at, NotedTree, unknown_after, unknown, noted_before, piece, pieces, triggers_notes, branches_arms, Arms, use_of_name, field_use, tuple_use, use_vars, parameters, equality, binder_locals, binder_vars, binders_vars, bound, untyped, locals_of_type, quantify, names}
+use Rattle.elab_groups.specs.tasks.Task.{symbol_or}
+use Rattle.elab_groups.proofs.name_resolution.Fielded.{is_fielded}
+use Rattle.elab_groups.proofs.name_resolution.SameNames.{SameNames, same_both, same_reverse, same_names_self, fault_same}
+use Rattle.elab_groups.specs.open_types.Patterns.{LocalTree, local, noted, taken, first_or_int, rest_of, place_types, alternatives_pieces, follow, no_notes, all_notes, pattern_trees, first_variables, arms}
+use Rattle.elab_groups.specs.open_types.Pieces.{type_at, NotedTree, unknown_after, unknown, noted_before, piece, pieces, triggers_notes, branches_arms, Arms, use_of_name, field_use, tuple_use, record_use, field_places, values_placed, piece_under, use_vars, parameters, equality, binder_locals, binder_vars, binders_vars, bound, untyped, locals_of_type, quantify, names}
 use Rattle.elab_groups.proofs.open_types.Walking.{none_both, in_cast, in_negation, in_joined, in_equated, in_choice, in_binding}
 use Rattle.elab_groups.proofs.open_types.Below.{both_all}
 use Rattle.elab_groups.proofs.open_types.Branching.{in_cases, first_names}
@@ -29,19 +33,20 @@ use Rattle.elaboration_laws.proofs.Instances.{cells_assigned}
 use Rattle.elaboration_laws.proofs.Arms.{IsArm, AreArms, match_typed}
 use Rattle.elaboration_laws.proofs.Alternatives.{names_reverse, alternatives_sound}
 use Rattle.elaboration_laws.proofs.Signed.{int_over, form_over}
-use Rattle.elaboration_laws.proofs.Sound.{IsPatternAt, AreNoted, noted_sound, both_noted, none_noted, suc_same, more_over, first_solved, rest_solved, LocalsOver, both_locals, WantedOver, first_over, rest_over, parameters_count, usable_over, sig, named_usable, field_usable, tuple_usable, IsSound, AreSound, no_arguments, more_arguments, one_argument, two_arguments, used_sound}
+pub use Rattle.elaboration_laws.proofs.Placing.{split_all}
+use Rattle.elaboration_laws.proofs.Placing.{new_among, all_among_named, fields_long, places_long, places_over, pieces_cells, pieces_count}
+use Rattle.elaboration_laws.proofs.Sound.{IsPatternAt, AreNoted, noted_sound, both_noted, none_noted, suc_same, more_over, first_solved, rest_solved, LocalsOver, both_locals, WantedOver, first_over, rest_over, parameters_count, usable_over, sig, named_usable, field_usable, record_usable, values_sound, tuple_usable, IsSound, AreSound, no_arguments, more_arguments, one_argument, two_arguments, used_sound}
 use Rattle.elab_groups.proofs.open_types.Arguments.{names_both}
+use Rattle.elaboration_laws.proofs.Placing.{fit_members as cells_fit}
 
 pub names_inside : (vs ls : List LocalTree) (ns : List Word) → names vs ≡ ns → names (reverse vs ++ ls) ≡ reverse ns ++ names ls
 names_inside vs ls ns q = names_both (reverse vs) ls ∙ ap (λ (r : List Word). r ++ names ls) (names_reverse vs ∙ ap reverse q)
 
-cells_fit : (ts : List Tree) → IndicesFit (cells ts) → AllByRecursion IndicesFit ts
-cells_fit [] h = tt
-cells_fit (t ∷ ts) h = (h.0, cells_fit ts h.1)
-
-pub split_all : {A : Type 0} (P : A → Type 0) (xs ys : List A) → AllByRecursion P (xs ++ ys) → AllByRecursion P xs × AllByRecursion P ys
-split_all P [] ys h = (tt, h)
-split_all P (x ∷ xs) ys h = let k = split_all P xs ys h.1 in ((h.0, k.0), k.1)
+-- where variables have these names in some order
+pub names_within : (vs ls : List LocalTree) (ns : List Word) → SameNames (names vs) ns → SameNames (names (reverse vs ++ ls)) (reverse ns ++ names ls)
+names_within vs ls ns h =
+    subst (λ (us : List Word). SameNames us (reverse ns ++ names ls)) (sym (names_inside vs ls (names vs) refl))
+    (same_both (reverse (names vs)) (names ls) (reverse ns) (names ls) (same_reverse (names vs) ns h) (same_names_self (names ls)))
 
 module _ (base : Vocabulary) (w : Where) (good : IsWellFormed base w) (rigid : ℕ) where
   pub reversed_over : (vs : List LocalTree) → LocalsOver (sig base w) vs → LocalsOver (sig base w) (reverse vs)
@@ -170,6 +175,24 @@ module _ (base : Vocabulary) (w : Where) (good : IsWellFormed base w) (rigid : �
         let ts = parameters n d in
         used_sound base w good rigid ls n t i 1 d _ k z (one_argument base w good rigid ls ts (piece w ls (n + use_vars d) (Some (first_or_int ts)) e) (parameters_count (sig base w) ls (is_none t) 1 n d z)
         (sound e ls (n + use_vars d) (Some (first_or_int ts)) h (first_over (sig base w) ts (int_over base w good) (usable_over (sig base w) ls (is_none t) 1 n d z)) u p.0))
+    sound (record_expression i fs es) ls n None h k u q = absurd (cc)
+    sound (record_expression i fs es) ls n (Some t) h k u q =
+        let p = none_both (record_fault w true i (count_expressions es) fs) (faults w false (names ls) es) q in
+        let e = symbol_or w.symbols (record_named w.symbols w.names fs) in
+        let d = record_use w fs in
+        let z = record_usable base w good rigid ls true i (count_expressions es) fs p.0 in
+        let it = is_fielded w true i (count_expressions es) fs p.0 in
+        let ts = parameters n d in
+        let places = field_places w fs in
+        let o = usable_over (sig base w) ls false (length e.args) n d z in
+        let m = n + use_vars d in
+        let all = pieces w ls m (place_types places ts) es in
+        let args : length ts ≡ length e.args = parameters_count (sig base w) ls false (length e.args) n d z in
+        let long = fields_long w true (count_expressions es) fs it in
+        used_sound base w good rigid ls n (Some t) i (length e.args) d (piece_under (values_placed places (length ts)) all) k z
+        (values_sound base w good rigid ls places ts all (pieces_cells w ls m (place_types places ts) es) (new_among w true (count_expressions es) fs (length ts) it args) (long ∙ sym (pieces_count w ls m (place_types places ts) es))
+        (all_among_named w (count_expressions es) fs (length ts) it args)
+        (all_sound es ls m (place_types places ts) (places_long places ts ∙ long) h (places_over (sig base w) (int_over base w good) places ts o) u p.1))
     sound (not_expression i e) ls n None h k u q =
         let p = in_negation w false (names ls) true i e q in
         let x = sound e ls n None h tt u p.1 in
@@ -299,8 +322,8 @@ module _ (base : Vocabulary) (w : Where) (good : IsWellFormed base w) (rigid : �
         let body = piece w inside c t b in
         let rest = branches_arms w ls (unknown_after c body) s t bs in
         let h' = both_locals (sig base w) (reverse vs) ls (reversed_over vs a.variables) h in
-        let ns : within ≡ names inside = sym (names_inside vs ls (alternatives_names ps) (first_names w n s ps)) in
-        let x = sound b inside c t h' k u.1 (subst (λ (l : List Word). fault w false l (is_none t) b ≡ None) ns m.0) in
+        let ns : SameNames (names inside) within = names_within vs ls (alternatives_names ps) (first_names w n s ps p.0) in
+        let x = sound b inside c t h' k u.1 (fault_same w b false (names inside) within (is_none t) ns ∙ m.0) in
         let y = branches_sound bs ls (unknown_after c body) s t h o k u.2 m.1 in
         let es = (all_notes ms).equations ++ body.notes.equations in
         record {

@@ -1,5 +1,5 @@
 -- What is typed over a signature is typed over one with further entries.
-use Rattle.std.proofs.Common.{◌≡◌, ℕ, ◌-◌, ◌<◌, ◌≤◌, ◌==◌, ◌&&◌, ◌⊎◌, zero, suc, Bool, true, false, inl, inr, subst, List, [], ◌∷◌, ◌++◌, length, get_or, slice_get, All, Option, Some, None, IfSome, IsSomeAnd, IsTrue, refl, sym, ap, ◌∙◌, arith}
+use Rattle.std.proofs.Common.{◌≡◌, ℕ, ◌+◌, ◌-◌, ◌<◌, ◌≤◌, ◌==◌, ◌&&◌, ◌⊎◌, zero, suc, Bool, true, false, cond, inl, inr, subst, List, [], ◌∷◌, ◌++◌, length, get_or, slice_get, All, Option, Some, None, IfSome, IsSomeAnd, IsTrue, refl, sym, ap, ◌∙◌, arith, length-append}
 use Rattle.std.specs.Str.{bytes_eq}
 use Rattle.std.proofs.lemmas.List.Elements.{All-append}
 use Rattle.elab_groups.specs.trees.Tree.{Tree, Leaf, One, Two, Three, Head, HTyRigid, HTyApp, HPred, HFun, HPatCon}
@@ -12,7 +12,9 @@ use Rattle.elab_groups.specs.tasks.Valid.{IsTypeIn, HasTypes}
 use Rattle.elab_groups.specs.scopes.declared.Table.{Table}
 use Rattle.elab_groups.specs.scopes.declared.Table.TheVariants.{Types, Symbols, Propositions, Scopes}
 use Rattle.elab_groups.specs.scopes.declared.Referent.TheVariants as stands
+use Rattle.elab_groups.specs.name_resolution.Records.{is_projection, constructor_before}
 use Rattle.elab_groups.specs.name_resolution.Where.{MeaningTree, NamesTree}
+use Rattle.elab_groups.proofs.parts.RecordsKept.{before_below, entry_kept, before_kept}
 use Rattle.elab_groups.specs.open_types.Scoped.{IsScopedEntry}
 use Rattle.elab_groups.specs.parts.Entries.{builtin, is_tuple}
 use Rattle.elaboration_laws.specs.Signature.{with_entries}
@@ -110,8 +112,45 @@ tuple_builtin n e q =
     no_projection Constructor z = refl
     no_projection _ z = absurd (cc)
 
-pub signature_more : (base : Vocabulary) (xs ys : List SymbolTree) → IsTypedSignature base xs → All (IsTypedEntry (with_entries base (xs ++ ys))) ys → NamesNew base (length xs) (xs ++ ys) → IsTypedSignature base (xs ++ ys)
-signature_more base xs ys h typed news =
+-- ---- the constructors before fields
+pub plain_before : (symbols : List SymbolTree) (k : ℕ) → is_projection (symbol_or symbols k).kind ≡ false → constructor_before symbols k ≡ k
+plain_before symbols zero h = refl
+plain_before symbols (suc k) h = ap (λ (b : Bool). cond b (constructor_before symbols k) (suc k)) h
+
+-- after an entry that is no projection
+pub before_from : (symbols : List SymbolTree) (n : ℕ) → is_projection (symbol_or symbols n).kind ≡ false → (d k : ℕ) → k ≡ n + d → n ≤ constructor_before symbols k
+before_from symbols n h zero k e = let q : k ≡ n = omega (arith, e) in subst (λ (i : ℕ). n ≤ constructor_before symbols i) (sym q) (let p = plain_before symbols n h in omega (arith, p))
+before_from symbols n h (suc d) zero e = absurd (omega (arith, e))
+before_from symbols n h (suc d) (suc k) e = of (is_projection (symbol_or symbols (suc k)).kind) (before_from symbols n h d k (omega (arith, e)))
+  where
+    of : (b : Bool) → n ≤ constructor_before symbols k → n ≤ cond b (constructor_before symbols k) (suc k)
+    of true l = l
+    of false l = omega (arith, e)
+
+abbrev pub BeginsPlain : List SymbolTree → Type 0
+BeginsPlain [] = Unit {0}
+BeginsPlain (e ∷ es) = is_projection e.kind ≡ false
+
+-- of the fields from a number on
+abbrev pub RecordsFrom : Vocabulary → ℕ → List SymbolTree → Type 0
+RecordsFrom base n symbols = (k : ℕ) → n ≤ k → k < length symbols → IsTrue (base.usable k) → (symbol_or symbols (constructor_before symbols k)).kind ≡ Constructor → IsTrue (base.usable (constructor_before symbols k))
+
+begins_at : (xs ys : List SymbolTree) → 0 < length ys → BeginsPlain ys → is_projection (symbol_or (xs ++ ys) (length xs)).kind ≡ false
+begins_at [] [] l h = absurd (omega (arith, l))
+begins_at [] (e ∷ ys) l h = h
+begins_at (x ∷ xs) ys l h = begins_at xs ys l h
+
+pub records_later : (base : Vocabulary) (xs ys : List SymbolTree) → BeginsPlain ys → NamesNew base (length xs) (xs ++ ys) → RecordsFrom base (length xs) (xs ++ ys)
+records_later base xs ys h news = λ k l m u q.
+    let c = constructor_before (xs ++ ys) k in
+    let some : 0 < length ys = omega (arith, l, m, length-append xs ys) in
+    let from : length xs ≤ constructor_before (xs ++ ys) k = before_from (xs ++ ys) (length xs) (begins_at xs ys some h) (k - length xs) k (omega (arith, l)) in
+    let there = some_at (xs ++ ys) c int_symbol (omega (arith, m, before_below (xs ++ ys) k)) in
+    let new = news c (symbol_or (xs ++ ys) c) from there in
+    new.pattern (new.matched q)
+
+pub signature_more : (base : Vocabulary) (xs ys : List SymbolTree) → IsTypedSignature base xs → All (IsTypedEntry (with_entries base (xs ++ ys))) ys → NamesNew base (length xs) (xs ++ ys) → RecordsFrom base (length xs) (xs ++ ys) → IsTypedSignature base (xs ++ ys)
+signature_more base xs ys h typed news later =
     let v = with_entries base xs in
     let w = with_entries base (xs ++ ys) in
     record {
@@ -122,6 +161,7 @@ signature_more base xs ys h typed news =
       constructors = λ k e q u c. matched_at k e q u c (in_either xs ys k e q);
       patterns = λ k e q u. pattern_at k e q u (in_either xs ys k e q);
       tuples = λ n k e q z. tuple_at n k e q z (in_either xs ys k e q);
+      records = λ k l u q. record_at k l u q (in_either xs ys k (symbol_or (xs ++ ys) k) (some_at (xs ++ ys) k int_symbol l));
     }
   where
     typed_at : (k : ℕ) (e : SymbolTree) → slice_get (xs ++ ys) k ≡ Some e → IsTrue (base.usable k) → (slice_get xs k ≡ Some e) ⊎ ((length xs ≤ k) × (slice_get ys (k - length xs) ≡ Some e)) → IsTypedEntry (with_entries base (xs ++ ys)) e
@@ -139,6 +179,15 @@ signature_more base xs ys h typed news =
     tuple_at : (n k : ℕ) (e : SymbolTree) → slice_get (xs ++ ys) k ≡ Some e → is_tuple n e ≡ true → (slice_get xs k ≡ Some e) ⊎ ((length xs ≤ k) × (slice_get ys (k - length xs) ≡ Some e)) → IsTrue (base.usable k)
     tuple_at n k e q t (inl z) = h.tuples n k e z t
     tuple_at n k e q t (inr z) = (news k e z.0 q).usable (tuple_builtin n e t)
+
+    record_at : (k : ℕ) → k < length (xs ++ ys) → IsTrue (base.usable k) → (symbol_or (xs ++ ys) (constructor_before (xs ++ ys) k)).kind ≡ Constructor
+        → (slice_get xs k ≡ Some (symbol_or (xs ++ ys) k)) ⊎ ((length xs ≤ k) × (slice_get ys (k - length xs) ≡ Some (symbol_or (xs ++ ys) k))) → IsTrue (base.usable (constructor_before (xs ++ ys) k))
+    record_at k l u q (inl z) =
+        let m : k < length xs = slice_below xs k (symbol_or (xs ++ ys) k) z in
+        let c : constructor_before xs k ≡ constructor_before (xs ++ ys) k = before_kept xs ys k m in
+        let kind = ap (λ (e : SymbolTree). e.kind) (entry_kept xs ys (constructor_before xs k) (omega (arith, m, before_below xs k)) ∙ ap (symbol_or (xs ++ ys)) c) in
+        subst (λ (j : ℕ). IsTrue (base.usable j)) c (h.records k m u (kind ∙ q))
+    record_at k l u q (inr z) = later k z.0 l u q
 
 -- ---- over a vocabulary that may name the same of the entries
 module _ (v w : Vocabulary) (symbols : List SymbolTree) (a : AgreeBelow v w (length symbols)) where
@@ -165,6 +214,10 @@ module _ (v w : Vocabulary) (symbols : List SymbolTree) (a : AgreeBelow v w (len
     constructors = λ k e q u c. agrees_part.matched k e q (h.constructors k e q (back k e q u) c);
     patterns = λ k e q m. agrees_part.usable k e q (h.patterns k e q (along (w.matched k) (v.matched k) (sym (a.matched k (slice_below symbols k e q))) m));
     tuples = λ n k e q t. agrees_part.usable k e q (h.tuples n k e q t);
+    records = λ k l u q.
+        let c = constructor_before symbols k in
+        let m = before_below symbols k in
+        along (v.usable c) (w.usable c) (a.usable c (omega (arith, l, m))) (h.records k l (along (w.usable k) (v.usable k) (sym (a.usable k l)) u) q);
   }
     where
       back : (k : ℕ) (e : SymbolTree) → slice_get symbols k ≡ Some e → IsTrue (w.usable k) → IsTrue (v.usable k)

@@ -19,7 +19,7 @@ use Rattle.elaboration_laws.specs.Built.{IsBuiltRight}
 use Rattle.elaboration_laws.specs.Tasks.{AreSound}
 use Rattle.elaboration_laws.proofs.Distinct.{IsDistinct, distinct_pairs, pairs_distinct, distinct_both, range_contains, range_distinct}
 use Rattle.elaboration_laws.proofs.TupleDecls.{in_range}
-use Rattle.elaboration_laws.proofs.Grown.{more_part, sound_more, behind_more}
+use Rattle.elaboration_laws.proofs.Grown.{more_part, sound_more, after_more}
 use Rattle.theory_states.specs.declared.states.AxiomAt.{AxiomAt}
 use Rattle.theory_states.specs.States.{KnownTree, OpenedTree, StateTree, at_places, visible_now}
 use Rattle.elaboration_laws.specs.Whole.{IsWhole}
@@ -114,7 +114,7 @@ module _ (all more : List SymbolTree) (built : IsBuiltRight (all ++ more)) (decl
     }
       where
         goal_more : (x : GoalTree) → IsSoundAmong all (at_places decls t.visible) x → IsSoundAmong (all ++ more) (at_places decls t.visible) x
-        goal_more x y = record { before = y.before; sound = behind_more all more (take x.before (at_places decls t.visible)) x y.sound built }
+        goal_more x y = record { before = y.before; sound = after_more all more (take x.before (at_places decls t.visible)) x y.sound built }
 
     still_apart : IsApart (decls ++ new) path t
     still_apart = subst (All (λ (d : DeclarationTree). d.theory ≢ path)) (sym same) apart
@@ -200,7 +200,7 @@ module _ (all more : List SymbolTree) (decls new : List DeclarationTree) (o o' :
     part = part_then (after all [] ds) (after (all ++ more) [] ds) (after (all ++ more) [] both) (more_part all more [] ds) (list_part (all ++ more) [] ds new)
 
     goal_still : (x : GoalTree) → IsSoundAmong all ds x → IsSoundAmong (all ++ more) both x
-    goal_still x y = among_more (all ++ more) ds new x (record { before = y.before; sound = behind_more all more (take x.before ds) x y.sound sound.built })
+    goal_still x y = among_more (all ++ more) ds new x (record { before = y.before; sound = after_more all more (take x.before ds) x y.sound sound.built })
 
     other_sound : AreSound (all ++ more) (others o'.path both)
     other_sound =

@@ -3,10 +3,10 @@ use Rattle.std.proofs.Common.{◌≡◌, ℕ, ◌+◌, ◌≤◌, suc, true, fal
 use Rattle.std.proofs.lemmas.List.Elements.{All-nil, All-cons}
 use Rattle.std.proofs.Math.ListN.{length-map}
 use Rattle.elab_groups.specs.trees.Tree.{Tree}
-use Rattle.elab_groups.specs.tasks.Task.{SymbolTree}
+use Rattle.elab_groups.specs.tasks.Task.{SymbolTree, ConstructorTree, AlgebraicTree}
 use Rattle.elab_groups.specs.tasks.Vocabulary.{Vocabulary, is_empty}
 use Rattle.elab_groups.specs.tasks.Typing.{IsTypeSymbol}
-use Rattle.elab_groups.specs.tasks.Valid.{IsTypeIn, IsAlgebraic, IsValidDecl}
+use Rattle.elab_groups.specs.tasks.Valid.{IsTypeIn, IsAlgebraic, IsValidDecl, own_type}
 use Rattle.elab_groups.specs.surface.Lexeme.{Word}
 use Rattle.elab_groups.specs.name_resolution.Abstract.{no_types, more_types}
 use Rattle.elab_groups.specs.name_resolution.declared.NamingFault.{NamingFault}
@@ -24,7 +24,7 @@ use Rattle.elab_declarations.specs.elab_groups.members.Members.{type_copies, par
 use Rattle.elab_declarations.proofs.elab_groups.members.ParamsClosed.{fields_below}
 use Rattle.elab_groups.specs.parts.Outcomes.{Setting, tuples_wanting}
 use Rattle.elab_groups.proofs.parts.Scopes.{tuples_below}
-use Rattle.elab_declarations.specs.type_declarations.Algebraics.{constructors_seen, types_seen, group_seen, count_fields, entry_count, first_type, first_constructor, group_names, type_entries, constructor_trees, algebraic_trees, group_trees, group_entries, group_outcome}
+use Rattle.elab_declarations.specs.type_declarations.Algebraics.{constructors_seen, types_seen, group_seen, count_fields, entry_count, first_type, first_constructor, group_names, type_entries, constructor_trees, algebraic_trees, group_trees, group_entries, group_outcome, constructors_entries}
 use Rattle.elab_declarations.specs.type_declarations.Algebraics as group
 use Rattle.elaboration_laws.specs.Signature.{with_entries, IsMeaning, HasTuple}
 use Rattle.elaboration_laws.specs.Scopes.{NamesNew, IsTypedEntry, IsTypedSignature, AreTypedScopes}
@@ -33,7 +33,7 @@ use Rattle.elaboration_laws.proofs.Signed.{forms_by}
 use Rattle.elaboration_laws.proofs.Widths.{IsWithin, forms_tuples}
 use Rattle.elaboration_laws.proofs.Bodies.{params_grow}
 use Rattle.elaboration_laws.proofs.Scopes.{types_alone, types_meant}
-use Rattle.elaboration_laws.proofs.Extended.{entries_part, news_front, news_later, type_more, signature_more, scopes_extended}
+use Rattle.elaboration_laws.proofs.Extended.{entries_part, news_front, news_later, type_more, signature_more, scopes_extended, BeginsPlain, records_later}
 use Rattle.elaboration_laws.proofs.Tuples.{has_tuple, tuple_front, tuples_there, tuple_of, type_entry_typed}
 use Rattle.elaboration_laws.specs.Valid.{IsTypedSetting, IsValidOutcome}
 use Rattle.elaboration_laws.proofs.Settings.{inside, inside_typed, of_below, meaning_scoped}
@@ -49,6 +49,27 @@ types_grow [] s = λ n h. h
 types_grow (a ∷ ts) s = λ n h. types_grow ts (constructors_seen s a.constructors) n (constructors_grow a.constructors s n h)
 
 -- ---- entries of types
+-- entries of types and constructors begin with no projection
+begins_both : (xs ys : List SymbolTree) → BeginsPlain xs → BeginsPlain ys → BeginsPlain (xs ++ ys)
+begins_both [] ys h k = k
+begins_both (x ∷ xs) ys h k = h
+
+types_plain : (theory within : Word) (ts : List AlgebraicType) → BeginsPlain (type_entries theory within ts)
+types_plain theory within [] = tt
+types_plain theory within (a ∷ ts) = refl
+
+constructors_plain : (theory within : Word) (vars : ℕ) (type : Tree) (ks : List AlgebraicConstructor) (cs : List ConstructorTree) → BeginsPlain (constructors_entries theory within vars type ks cs)
+constructors_plain theory within vars type [] cs = tt
+constructors_plain theory within vars type (k ∷ ks) [] = tt
+constructors_plain theory within vars type (k ∷ ks) (c ∷ cs) = refl
+
+group_plain : (theory within : Word) (ts : List AlgebraicType) (ys : List AlgebraicTree) → BeginsPlain (group_entries theory within ts ys)
+group_plain theory within [] ys = tt
+group_plain theory within (a ∷ ts) [] = tt
+group_plain theory within (a ∷ ts) (y ∷ ys) =
+    let cons = constructors_entries theory within (length a.vars) (own_type y.symbol (length a.vars)) a.constructors y.cons in
+    begins_both cons (group_entries theory within ts ys) (constructors_plain theory within (length a.vars) (own_type y.symbol (length a.vars)) a.constructors y.cons) (group_plain theory within ts ys)
+
 module _ (theory within : Word) where
   count_types : (ts : List AlgebraicType) → length (type_entries theory within ts) ≡ length ts
   count_types [] = refl
@@ -146,8 +167,9 @@ module _ (base : Vocabulary) (c : Setting) (h : IsTypedSetting base c) where
       let news : NamesNew base m front = news_front base m front T news_types in
       let past : m ≤ length front = omega (arith, length-append c.symbols tuples) in
       let v = with_entries base S in
+      let news_front' : NamesNew base (length front) (front ++ T) = news_later base m (length front) (front ++ T) past news_types in
       let sig : IsTypedSignature base S = subst (IsTypedSignature base) assoc
-      (signature_more base front T (inside_typed base c h seen news) (types_typed c.theory c.within (with_entries base (front ++ T)) ts) (news_later base m (length front) (front ++ T) past news_types)) in
+      (signature_more base front T (inside_typed base c h seen news) (types_typed c.theory c.within (with_entries base (front ++ T)) ts) news_front' (records_later base front T (types_plain c.theory c.within ts) news_front')) in
       let whole_types : front ++ (T ++ []) ≡ S = ap (λ (es : List SymbolTree). front ++ es) nil ∙ assoc in
       let at_types : EntriesAt base S i T = subst (λ (all : List SymbolTree). EntriesAt base all i T) whole_types
       (entries_at base m T front [] i refl past (subst (λ (all : List SymbolTree). NamesNew base m all) (sym whole_types) (news_front base m S G news_all))) in
@@ -161,7 +183,8 @@ module _ (base : Vocabulary) (c : Setting) (h : IsTypedSetting base c) where
       let u = with_entries base A in
       let in_ = group_in base w sig meant refl u (λ k t x. type_more v u (entries_part base S G) k t x) c.theory c.within A refl h.theory ts i n unseen types_here widths q in
       let past_types : m ≤ length S = omega (arith, length-append c.symbols (tuples ++ T)) in
-      let whole : IsTypedSignature base A = signature_more base S G sig (group_typed c.theory c.within h.theory u ts (group_trees c ts) in_) (news_later base m (length S) A past_types news_all) in
+      let news_last = news_later base m (length S) A past_types news_all in
+      let whole : IsTypedSignature base A = signature_more base S G sig (group_typed c.theory c.within h.theory u ts (group_trees c ts) in_) news_last (records_later base S G (group_plain c.theory c.within ts (group_trees c ts)) news_last) in
       let count : n ≡ length S = omega (arith, count_types c.theory c.within ts, length-append front T, ap length assoc) in
       let last : G ++ [] ≡ G = append-nil G in
       let whole_last : S ++ (G ++ []) ≡ A = ap (λ (es : List SymbolTree). S ++ es) last in

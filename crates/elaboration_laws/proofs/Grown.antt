@@ -17,13 +17,14 @@ use Rattle.elaboration_laws.proofs.Propositions.{formula_more}
 use Rattle.elaboration_laws.proofs.Stays.{declaration_stays}
 use Rattle.theory_states.specs.goal_tasks.Theories.{GoalTree}
 use Rattle.elaboration_laws.specs.Built.{IsBuiltRight}
-use Rattle.elaboration_laws.specs.Tasks.{IsOwnSymbol, IsOfTheory, AreSound, IsQuotedAt, IsSoundGoal, IsSoundAfter}
+use Rattle.elaboration_laws.proofs.MadeRecords.{records_more}
+use Rattle.elaboration_laws.specs.Tasks.{IsOwnSymbol, IsOfTheory, AreSound, IsQuotedAt, IsSoundGoal, IsSoundAfter, HasRecords}
 use Rattle.elaboration_laws.proofs.Distinct.{IsDistinct, distinct_pairs, pairs_distinct}
 use Rattle.elaboration_laws.proofs.TupleDecls.{made_both}
 use Rattle.elaboration_laws.proofs.TaskSound.{each_made}
 
 pub none_sound : (symbols : List SymbolTree) → IsBuiltRight symbols → AreSound symbols []
-none_sound symbols b = record { built = b; valid = tt; once = distinct_pairs [] tt; own = All-nil (IsOwnSymbol symbols); theories = All-nil (IsOfTheory symbols) }
+none_sound symbols b = record { built = b; valid = tt; once = distinct_pairs [] tt; own = All-nil (IsOwnSymbol symbols); theories = All-nil (IsOfTheory symbols); records = All-nil (λ (d : DeclarationTree). HasRecords symbols (made_by d.body)) }
 
 -- ---- more entries
 module _ (xs ys : List SymbolTree) where
@@ -70,8 +71,14 @@ module _ (xs ys : List SymbolTree) where
       let z : symbol_or (xs ++ ys) n ≡ symbol_or xs n = get_or_append_left xs ys int_symbol n (own_below n (All-contains (IsOwnSymbol xs) (made ds) n h.own c)) in
       ap (λ (e : SymbolTree). e.theory) z ∙ q
 
+  all_records : (ds : List DeclarationTree) → AreSound xs ds → All (λ (d : DeclarationTree). HasRecords (xs ++ ys) (made_by d.body)) ds
+  all_records ds h = λ i d l.
+      let x = get_or ds i d in
+      records_more xs ys (made_by x.body)
+      (λ j k m. own_below (get_or (made_by x.body) j k) (All-contains (IsOwnSymbol xs) (made ds) (get_or (made_by x.body) j k) h.own (each_made ds i d l (get_or (made_by x.body) j k) (Contains-get_or (made_by x.body) j k m)))) (h.records i d l)
+
   pub sound_more : (ds : List DeclarationTree) → AreSound xs ds → IsBuiltRight (xs ++ ys) → AreSound (xs ++ ys) ds
-  sound_more ds h b = record { built = b; valid = more_valid [] ds h.valid; once = h.once; own = λ k i l. own_more (get_or (made ds) k i) (h.own k i l); theories = theory_more ds h }
+  sound_more ds h b = record { built = b; valid = more_valid [] ds h.valid; once = h.once; own = λ k i l. own_more (get_or (made ds) k i) (h.own k i l); theories = theory_more ds h; records = all_records ds h }
 
   quoted_more : (k : ℕ) → IsQuotedAt xs k → IsQuotedAt (xs ++ ys) k
   quoted_more k q = record { name = q.name; quoted = q.quoted; entry = further xs ys k _ q.entry }
@@ -83,8 +90,8 @@ module _ (xs ys : List SymbolTree) where
     formula = formula_more (after xs g.rigid ds) (after (xs ++ ys) g.rigid ds) (more_part g.rigid ds) 0 g.prop h.formula;
   }
 
-  pub behind_more : (ds : List DeclarationTree) (g : GoalTree) → IsSoundAfter xs ds g → IsBuiltRight (xs ++ ys) → IsSoundAfter (xs ++ ys) ds g
-  behind_more ds g h b = record { before = sound_more ds h.before b; goal = goal_more ds g h.goal }
+  pub after_more : (ds : List DeclarationTree) (g : GoalTree) → IsSoundAfter xs ds g → IsBuiltRight (xs ++ ys) → IsSoundAfter (xs ++ ys) ds g
+  after_more ds g h b = record { before = sound_more ds h.before b; goal = goal_more ds g h.goal }
 
 -- ---- two lists
 pub then_valid : (symbols : List SymbolTree) (before xs ys : List DeclarationTree) → AreValidAfter symbols before xs → AreValidAfter symbols (before ++ xs) ys → AreValidAfter symbols before (xs ++ ys)
@@ -116,4 +123,5 @@ front_sound symbols xs ys h =
           let c : Contains (made (xs ++ ys)) (get_or (made xs) k i) = subst (λ (ns : List ℕ). Contains ns (get_or (made xs) k i)) (sym e) (Contains-append_left (made xs) (made ys) (get_or (made xs) k i) (Contains-get_or (made xs) k i l)) in
           All-contains (IsOwnSymbol symbols) (made (xs ++ ys)) (get_or (made xs) k i) h.own c;
       theories = front_all (IsOfTheory symbols) xs ys h.theories;
+      records = front_all (λ (d : DeclarationTree). HasRecords symbols (made_by d.body)) xs ys h.records;
     }

@@ -30,7 +30,7 @@ module _ (ts : List Tree) where
   put_assigns d (Three h a b c) = cc (put_assigns d a, put_assigns d b, put_assigns d c)
 
 module _ (v : Vocabulary) where
-  put_over : (ts : List Tree) → AreOver v ts → (j : ℕ) (d : Tree) → IsOver v true d → IsOver v true (get_or ts j d)
+  pub put_over : (ts : List Tree) → AreOver v ts → (j : ℕ) (d : Tree) → IsOver v true d → IsOver v true (get_or ts j d)
   put_over [] o j d h = h
   put_over (t ∷ ts) o zero d h = o.0
   put_over (t ∷ ts) o (suc j) d h = put_over ts o.1 j d h

@@ -11,13 +11,16 @@ use Rattle.elab_groups.specs.tasks.Vocabulary.{passes, is_constructor_kind}
 use Rattle.elab_groups.specs.tasks.Valid.{IsValidDecl}
 use Rattle.elab_groups.proofs.tasks.Declared.{none_in, any_iff, maker_made, made_maker}
 use Rattle.elaboration_laws.specs.Scopes.{IsSubvocabulary, IsTypedEntry, IsTypedSignature}
+use Rattle.elab_groups.specs.name_resolution.Records.{constructor_before}
+use Rattle.elab_groups.proofs.parts.RecordsKept.{before_below, entry_kept, before_kept}
+use Rattle.elaboration_laws.proofs.Declarations.{below as slice_below}
 use Rattle.elaboration_laws.proofs.Extended.{further, entry_more}
 use Rattle.elaboration_laws.proofs.Words.{self_word}
 use Rattle.elaboration_laws.specs.Lists.{is_built, after, AreValidAfter}
 use Rattle.elaboration_laws.proofs.Lists.{or_more, list_part}
 use Rattle.elaboration_laws.proofs.Stays.{declaration_stays}
 use Rattle.elaboration_laws.specs.Joined.{has_theory, fresh, Agree}
-use Rattle.elaboration_laws.specs.Tasks.{IsOwnSymbol, IsOfTheory, AreSound}
+use Rattle.elaboration_laws.specs.Tasks.{IsOwnSymbol, IsOfTheory, AreSound, HasRecords}
 use Rattle.elaboration_laws.proofs.Distinct.{IsDistinct, distinct_pairs, pairs_distinct, distinct_both}
 use Rattle.elaboration_laws.proofs.TupleDecls.{made_both}
 use Rattle.elaboration_laws.proofs.TaskSound.{each_made, maker_all}
@@ -219,6 +222,7 @@ module _ (symbols : List SymbolTree) (ds es : List DeclarationTree) (first : Are
     once = distinct_pairs (made (ds ++ new)) distinct;
     own = subst (All (IsOwnSymbol symbols)) (sym (made_both ds new)) (All-append (IsOwnSymbol symbols) (made ds) (made new) first.own (λ k i l. All-contains (IsOwnSymbol symbols) (made es) (get_or (made new) k i) second.own (filter_made p es (get_or (made new) k i) (Contains-get_or (made new) k i l))));
     theories = All-append (IsOfTheory symbols) ds new first.theories (All-filter p (IsOfTheory symbols) es second.theories);
+    records = All-append (λ (d : DeclarationTree). HasRecords symbols (made_by d.body)) ds new first.records (All-filter p (λ (d : DeclarationTree). HasRecords symbols (made_by d.body)) es second.records);
   }
 
   -- what the second list makes may be named as before
@@ -326,6 +330,7 @@ module _ (xs ys : List SymbolTree) (ds es : List DeclarationTree) (first : AreSo
       constructors = λ k e q h z. con_of k e q z (from k e q h);
       patterns = λ k e q h. matched_usable all joined k h;
       tuples = λ n k e q z. first_part.usable k e q (typed.tuples n k e q z);
+      records = λ k l u q. record_of k l q (from k (symbol_or all k) (some_at all k int_symbol l) u);
     }
       where
         entry_of : (k : ℕ) (e : SymbolTree) → slice_get all k ≡ Some e → IsFrom k e → IsTypedEntry (after all [] joined) e
@@ -335,3 +340,15 @@ module _ (xs ys : List SymbolTree) (ds es : List DeclarationTree) (first : AreSo
         con_of : (k : ℕ) (e : SymbolTree) → slice_get all k ≡ Some e → e.kind ≡ Constructor → IsFrom k e → IsTrue ((after all [] joined).matched k)
         con_of k e q z (inl u) = first_part.matched k e q (typed.constructors k e q u z)
         con_of k e q z (inr u) = second_part.matched k e u.0 (typed'.constructors k e u.0 u.1 z)
+
+        record_of : (k : ℕ) → k < length all → (symbol_or all (constructor_before all k)).kind ≡ Constructor → IsFrom k (symbol_or all k) → IsTrue ((after all [] joined).usable (constructor_before all k))
+        record_of k l q (inl u) =
+            let c = constructor_before all k in
+            first_part.usable c (symbol_or all c) (some_at all c int_symbol (omega (arith, l, before_below all k))) (typed.records k l u q)
+        record_of k l q (inr u) =
+            let m : k < length xs = slice_below xs k (symbol_or all k) u.0 in
+            let c = constructor_before xs k in
+            let n : constructor_before xs k < length xs = omega (arith, m, before_below xs k) in
+            let same : constructor_before xs k ≡ constructor_before all k = before_kept xs ys k m in
+            let kind = ap (λ (e : SymbolTree). e.kind) (entry_kept xs ys c n ∙ ap (symbol_or all) same) in
+            subst (λ (j : ℕ). IsTrue ((after all [] joined).usable j)) same (second_part.usable c (symbol_or xs c) (some_at xs c int_symbol n) (typed'.records k m u.1 (kind ∙ q)))

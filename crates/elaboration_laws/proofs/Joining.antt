@@ -14,7 +14,7 @@ use Rattle.elaboration_laws.specs.Scopes.{IsSubvocabulary}
 use Rattle.elaboration_laws.specs.Lists.{is_built, after}
 use Rattle.elaboration_laws.proofs.Lists.{or_more, list_valid}
 use Rattle.elaboration_laws.proofs.Stays.{declaration_stays}
-use Rattle.elaboration_laws.specs.Tasks.{IsOwnSymbol, IsOfTheory, AreSound}
+use Rattle.elaboration_laws.specs.Tasks.{IsOwnSymbol, IsOfTheory, AreSound, HasRecords}
 use Rattle.elaboration_laws.proofs.Distinct.{IsDistinct, pairs_distinct, distinct_both}
 use Rattle.elaboration_laws.proofs.TupleDecls.{made_both}
 use Rattle.elaboration_laws.proofs.Grown.{more_part, sound_more}
@@ -136,7 +136,7 @@ module _ (xs more : List SymbolTree) (pre olds : List DeclarationTree) (m : Map)
       let place : Contains (olds ++ d ∷ []) d = Contains-append_right olds (d ∷ []) d (0, omega arith, refl) in
       cloning_taken xs pre m all now h d whole (valid_there (now ++ d ∷ []) distinct both)
       (λ i j l. All-contains (IsOwnSymbol all) (made (olds ++ d ∷ [])) (get_or (made_by d.body) i j) later.own (own_made (get_or (made_by d.body) i j) (Contains-get_or (made_by d.body) i j l)))
-      (All-contains (IsOfTheory all) (olds ++ d ∷ []) d later.theories place) own apart (image (now ++ d ∷ []) distinct both)
+      (All-contains (IsOfTheory all) (olds ++ d ∷ []) d later.theories place) (All-contains (λ (b : DeclarationTree). HasRecords all (made_by b.body)) (olds ++ d ∷ []) d later.records place) own apart (image (now ++ d ∷ []) distinct both)
     where
       both : (b : DeclarationTree) → Contains (olds ++ d ∷ []) b → Contains (now ++ d ∷ []) b
       both b i = of (Contains-append_cases olds (d ∷ []) b i)

@@ -1,18 +1,19 @@
 -- The first fault of names of a tree of a source is the failing check at the least token.
-use Rattle.std.proofs.Common.{◌≡◌, ℕ, ◌+◌, ◌≤◌, Bool, true, false, not, cond, ◌==◌, List, [], ◌∷◌, ◌++◌, map, reverse, length, Option, Some, None, option_map, ◌⊎◌, inl, inr, refl, sym, ap, ◌∙◌, arith}
+use Rattle.std.proofs.Common.{◌≡◌, ℕ, ◌+◌, ◌≤◌, Bool, true, false, not, ◌&&◌, cond, ◌==◌, List, [], ◌∷◌, ◌++◌, map, reverse, length, get_or, slice_set, Option, Some, None, option_map, ◌⊎◌, inl, inr, refl, sym, ap, ◌∙◌, arith}
 use Rattle.std.specs.Option.{is_some, is_none}
-use Rattle.elab_groups.specs.tasks.Task.{symbol_or}
+use Rattle.elab_groups.specs.tasks.Task.{SymbolTree, symbol_or}
 use Rattle.elab_groups.specs.tasks.Vocabulary.{is_constructor_kind}
 use Rattle.elab_groups.specs.surface.declared.names.At.{At}
 use Rattle.elab_groups.specs.tokens_why.declared.terminal.Terminal.TheVariants as t
 use Rattle.elab_groups.specs.surface.Lexeme.{Word, Lexeme, mark}
-use Rattle.elab_groups.specs.surface.Forms.{SyntaxForm, SyntaxForms, wild, variable, type_variable, composed, enclosed, aliased, no_forms, more_forms, type_forms, pattern_forms, IsForm, AreForms, AreParts, IsPlaced, PlacedRow, PlacedList, past, write_called, write_form, form_row, form_list, form_tail}
-use Rattle.elab_groups.specs.surface.Trees.{SyntaxTree, SyntaxTrees, Branches, SyntaxTrigger, TypedBinder, binds, apply, literal, truth, falsity, group, cast, prefixed, negation, binary, choice, cases, access, binding, quantified, no_branch, branch, untriggered, triggered, write, write_row, write_list, write_tail, write_branches, write_others, write_trigger, write_terms, terms_tail, write_op, alternative_list, alternative_tail, type_part, write_binder, binder_list, binder_tail, name_row, bar_before, IsLevel, AreAtoms, AreLevel, AreBranches, AreAlternatives, AreBinders, IsTypePart, IsTrigger, AreTerms, HasSome, HasForm, HasBranch, PlacedNames, PlacedPart, PlacedBinder, PlacedBinders, PlacedAlternatives, IsPlacedTree, PlacedTrees, PlacedCommas, PlacedBranches, PlacedTrigger}
+use Rattle.elab_groups.specs.surface.Forms.{SyntaxForm, SyntaxForms, wild, variable, type_variable, composed, enclosed, aliased, fielded_form, no_forms, more_forms, type_forms, pattern_forms, Called, IsForm, AreForms, AreParts, AreNamedForms, IsPlaced, PlacedRow, PlacedList, PlacedFieldForms, past, semicolon_after, write_called, write_form, form_fields, form_fields_tail, form_row, form_list, form_tail, HasForm}
+use Rattle.elab_groups.specs.surface.Trees.{SyntaxTree, SyntaxTrees, Branches, SyntaxTrigger, TypedBinder, binds, apply, literal, truth, falsity, group, cast, prefixed, negation, binary, choice, cases, access, fielded_tree, binding, quantified, no_branch, branch, untriggered, triggered, write, write_row, write_list, write_tail, tree_fields, tree_fields_tail, write_branches, write_others, write_trigger, write_terms, terms_tail, write_op, alternative_list, alternative_tail, type_part, write_binder, binder_list, binder_tail, name_row, bar_before, IsLevel, AreAtoms, AreLevel, AreBranches, AreAlternatives, AreBinders, IsTypePart, IsTrigger, AreTerms, AreNamedTrees, HasSome, HasBranch, PlacedNames, PlacedPart, PlacedBinder, PlacedBinders, PlacedAlternatives, IsPlacedTree, PlacedFieldTrees, PlacedTrees, PlacedCommas, PlacedBranches, PlacedTrigger}
 use Rattle.elab_groups.specs.surface.Trees as tree
-use Rattle.elab_groups.specs.name_resolution.Abstract.{TypeExpression, TypeExpressions, no_types, more_types, Pattern, Patterns, no_patterns, more_patterns, BoundNames, Expression, Expressions, MatchBranches, more_expressions, count_forms, count_patterns, count_expressions, type_expression, type_expressions, grouped_forms, pattern, pattern_list, grouped_patterns, form_place, first_form, side_by_side, branch_alternatives, expression, expressions, grouped, match_branches, triggers, tree_place, first_tree, let_name, let_by, binder, operated, operator_meaning, OperatorMeaning, connective_operator, equality_operator, symbol_operator, text_of_own}
+use Rattle.elab_groups.specs.name_resolution.Abstract.{FieldName, named_field, field_names, TypeExpression, TypeExpressions, no_types, more_types, Pattern, Patterns, no_patterns, more_patterns, BoundNames, Expression, Expressions, MatchBranches, more_expressions, count_forms, count_patterns, count_expressions, type_expression, type_expressions, grouped_forms, pattern, pattern_list, grouped_patterns, form_place, first_form, side_by_side, branch_alternatives, expression, expressions, grouped, match_branches, triggers, tree_place, first_tree, let_name, let_by, binder, operated, operator_meaning, OperatorMeaning, connective_operator, equality_operator, symbol_operator, text_of_own}
 use Rattle.elab_groups.specs.name_resolution.declared.NamingFault.{NamingFault}
 use Rattle.elab_groups.specs.name_resolution.declared.NamingFault.TheVariants.{Unknown, Duplicate, WrongKind, Arity}
-use Rattle.elab_groups.specs.name_resolution.Faults.{first_of, fault_if, meaning_fault, form_fault, forms_fault, type_fault, differ, is_predicate, is_projection, is_variable, symbol_fault, entry_fault, field_fault, local_fault, name_fault, binders_fault, bound_names, pattern_names, pattern_fault, patterns_fault, constructor_fault, same_names, later_fault, alternatives_fault, alternatives_names, has_alternative, is_formula_trigger, fault, faults, triggers_fault, branches_fault}
+use Rattle.elab_groups.specs.name_resolution.Faults.{first_of, fault_if, meaning_fault, form_fault, forms_fault, type_fault, differ, is_predicate, is_projection, is_variable, symbol_fault, entry_fault, field_fault, place_fault, entry_named_fault, fields_fault, record_fault, local_fault, name_fault, binders_fault, bound_names, pattern_names, pattern_fault, patterns_fault, constructor_fault, same_names, later_fault, alternatives_fault, alternatives_names, has_alternative, is_formula_trigger, fault, faults, triggers_fault, branches_fault}
+use Rattle.elab_groups.specs.name_resolution.Records.{NamesOfSymbols, is_record, record_named, place_in, field_place, or_first, entry_of_field, places_named, none_named, named_after, each_named}
 use Rattle.elab_groups.specs.name_resolution.Where.{Where, MeaningTree, place_of}
 use Rattle.elab_groups.specs.scopes.declared.Referent.TheVariants as stands
 use Rattle.elaboration_laws.specs.Checked.{token_of_fault, IsLeastFailing, FormFails, FormsFail, TypeFails, BindersFail, PatternFails, PatternsFail, LaterFail, AlternativesFail, NamesFail, AllNamesFail, TriggersFail, BranchesFail}
@@ -100,6 +101,46 @@ both_at a b c d lo hi (Some h) y F G la bc ab cd dh p q = record {
     ranges g (inl z) = let k = p.range g z in (omega (arith, la, k.0), omega (arith, k.1, bc, cd, dh))
     ranges g (inr z) = let k = q.range g z in (omega (arith, la, ab, bc, k.0), omega (arith, k.1, dh))
 
+-- a check before others that are made where it doesn't fail
+then_at : (lo hi : ℕ) (x y : Option NamingFault) (G : NamingFault → Type 0) → ((g : NamingFault) → x ≡ Some g → (lo ≤ token_of_fault g) × (token_of_fault g ≤ hi)) → Ranged lo hi y G
+    → Ranged lo hi (first_of x y) (λ g. (x ≡ Some g) ⊎ ((x ≡ None) × G g))
+then_at lo hi None y G h q = record {
+  is = record {
+    found = λ g e. inr (refl, q.is.found g e);
+    least = λ f g e z. of f g e z;
+    none = λ g e z. nothing g e z;
+  };
+  range = λ g z. ranges g z;
+}
+  where
+    of : (f g : NamingFault) → y ≡ Some f → (◌≡◌ {A = Option NamingFault} None (Some g)) ⊎ ((◌≡◌ {A = Option NamingFault} None None) × G g) → token_of_fault f ≤ token_of_fault g
+    of f g e (inl z) = absurd (cc (z))
+    of f g e (inr z) = q.is.least f g e z.1
+
+    nothing : (g : NamingFault) → y ≡ None → (◌≡◌ {A = Option NamingFault} None (Some g)) ⊎ ((◌≡◌ {A = Option NamingFault} None None) × G g) → ⊥
+    nothing g e (inl z) = absurd (cc (z))
+    nothing g e (inr z) = q.is.none g e z.1
+
+    ranges : (g : NamingFault) → (◌≡◌ {A = Option NamingFault} None (Some g)) ⊎ ((◌≡◌ {A = Option NamingFault} None None) × G g) → (lo ≤ token_of_fault g) × (token_of_fault g ≤ hi)
+    ranges g (inl z) = absurd (cc (z))
+    ranges g (inr z) = q.range g z.1
+then_at lo hi (Some k) y G h q = record {
+  is = record {
+    found = λ g e. inl e;
+    least = λ f g e z. of f g e z;
+    none = λ g e z. absurd (cc (e));
+  };
+  range = λ g z. ranges g z;
+}
+  where
+    of : (f g : NamingFault) → Some k ≡ Some f → (Some k ≡ Some g) ⊎ ((Some k ≡ None) × G g) → token_of_fault f ≤ token_of_fault g
+    of f g e (inl z) = let same : token_of_fault f ≡ token_of_fault g = ap token_of_fault (sym (same_fault k f e) ∙ same_fault k g z) in omega (arith, same)
+    of f g e (inr z) = let q = z.0 in absurd (cc (q))
+
+    ranges : (g : NamingFault) → (Some k ≡ Some g) ⊎ ((Some k ≡ None) × G g) → (lo ≤ token_of_fault g) × (token_of_fault g ≤ hi)
+    ranges g (inl z) = h g z
+    ranges g (inr z) = let q = z.0 in absurd (cc (q))
+
 -- ---- the token of a check
 first_token : (i : ℕ) (x y : Option NamingFault) → ((g : NamingFault) → x ≡ Some g → token_of_fault g ≡ i) → ((g : NamingFault) → y ≡ Some g → token_of_fault g ≡ i) → (g : NamingFault) → first_of x y ≡ Some g → token_of_fault g ≡ i
 first_token i None y h k g q = k g q
@@ -137,6 +178,50 @@ constructor_token w i n None g q = ap token_of_fault (sym (same_fault (Unknown i
 constructor_token w i n (Some k) g q =
     let e = symbol_or w.symbols k in
     first_token i (fault_if (not (is_constructor_kind e.kind)) (WrongKind i)) (fault_if (not (length e.args == n)) (Arity i)) (if_token i (not (is_constructor_kind e.kind)) (WrongKind i) refl) (if_token i (not (length e.args == n)) (Arity i) refl) g q
+
+-- the names of fields are between two tokens
+abbrev AreNamesAt : ℕ → ℕ → List FieldName → Type 0
+AreNamesAt lo hi [] = Unit {0}
+AreNamesAt lo hi (f ∷ fs) = (lo ≤ f.at) × (f.at ≤ hi) × AreNamesAt lo hi fs
+
+names_wider : (a b lo hi : ℕ) (fs : List FieldName) → lo ≤ a → b ≤ hi → AreNamesAt a b fs → AreNamesAt lo hi fs
+names_wider a b lo hi [] l m h = tt
+names_wider a b lo hi (f ∷ fs) l m h = (omega (arith, l, h.0), omega (arith, m, h.1), names_wider a b lo hi fs l m h.2)
+
+place_token : (named : List Bool) (i : ℕ) (m : Option ℕ) (g : NamingFault) → place_fault named i m ≡ Some g → token_of_fault g ≡ i
+place_token named i None g q = ap token_of_fault (sym (same_fault (WrongKind i) g q))
+place_token named i (Some p) g q = if_token i (get_or named p false) (Duplicate i) refl g q
+
+named_token : (symbols : List SymbolTree) (c : ℕ) (named : List Bool) (i : ℕ) (m : Option ℕ) (g : NamingFault) → entry_named_fault symbols c named i m ≡ Some g → token_of_fault g ≡ i
+named_token symbols c named i None g q = ap token_of_fault (sym (same_fault (Unknown i) g q))
+named_token symbols c named i (Some k) g q = place_token named i (place_in symbols c k) g q
+
+abbrev IsBetween : ℕ → ℕ → NamingFault → Type 0
+IsBetween lo hi g = (lo ≤ token_of_fault g) × (token_of_fault g ≤ hi)
+
+-- the first of two checks between two tokens
+first_between : (lo hi : ℕ) (x y : Option NamingFault) → ((g : NamingFault) → x ≡ Some g → IsBetween lo hi g) → ((g : NamingFault) → y ≡ Some g → IsBetween lo hi g) → (g : NamingFault) → first_of x y ≡ Some g → IsBetween lo hi g
+first_between lo hi None y h k g q = k g q
+first_between lo hi (Some f) y h k g q = h g q
+
+at_between : (lo hi i : ℕ) (g : NamingFault) → lo ≤ i → i ≤ hi → token_of_fault g ≡ i → IsBetween lo hi g
+at_between lo hi i g l m e = (omega (arith, l, e), omega (arith, m, e))
+
+fields_between : (symbols : List SymbolTree) (names : NamesOfSymbols) (c : ℕ) (named : List Bool) (fs : List FieldName) (lo hi : ℕ) → AreNamesAt lo hi fs → (g : NamingFault) → fields_fault symbols names c named fs ≡ Some g → IsBetween lo hi g
+fields_between symbols names c named [] lo hi h g q = absurd (cc (q))
+fields_between symbols names c named (f ∷ fs) lo hi h g q =
+    let later = slice_set named (or_first (field_place symbols c (entry_of_field names f))) true in
+    first_between lo hi (entry_named_fault symbols c named f.at (entry_of_field names f)) (fields_fault symbols names c later fs)
+    (λ i e. at_between lo hi f.at i h.0 h.1 (named_token symbols c named f.at (entry_of_field names f) i e)) (λ i e. fields_between symbols names c later fs lo hi h.2 i e) g q
+
+record_between : (w : Where) (whole : Bool) (i n : ℕ) (fs : List FieldName) (lo hi : ℕ) → lo ≤ i → i ≤ hi → AreNamesAt lo hi fs → (g : NamingFault) → record_fault w whole i n fs ≡ Some g → IsBetween lo hi g
+record_between w whole i n fs lo hi l m h g q =
+    let c = record_named w.symbols w.names fs in
+    let e = symbol_or w.symbols c in
+    let wrong = not (is_record e && (length fs == n)) in
+    let missing = whole && not (each_named (named_after (places_named w.symbols w.names c fs) (none_named e))) in
+    first_between lo hi (fields_fault w.symbols w.names c (none_named e) fs) (first_of (fault_if wrong (WrongKind i)) (fault_if missing (Arity i))) (λ j z. fields_between w.symbols w.names c (none_named e) fs lo hi h j z)
+    (first_between lo hi (fault_if wrong (WrongKind i)) (fault_if missing (Arity i)) (λ j z. at_between lo hi i j l m (if_token i wrong (WrongKind i) refl j z)) (λ j z. at_between lo hi i j l m (if_token i missing (Arity i) refl j z))) g q
 
 module _ (w : Where) (open_ : Bool) where
   -- ---- types
@@ -181,6 +266,7 @@ module _ (w : Where) (open_ : Bool) where
         let e : past (i + 1) (form_list fs) ≤ past i (write_form (enclosed a fs)) = past_more (i + 1) (form_list fs) _ in
         wider (i + 1) (past (i + 1) (form_list fs)) i (past i (write_form (enclosed a fs))) _ _ (omega arith) (omega (arith, e)) (grouped_form a.main (i + 1) (past (i + 1) (form_list fs)) (type_expressions fs) k)
     form_at (aliased a f n) i o p = absurd o.0
+    form_at (fielded_form a cs fs semi) i o p = absurd o.0
 
     pub parts_forms : (fs : SyntaxForms) → AreParts type_forms fs → AreForms type_forms fs
     parts_forms no_forms o = tt
@@ -243,6 +329,35 @@ module _ (w : Where) (open_ : Bool) where
   parts_patterns no_forms o = tt
   parts_patterns (more_forms p ps) o = (o.1, parts_patterns ps o.2)
 
+  -- the names of the fields of a pattern
+  form_rest_at : (cs : List Called) (ps : SyntaxForms) (i : ℕ) → AreNamedForms cs ps → PlacedFieldForms (i + 1) cs ps → AreNamesAt (i + 1) (past i (form_fields_tail cs ps)) (field_names cs)
+  form_rest_at [] no_forms i n p = tt
+  form_rest_at [] (more_forms q ps) i n p = absurd n
+  form_rest_at (c ∷ cs) no_forms i n p = absurd n
+  form_rest_at (c ∷ cs) (more_forms q ps) i n p =
+      let h = past (i + 1) (write_called c) in
+      let j = past (h + 1) (write_form q) in
+      let k = past_up (i + 1) (write_called c) in
+      let l = past_up (h + 1) (write_form q) in
+      let r : past i (form_fields_tail (c ∷ cs) (more_forms q ps)) ≡ past (past (i + 1) (write_called c) + 1) (write_form q ++ form_fields_tail cs ps) = past_both (i + 1) (write_called c) (mark t.Equal ∷ (write_form q ++ form_fields_tail cs ps)) in
+      let e = past_both (h + 1) (write_form q) (form_fields_tail cs ps) in
+      let m = past_up j (form_fields_tail cs ps) in
+      (omega (arith, p.0), omega (arith, p.0, k, l, m, r, e), names_wider (j + 1) (past j (form_fields_tail cs ps)) (i + 1) (past i (form_fields_tail (c ∷ cs) (more_forms q ps))) (field_names cs) (omega (arith, k, l)) (omega (arith, r, e)) (form_rest_at cs ps j n.1 p.2))
+
+  form_names_at : (cs : List Called) (ps : SyntaxForms) (i : ℕ) → AreNamedForms cs ps → PlacedFieldForms i cs ps → AreNamesAt i (past i (form_fields cs ps)) (field_names cs)
+  form_names_at [] no_forms i n p = tt
+  form_names_at [] (more_forms q ps) i n p = absurd n
+  form_names_at (c ∷ cs) no_forms i n p = absurd n
+  form_names_at (c ∷ cs) (more_forms q ps) i n p =
+      let j = past (past i (write_called c) + 1) (write_form q) in
+      let k = past_up i (write_called c) in
+      let l = past_up (past i (write_called c) + 1) (write_form q) in
+      let r : past i (form_fields (c ∷ cs) (more_forms q ps)) ≡ past (past i (write_called c) + 1) (write_form q ++ form_fields_tail cs ps) = past_both i (write_called c) (mark t.Equal ∷ (write_form q ++ form_fields_tail cs ps)) in
+      let e = past_both (past i (write_called c) + 1) (write_form q) (form_fields_tail cs ps) in
+      let m = past_up j (form_fields_tail cs ps) in
+      let u = past_up i (form_fields (c ∷ cs) (more_forms q ps)) in
+      (omega (arith, p.0), omega (arith, p.0, u), names_wider (j + 1) (past j (form_fields_tail cs ps)) i (past i (form_fields (c ∷ cs) (more_forms q ps))) (field_names cs) (omega (arith, k, l)) (omega (arith, r, e)) (form_rest_at cs ps j n.1 p.2))
+
   mutual
     pattern_at : (p : SyntaxForm) (i : ℕ) (seen : List Word) → IsForm pattern_forms p → IsPlaced i p → PatternAt i (past i (write_form p)) seen (pattern p)
     pattern_at (wild a) i seen o p = none_at i (i + 1)
@@ -266,6 +381,47 @@ module _ (w : Where) (open_ : Bool) where
         let e : past i (write_form (aliased a q n)) ≡ past i (write_form q) + 1 + 1 = past_both i (write_form q) _ in
         both_at i j (j + 1) (j + 1) i (past i (write_form (aliased a q n))) _ _ _ _ (omega arith) (omega arith) (omega (arith, l)) (omega arith) (omega (arith, e))
         (pattern_at q i seen o.2 p.1) (if_at (j + 1) (is_some (place_of n.text (seen ++ pattern_names (pattern q)))) (Duplicate n.at) p.2)
+    pattern_at (fielded_form a cs ps semi) i seen o p =
+        let j = past (i + 1) (form_fields cs ps) in
+        let l = past_up (i + 1) (form_fields cs ps) in
+        let k = fielded_patterns cs ps (i + 1) seen o.2 o.3 p.1 in
+        let m = ap (λ (z : At). z.main) p.0 in
+        let e : past (i + 1) (form_fields cs ps) ≤ past i (write_form (fielded_form a cs ps semi)) = past_more (i + 1) (form_fields cs ps) _ in
+        wider i j i (past i (write_form (fielded_form a cs ps semi))) _ _ (omega arith) (omega (arith, e))
+        (then_at i j (record_fault w false a.main (count_patterns (pattern_list ps)) (field_names cs)) (patterns_fault w seen (pattern_list ps)) (PatternsFail w seen (pattern_list ps))
+        (λ g q. record_between w false a.main (count_patterns (pattern_list ps)) (field_names cs) i j (omega (arith, m)) (omega (arith, m, l)) (names_wider (i + 1) j i j (field_names cs) (omega arith) (omega arith) (form_names_at cs ps (i + 1) o.2 p.1)) g q)
+        (wider (i + 1) j i j _ _ (omega arith) (omega arith) k))
+
+    -- the patterns of fields, each after its name and `=`
+    fielded_patterns : (cs : List Called) (ps : SyntaxForms) (i : ℕ) (seen : List Word) → AreNamedForms cs ps → AreForms pattern_forms ps → PlacedFieldForms i cs ps → PatternsAt i (past i (form_fields cs ps)) seen (pattern_list ps)
+    fielded_patterns [] no_forms i seen n o p = none_at i i
+    fielded_patterns [] (more_forms q ps) i seen n o p = absurd n
+    fielded_patterns (c ∷ cs) no_forms i seen n o p = absurd n
+    fielded_patterns (c ∷ cs) (more_forms q ps) i seen n o p =
+        let h = past i (write_called c) in
+        let j = past (h + 1) (write_form q) in
+        let k = past_up i (write_called c) in
+        let l = past_up (h + 1) (write_form q) in
+        let m = past_up j (form_fields_tail cs ps) in
+        let r : past i (form_fields (c ∷ cs) (more_forms q ps)) ≡ past (past i (write_called c) + 1) (write_form q ++ form_fields_tail cs ps) = past_both i (write_called c) (mark t.Equal ∷ (write_form q ++ form_fields_tail cs ps)) in
+        let e = past_both (h + 1) (write_form q) (form_fields_tail cs ps) in
+        both_at (h + 1) j j (past j (form_fields_tail cs ps)) i (past i (form_fields (c ∷ cs) (more_forms q ps))) _ _ _ _ (omega (arith, k)) (omega arith) (omega (arith, l)) (omega (arith, m)) (omega (arith, r, e))
+        (pattern_at q (h + 1) seen o.0 p.1) (fielded_rest cs ps j (seen ++ pattern_names (pattern q)) n.1 o.1 p.2)
+
+    fielded_rest : (cs : List Called) (ps : SyntaxForms) (i : ℕ) (seen : List Word) → AreNamedForms cs ps → AreForms pattern_forms ps → PlacedFieldForms (i + 1) cs ps → PatternsAt i (past i (form_fields_tail cs ps)) seen (pattern_list ps)
+    fielded_rest [] no_forms i seen n o p = none_at i i
+    fielded_rest [] (more_forms q ps) i seen n o p = absurd n
+    fielded_rest (c ∷ cs) no_forms i seen n o p = absurd n
+    fielded_rest (c ∷ cs) (more_forms q ps) i seen n o p =
+        let h = past (i + 1) (write_called c) in
+        let j = past (h + 1) (write_form q) in
+        let k = past_up (i + 1) (write_called c) in
+        let l = past_up (h + 1) (write_form q) in
+        let m = past_up j (form_fields_tail cs ps) in
+        let r : past i (form_fields_tail (c ∷ cs) (more_forms q ps)) ≡ past (past (i + 1) (write_called c) + 1) (write_form q ++ form_fields_tail cs ps) = past_both (i + 1) (write_called c) (mark t.Equal ∷ (write_form q ++ form_fields_tail cs ps)) in
+        let e = past_both (h + 1) (write_form q) (form_fields_tail cs ps) in
+        both_at (h + 1) j j (past j (form_fields_tail cs ps)) i (past i (form_fields_tail (c ∷ cs) (more_forms q ps))) _ _ _ _ (omega (arith, k)) (omega arith) (omega (arith, l)) (omega (arith, m)) (omega (arith, r, e))
+        (pattern_at q (h + 1) seen o.0 p.1) (fielded_rest cs ps j (seen ++ pattern_names (pattern q)) n.1 o.1 p.2)
 
     pattern_row : (ps : SyntaxForms) (i : ℕ) (seen : List Word) → AreForms pattern_forms ps → PlacedRow i ps → PatternsAt i (past i (form_row ps)) seen (pattern_list ps)
     pattern_row no_forms i seen o p = none_at i i
@@ -305,6 +461,7 @@ module _ (w : Where) (open_ : Bool) where
   form_first (composed a c ps) i p = ap (λ (z : At). z.first) p.0
   form_first (enclosed a ps) i p = ap (λ (z : At). z.first) p.0
   form_first (aliased a q n) i p = ap (λ (z : At). z.first) p.0
+  form_first (fielded_form a cs ps semi) i p = ap (λ (z : At). z.first) p.0
 
   forms_first : (ps : SyntaxForms) (i : ℕ) → HasForm ps → PlacedList i ps → first_form ps ≡ i
   forms_first no_forms i h p = absurd h
@@ -417,7 +574,7 @@ module _ (w : Where) (open_ : Bool) where
       to (inr (inl z)) = inl z
       to (inr (inr z)) = inr (inr (inr (inl z)))
 
-      back : {A E B : Type 0} (g : NamingFault) → E ⊎ ((None ≡ Some g) ⊎ (A ⊎ (B ⊎ ⊥))) → A ⊎ (E ⊎ B)
+      back : {A E B : Type 0} (g : NamingFault) → E ⊎ ((◌≡◌ {A = Option NamingFault} None (Some g)) ⊎ (A ⊎ (B ⊎ ⊥))) → A ⊎ (E ⊎ B)
       back g (inl z) = inr (inl z)
       back g (inr (inl z)) = absurd (cc (z))
       back g (inr (inr (inl z))) = inl z
@@ -471,8 +628,38 @@ module _ (w : Where) (open_ : Bool) where
   tree_first (choice a c e f) i p = ap (λ (z : At). z.first) p.0
   tree_first (cases a es bar bs) i p = ap (λ (z : At). z.first) p.0
   tree_first (access a e c) i p = ap (λ (z : At). z.first) p.0
+  tree_first (fielded_tree a cs es semi) i p = ap (λ (z : At). z.first) p.0
   tree_first (binding a ps e f) i p = ap (λ (z : At). z.first) p.0
   tree_first (quantified a all bs g e) i p = ap (λ (z : At). z.first) p.0
+
+  -- the names of the fields of a record
+  tree_rest_at : (cs : List Called) (es : SyntaxTrees) (i : ℕ) → AreNamedTrees cs es → PlacedFieldTrees (i + 1) cs es → AreNamesAt (i + 1) (past i (tree_fields_tail cs es)) (field_names cs)
+  tree_rest_at [] tree.none i n p = tt
+  tree_rest_at [] (tree.more x es) i n p = absurd n
+  tree_rest_at (c ∷ cs) tree.none i n p = absurd n
+  tree_rest_at (c ∷ cs) (tree.more x es) i n p =
+      let h = past (i + 1) (write_called c) in
+      let j = past (h + 1) (write x) in
+      let k = past_up (i + 1) (write_called c) in
+      let l = past_up (h + 1) (write x) in
+      let r : past i (tree_fields_tail (c ∷ cs) (tree.more x es)) ≡ past (past (i + 1) (write_called c) + 1) (write x ++ tree_fields_tail cs es) = past_both (i + 1) (write_called c) (mark t.Equal ∷ (write x ++ tree_fields_tail cs es)) in
+      let e = past_both (h + 1) (write x) (tree_fields_tail cs es) in
+      let m = past_up j (tree_fields_tail cs es) in
+      (omega (arith, p.0), omega (arith, p.0, k, l, m, r, e), names_wider (j + 1) (past j (tree_fields_tail cs es)) (i + 1) (past i (tree_fields_tail (c ∷ cs) (tree.more x es))) (field_names cs) (omega (arith, k, l)) (omega (arith, r, e)) (tree_rest_at cs es j n.1 p.2))
+
+  tree_names_at : (cs : List Called) (es : SyntaxTrees) (i : ℕ) → AreNamedTrees cs es → PlacedFieldTrees i cs es → AreNamesAt i (past i (tree_fields cs es)) (field_names cs)
+  tree_names_at [] tree.none i n p = tt
+  tree_names_at [] (tree.more x es) i n p = absurd n
+  tree_names_at (c ∷ cs) tree.none i n p = absurd n
+  tree_names_at (c ∷ cs) (tree.more x es) i n p =
+      let h = past i (write_called c) in
+      let j = past (h + 1) (write x) in
+      let k = past_up i (write_called c) in
+      let l = past_up (h + 1) (write x) in
+      let r : past i (tree_fields (c ∷ cs) (tree.more x es)) ≡ past (past i (write_called c) + 1) (write x ++ tree_fields_tail cs es) = past_both i (write_called c) (mark t.Equal ∷ (write x ++ tree_fields_tail cs es)) in
+      let e = past_both (h + 1) (write x) (tree_fields_tail cs es) in
+      let u = past_up i (tree_fields (c ∷ cs) (tree.more x es)) in
+      (omega (arith, p.0), omega (arith, p.0, u), names_wider (j + 1) (past j (tree_fields_tail cs es)) i (past i (tree_fields (c ∷ cs) (tree.more x es))) (field_names cs) (omega (arith, k, l)) (omega (arith, r, e)) (tree_rest_at cs es j n.1 p.2))
 
   mutual
     pub tree_at : (e : SyntaxTree) (i : ℕ) (ls : List Word) (due : Bool) → IsLevel e → IsPlacedTree i e → NamesAt i (past i (write e)) ls due (expression e)
@@ -553,6 +740,16 @@ module _ (w : Where) (open_ : Bool) where
         let n : past i (write (access a e c)) ≡ past (past i (write e) + 1) (write_called c) = past_both i (write e) (mark t.Dot ∷ write_called c) in
         both_at i j (j + 1) (j + 1) i (past i (write (access a e c))) _ _ _ _ (omega arith) (omega arith) (omega (arith, l)) (omega arith) (omega (arith, n, m)) (tree_at e i ls false o.1 p.1)
         (own_at (j + 1) (field_fault w due c.at (w.names c.scopes (text_of_own c.own))) (λ g z. field_token w due c.at (w.names c.scopes (text_of_own c.own)) g z ∙ p.2))
+    tree_at (fielded_tree a cs es semi) i ls due o p =
+        let j = past (i + 1) (tree_fields cs es) in
+        let l = past_up (i + 1) (tree_fields cs es) in
+        let m = ap (λ (z : At). z.main) p.0 in
+        let e : past (i + 1) (tree_fields cs es) ≤ past i (write (fielded_tree a cs es semi)) = past_more (i + 1) (tree_fields cs es) _ in
+        both_at i i i j i (past i (write (fielded_tree a cs es semi))) _ _ _ _ (omega arith) (omega arith) (omega arith) (omega (arith, l)) (omega (arith, e))
+        (if_at i due (WrongKind a.main) m)
+        (then_at i j (record_fault w true a.main (count_expressions (expressions es)) (field_names cs)) (faults w open_ ls (expressions es)) (AllNamesFail w open_ ls (expressions es))
+        (λ g q. record_between w true a.main (count_expressions (expressions es)) (field_names cs) i j (omega (arith, m)) (omega (arith, m, l)) (names_wider (i + 1) j i j (field_names cs) (omega arith) (omega arith) (tree_names_at cs es (i + 1) o.1 p.1)) g q)
+        (wider (i + 1) j i j _ _ (omega arith) (omega arith) (fielded_trees cs es (i + 1) ls o.1 o.2 p.1)))
     tree_at (binding a ps e f) i ls due o p =
         let j = past (i + 1) (form_list ps) in
         let k = past (j + 1) (write e) in
@@ -587,6 +784,37 @@ module _ (w : Where) (open_ : Bool) where
         let q = tree_first e i p.0 in
         let n = past_both i (write e) (write_tail es) in
         grouped_tree (tree_place e).first i ls false e es i (past i (write e ++ write_tail es)) (omega (arith, q)) (omega (arith, q)) (omega (arith, n)) (λ k. tree_at e i ls k o.0 p.0) (trees_tail es j ls o.1 p.1)
+
+    -- the values of fields, each after its name and `=`
+    fielded_trees : (cs : List Called) (es : SyntaxTrees) (i : ℕ) (ls : List Word) → AreNamedTrees cs es → AreLevel es → PlacedFieldTrees i cs es → AllAt i (past i (tree_fields cs es)) ls (expressions es)
+    fielded_trees [] tree.none i ls n o p = none_at i i
+    fielded_trees [] (tree.more x es) i ls n o p = absurd n
+    fielded_trees (c ∷ cs) tree.none i ls n o p = absurd n
+    fielded_trees (c ∷ cs) (tree.more x es) i ls n o p =
+        let h = past i (write_called c) in
+        let j = past (h + 1) (write x) in
+        let k = past_up i (write_called c) in
+        let l = past_up (h + 1) (write x) in
+        let m = past_up j (tree_fields_tail cs es) in
+        let r : past i (tree_fields (c ∷ cs) (tree.more x es)) ≡ past (past i (write_called c) + 1) (write x ++ tree_fields_tail cs es) = past_both i (write_called c) (mark t.Equal ∷ (write x ++ tree_fields_tail cs es)) in
+        let e = past_both (h + 1) (write x) (tree_fields_tail cs es) in
+        both_at (h + 1) j j (past j (tree_fields_tail cs es)) i (past i (tree_fields (c ∷ cs) (tree.more x es))) _ _ _ _ (omega (arith, k)) (omega arith) (omega (arith, l)) (omega (arith, m)) (omega (arith, r, e))
+        (tree_at x (h + 1) ls false o.0 p.1) (fielded_others cs es j ls n.1 o.1 p.2)
+
+    fielded_others : (cs : List Called) (es : SyntaxTrees) (i : ℕ) (ls : List Word) → AreNamedTrees cs es → AreLevel es → PlacedFieldTrees (i + 1) cs es → AllAt i (past i (tree_fields_tail cs es)) ls (expressions es)
+    fielded_others [] tree.none i ls n o p = none_at i i
+    fielded_others [] (tree.more x es) i ls n o p = absurd n
+    fielded_others (c ∷ cs) tree.none i ls n o p = absurd n
+    fielded_others (c ∷ cs) (tree.more x es) i ls n o p =
+        let h = past (i + 1) (write_called c) in
+        let j = past (h + 1) (write x) in
+        let k = past_up (i + 1) (write_called c) in
+        let l = past_up (h + 1) (write x) in
+        let m = past_up j (tree_fields_tail cs es) in
+        let r : past i (tree_fields_tail (c ∷ cs) (tree.more x es)) ≡ past (past (i + 1) (write_called c) + 1) (write x ++ tree_fields_tail cs es) = past_both (i + 1) (write_called c) (mark t.Equal ∷ (write x ++ tree_fields_tail cs es)) in
+        let e = past_both (h + 1) (write x) (tree_fields_tail cs es) in
+        both_at (h + 1) j j (past j (tree_fields_tail cs es)) i (past i (tree_fields_tail (c ∷ cs) (tree.more x es))) _ _ _ _ (omega (arith, k)) (omega arith) (omega (arith, l)) (omega (arith, m)) (omega (arith, r, e))
+        (tree_at x (h + 1) ls false o.0 p.1) (fielded_others cs es j ls n.1 o.1 p.2)
 
     trees_row : (es : SyntaxTrees) (i : ℕ) (ls : List Word) → AreAtoms es → PlacedTrees i es → AllAt i (past i (write_row es)) ls (expressions es)
     trees_row tree.none i ls o p = none_at i i

@@ -5,9 +5,9 @@ use Rattle.std.proofs.lemmas.List.{append-nil, map-append}
 use Rattle.elab_groups.specs.tokens_why.declared.terminal.Terminal.TheVariants as t
 use Rattle.elab_groups.specs.surface.declared.names.Name.{Name}
 use Rattle.elab_groups.specs.surface.Lexeme.{Word, mark}
-use Rattle.elab_groups.specs.surface.Forms.{SyntaxForm, past, write_called, write_form}
+use Rattle.elab_groups.specs.surface.Forms.{SyntaxForm, semicolon_after, past, write_called, write_form}
 use Rattle.elab_groups.specs.surface.Trees.{write, name_row, type_part, bar_before}
-use Rattle.elab_groups.specs.surface.Declarations.{ParamGroup, Member, Constructor, Algebraic, Clause, Inductive, SyntaxDeclaration, type_decl, algebraic_decl, function_decl, predicate_decl, constant_decl, inductive_decl, prop_decl, use_decl, clone_decl, scope_decl, variable_row, typed_names, write_param, param_row, definition, write_member, other_members, write_constructor, write_field, field_tail, semicolon_after, write_type_body, write_algebraic, write_clause, write_inductive, constructor_list, constructor_tail, clause_list, clause_tail}
+use Rattle.elab_groups.specs.surface.Declarations.{ParamGroup, Member, Constructor, Algebraic, Clause, Inductive, SyntaxDeclaration, type_decl, algebraic_decl, function_decl, predicate_decl, constant_decl, inductive_decl, prop_decl, use_decl, clone_decl, scope_decl, variable_row, typed_names, write_param, param_row, definition, write_member, other_members, write_constructor, write_field, field_tail, write_type_body, write_algebraic, write_clause, write_inductive, constructor_list, constructor_tail, clause_list, clause_tail}
 use Rattle.elab_groups.specs.surface.DeclarationRules.{PlacedTyped, PlacedParams, PlacedMembers, PlacedConstructors, PlacedFields, PlacedTypeBody, PlacedAlgebraics, PlacedClauses, PlacedInductives, PlacedDecl}
 use Rattle.elab_groups.specs.surface.Trees.{PlacedNames}
 use Rattle.elab_groups.specs.scopes.declared.Table.{Table}

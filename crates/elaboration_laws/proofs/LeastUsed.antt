@@ -4,9 +4,9 @@ use Rattle.std.specs.Option.{is_none}
 use Rattle.elab_groups.specs.tokens_why.declared.terminal.Terminal.TheVariants as t
 use Rattle.elab_groups.specs.surface.declared.names.Name.{Name}
 use Rattle.elab_groups.specs.surface.Lexeme.{Word, mark}
-use Rattle.elab_groups.specs.surface.Forms.{SyntaxForm, IsForm, type_forms, IsPlaced, past, write_called, write_form}
+use Rattle.elab_groups.specs.surface.Forms.{SyntaxForm, semicolon_after, IsForm, type_forms, IsPlaced, past, write_called, write_form}
 use Rattle.elab_groups.specs.surface.Trees.{SyntaxTree, write, name_row, type_part, bar_before}
-use Rattle.elab_groups.specs.surface.Declarations.{ParamGroup, Member, Constructor, Algebraic, Clause, Inductive, SyntaxDeclaration, type_decl, algebraic_decl, function_decl, predicate_decl, constant_decl, inductive_decl, prop_decl, use_decl, clone_decl, scope_decl, variable_row, typed_names, write_param, param_row, definition, write_member, other_members, write_constructor, constructor_tail, constructor_list, write_field, field_tail, semicolon_after, write_type_body, write_algebraic, algebraic_tail, algebraic_list, write_clause, clause_tail, clause_list, write_inductive}
+use Rattle.elab_groups.specs.surface.Declarations.{ParamGroup, Member, Constructor, Algebraic, Clause, Inductive, SyntaxDeclaration, type_decl, algebraic_decl, function_decl, predicate_decl, constant_decl, inductive_decl, prop_decl, use_decl, clone_decl, scope_decl, variable_row, typed_names, write_param, param_row, definition, write_member, other_members, write_constructor, constructor_tail, constructor_list, write_field, field_tail, write_type_body, write_algebraic, algebraic_tail, algebraic_list, write_clause, clause_tail, clause_list, write_inductive}
 use Rattle.elab_groups.specs.surface.DeclarationRules.{IsTypedParam, AreParams, IsMember, AreMembers, IsOptionalDefinition, IsDefined, AreConstructors, AreFields, IsTypeBody, AreAlgebraic, AreClauses, AreInductive, IsLevelDecl, PlacedTyped, PlacedParams, PlacedDefinition, PlacedMember, PlacedMembers, PlacedConstructors, PlacedFields, PlacedTypeBody, PlacedAlgebraic, PlacedAlgebraics, PlacedClauses, PlacedInductives, PlacedDecl}
 use Rattle.elab_groups.specs.name_resolution.Abstract.{Expression, type_expression, expression}
 use Rattle.elab_groups.specs.name_resolution.Where.{Where}

@@ -13,6 +13,7 @@ pub mod Words
 pub mod Over
 pub mod Instances
 pub mod Forms
+pub mod Placing
 pub mod Fixed
 pub mod Signed
 pub mod Sound
@@ -56,6 +57,7 @@ pub mod Distinct
 pub mod TupleDecls
 pub mod TupleLists
 pub mod TaskSound
+pub mod MadeRecords
 pub mod Once
 pub mod Grown
 pub mod Next

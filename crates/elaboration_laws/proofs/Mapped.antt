@@ -38,10 +38,10 @@ only_here y x c = of (cases_of y x [] c)
     of (inl e) = e
     of (inr n) = absurd (none_here x n)
 
-pub behind : (xs ys : List SymbolTree) (i n : ℕ) → n ≡ length xs + i → slice_get (xs ++ ys) n ≡ slice_get ys i
-behind [] ys i n q = ap (slice_get ys) (omega (arith, q))
-behind (x ∷ xs) ys i zero q = absurd (omega (arith, q))
-behind (x ∷ xs) ys i (suc n) q = behind xs ys i n (omega (arith, q))
+pub following : (xs ys : List SymbolTree) (i n : ℕ) → n ≡ length xs + i → slice_get (xs ++ ys) n ≡ slice_get ys i
+following [] ys i n q = ap (slice_get ys) (omega (arith, q))
+following (x ∷ xs) ys i zero q = absurd (omega (arith, q))
+following (x ∷ xs) ys i (suc n) q = following xs ys i n (omega (arith, q))
 
 pub copied_at : (f : ℕ → SymbolTree) (ks : List ℕ) (i k : ℕ) → slice_get ks i ≡ Some k → slice_get (map f ks) i ≡ Some (f k)
 copied_at f [] i k q = absurd (cc)
@@ -194,7 +194,7 @@ module _ (c : Setting) (t : Origin) (es : List Element) (theory within : Word) (
       let z = kind_at all k n h in
       let e = entry_copied m theory within (symbol_or all k) in
       let same : symbol_or all k ≡ z.is = or_at all k z.is z.at in
-      let at : slice_get symbols' (length all + i) ≡ Some e = behind all (map (λ j. entry_copied m theory within (symbol_or all j)) ks) i (length all + i) refl ∙ copied_at (λ j. entry_copied m theory within (symbol_or all j)) ks i k q in
+      let at : slice_get symbols' (length all + i) ≡ Some e = following all (map (λ j. entry_copied m theory within (symbol_or all j)) ks) i (length all + i) refl ∙ copied_at (λ j. entry_copied m theory within (symbol_or all j)) ks i k q in
       let kind : (symbol_or all k).kind ≡ Kind = ap (λ (s : SymbolTree). s.kind) same ∙ z.kind in
       let vars : n ≡ (symbol_or all k).vars = z.vars ∙ sym (ap (λ (s : SymbolTree). s.vars) same) in
       (rw (at, named) refl, rw at (kind, vars))

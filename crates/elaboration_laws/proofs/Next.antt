@@ -19,11 +19,12 @@ use Rattle.elaboration_laws.specs.Valid.{IsTypedSetting, HaveNoFault}
 use Rattle.elaboration_laws.specs.Lists.{after, AreValidAfter, IsNoGoal, MakesBelow, IsGroupWhole}
 use Rattle.elaboration_laws.proofs.Steps.{next_declaration}
 use Rattle.elaboration_laws.specs.Built.{IsBuiltRight}
-use Rattle.elaboration_laws.specs.Tasks.{IsOwnSymbol, IsOfTheory, AreSound}
+use Rattle.elaboration_laws.specs.Tasks.{IsOwnSymbol, IsOfTheory, AreSound, HasRecords}
 use Rattle.elaboration_laws.proofs.Distinct.{IsDistinct, distinct_pairs, pairs_distinct, distinct_both}
 use Rattle.elaboration_laws.proofs.TupleDecls.{made_both}
 use Rattle.elaboration_laws.proofs.TaskSound.{each_made}
 use Rattle.elaboration_laws.proofs.TaskOutcomes.{elaborated_kept}
+use Rattle.elaboration_laws.proofs.MadeRecords.{IsNumbered, valid_records}
 use Rattle.elaboration_laws.proofs.Once.{IsOnce, outcome_once}
 use Rattle.elaboration_laws.proofs.Grown.{sound_more, then_valid}
 
@@ -56,6 +57,11 @@ module _ (c : Setting) (ds : List DeclarationTree) (x : Declaration) (g : Signat
       let z : x.theory ≡ c.theory = of i d l in
       q ∙ sym z
 
+  numbered_new : All (λ (d : DeclarationTree). IsNumbered all d.body) new
+  numbered_new =
+      subst (λ (zs : List SymbolTree). All (λ (d : DeclarationTree). IsNumbered zs d.body) new) (sym e.symbols_are)
+      (subst (All (λ (d : DeclarationTree). IsNumbered (c.symbols ++ e.outcome.symbols) d.body)) (sym e.decls) once.numbered)
+
   pub both_sound : AreValidAfter all ds new → AreSound all (ds ++ new)
   both_sound valid =
       let q = made_both ds new in
@@ -65,6 +71,7 @@ module _ (c : Setting) (ds : List DeclarationTree) (x : Declaration) (g : Signat
         once = distinct_pairs (made (ds ++ new)) (subst IsDistinct (sym q) (distinct_both (made ds) (made new) (pairs_distinct (made ds) sound.once) (subst (λ (xs : List DeclarationTree). IsDistinct (made xs)) (sym e.decls) once.distinct) apart));
         own = subst (All (IsOwnSymbol all)) (sym q) (All-append (IsOwnSymbol all) (made ds) (made new) front_kept.own (λ k i l. own_new (get_or (made new) k i) (Contains-get_or (made new) k i l)));
         theories = All-append (IsOfTheory all) ds new front_kept.theories theory_new;
+        records = All-append (λ (d : DeclarationTree). HasRecords all (made_by d.body)) ds new front_kept.records (valid_records all ds new valid numbered_new);
       }
     where
       apart : (k : ℕ) → Contains (made ds) k → Contains (made new) k → ⊥

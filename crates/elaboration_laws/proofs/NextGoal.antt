@@ -100,6 +100,7 @@ module _ (symbols : List SymbolTree) (ds : List DeclarationTree) (own : List ℕ
     constructors = h.constructors;
     patterns = h.patterns;
     tuples = h.tuples;
+    records = h.records;
   }
 
   types_in : (ks : List ℕ) → All (λ (k : ℕ). IsTrue (list_any (λ j. j == k) own)) ks → All (IsQuotedAt symbols) ks → All (IsTypeIn v 0) (rigid_types ks)

@@ -1,13 +1,16 @@
 -- What a declaration makes is made once, after what was there, and has the theory in which it is there.
-use Rattle.std.proofs.Common.{◌≡◌, ◌⊎◌, inl, inr, ℕ, ◌+◌, ◌-◌, ◌<◌, ◌≤◌, suc, List, [], ◌∷◌, ◌++◌, map, length, get_or, All, Option, Some, None, refl, sym, ap, subst, ◌∙◌, arith, length-append, append_assoc, append-nil}
+use Rattle.std.proofs.Common.{◌≡◌, ◌⊎◌, inl, inr, ℕ, ◌+◌, ◌-◌, ◌<◌, ◌≤◌, suc, false, List, [], ◌∷◌, ◌++◌, map, length, get_or, All, Option, Some, None, refl, sym, ap, subst, ◌∙◌, arith, length-append, append_assoc, append-nil}
 use Rattle.std.specs.List.{Contains}
 use Rattle.std.proofs.Math.ListN.{length-map}
 use Rattle.std.proofs.lemmas.List.{get_or-append_right}
-use Rattle.std.proofs.lemmas.List.Elements.{All-nil, All-cons, All-append, All-contains, All-get_or, Contains-append_cases}
+use Rattle.std.proofs.lemmas.List.Elements.{All-nil, All-cons, All-append, All-contains, All-get_or, Contains-append_cases, recursion_from_All}
 use Rattle.elab_groups.specs.trees.Tree.{Tree}
 use Rattle.elab_groups.specs.tasks.Task.{SymbolTree, symbol_or, int_symbol, DefinitionTree, InductiveTree, DeclarationTree, made, made_by, made_by_cons, made_by_types}
 use Rattle.elab_groups.proofs.tasks.Declared.{none_in, contains_cases}
-use Rattle.elab_groups.specs.name_resolution.Abstract.{Expression}
+use Rattle.elab_groups.specs.name_resolution.Abstract.{Expression, TypeExpression}
+use Rattle.elab_groups.specs.name_resolution.Records.{is_projection}
+use Rattle.elab_groups.specs.surface.Lexeme.{Word}
+use Rattle.elaboration_laws.proofs.MadeRecords.{AreNext, ConsNumbered, TypesNumbered, ArePlain, IsNumbered}
 use Rattle.elab_groups.specs.name_resolution.Where.{Where}
 use Rattle.elab_declarations.specs.elab_groups.members.Members.{parameter_types}
 use Rattle.elab_declarations.proofs.elab_groups.members.MembersScoped.{types_count}
@@ -15,7 +18,7 @@ use Rattle.elab_groups.specs.parts.Entries.{type_entry}
 use Rattle.elab_groups.specs.parts.Declarations.{TokenName, AlgebraicConstructor, GroupMember, AlgebraicType, InductivePredicate, Declaration, abstract_type, alias, algebraic, member_group, inductive, proposition_declaration, words, with_vars}
 use Rattle.elab_groups.specs.parts.Outcomes.{Setting, Outcome, over, full_name, tuples_wanting}
 use Rattle.elab_groups.specs.parts.Elaborated.{unseen}
-use Rattle.elab_declarations.specs.elab_groups.members.Members.{SignatureTree, signed_entries, signature_trees}
+use Rattle.elab_declarations.specs.elab_groups.members.Members.{SignatureTree, signed_entries, signature_trees, symbol_kind_of}
 use Rattle.elab_declarations.specs.elab_groups.Groups.{definitions, group_body, group_tuples, before_group, group_signatures, IsGroup}
 use Rattle.elab_declarations.specs.inductive_declarations.Inductives.{as_member, as_members, inductives_seen, before_inductives, induced, IsInductiveGroup}
 use Rattle.elab_declarations.specs.type_declarations.Algebraics.{count_fields, entry_count, group_seen, first_type, first_constructor, numbering_from, type_entries, constructor_trees, algebraic_trees, group_trees, group_entries, group_outcome}
@@ -104,6 +107,33 @@ group_distinct w i n (a ∷ ts) l =
     apart own c k (inr z) f (inl y) = let a = (f z).0 in let b = y.1 in omega (arith, a, b, l)
     apart own c k (inr z) f (inr y) = let a = (f z).1 in omega (arith, a, y)
 
+-- the projections of each constructor come right after it
+numbers_next : (n : ℕ) (ts : List Tree) → AreNext n (numbering_from (n + 1) ts)
+numbers_next n [] = tt
+numbers_next n (t ∷ ts) = (refl, numbers_next (n + 1) ts)
+
+cons_numbered : (w : Where) (n : ℕ) (ks : List AlgebraicConstructor) → ConsNumbered (constructor_trees w n ks)
+cons_numbered w n [] = tt
+cons_numbered w n (k ∷ ks) = (numbers_next n (parameter_types w k.fields), cons_numbered w (n + (count_fields k.fields + 1)) ks)
+
+group_numbered : (w : Where) (i n : ℕ) (ts : List AlgebraicType) → TypesNumbered (algebraic_trees w i n ts)
+group_numbered w i n [] = tt
+group_numbered w i n (a ∷ ts) = (cons_numbered (with_vars w (words a.vars)) n a.constructors, group_numbered w (i + 1) (n + entry_count a.constructors) ts)
+
+-- functions and predicates are no projections
+signed_kinds : (theory within : Word) (ms : List GroupMember) (gs : List SignatureTree) → All (λ (e : SymbolTree). is_projection e.kind ≡ false) (signed_entries theory within ms gs)
+signed_kinds theory within [] gs = All-nil (λ (e : SymbolTree). is_projection e.kind ≡ false)
+signed_kinds theory within (m ∷ ms) [] = All-nil (λ (e : SymbolTree). is_projection e.kind ≡ false)
+signed_kinds theory within (m ∷ ms) (g ∷ gs) = All-cons (λ (e : SymbolTree). is_projection e.kind ≡ false) _ (signed_entries theory within ms gs) (of m.result) (signed_kinds theory within ms gs)
+  where
+    of : (t : Option TypeExpression) → is_projection (symbol_kind_of t) ≡ false
+    of None = refl
+    of (Some f) = refl
+
+body_numbered : (symbols : List SymbolTree) (k : ℕ) (gs : List SignatureTree) (bs : List Tree) (b : Option Expression) → ArePlain symbols (made_by (group_body b k gs bs)) → IsNumbered symbols (group_body b k gs bs)
+body_numbered symbols k gs bs None h = h
+body_numbered symbols k gs bs (Some e) h = h
+
 -- ---- outcomes
 -- declarations of the theory
 abbrev IsThere : Setting → List DeclarationTree → Type 0
@@ -115,14 +145,27 @@ there_none c ds q = subst (IsThere c) (sym q) (All-nil (λ (d : DeclarationTree)
 there_one : (c : Setting) (ds : List DeclarationTree) (d : DeclarationTree) → ds ≡ d ∷ [] → d.theory ≡ c.theory → IsThere c ds
 there_one c ds d q t = subst (IsThere c) (sym q) (All-cons (λ (e : DeclarationTree). e.theory ≡ c.theory) d [] t (All-nil (λ (e : DeclarationTree). e.theory ≡ c.theory)))
 
+abbrev AreNumberedOnes : Setting → Outcome → Type 0
+AreNumberedOnes c o = All (λ (d : DeclarationTree). IsNumbered (c.symbols ++ o.symbols) d.body) o.decls
+
+numbered_none : (c : Setting) (o : Outcome) → o.decls ≡ [] → AreNumberedOnes c o
+numbered_none c o q = subst (All (λ (d : DeclarationTree). IsNumbered (c.symbols ++ o.symbols) d.body)) (sym q) (All-nil (λ (d : DeclarationTree). IsNumbered (c.symbols ++ o.symbols) d.body))
+
+numbered_one : (c : Setting) (o : Outcome) (d : DeclarationTree) → o.decls ≡ d ∷ [] → IsNumbered (c.symbols ++ o.symbols) d.body → AreNumberedOnes c o
+numbered_one c o d q n =
+    subst (All (λ (d : DeclarationTree). IsNumbered (c.symbols ++ o.symbols) d.body)) (sym q)
+    (All-cons (λ (d : DeclarationTree). IsNumbered (c.symbols ++ o.symbols) d.body) d [] n (All-nil (λ (d : DeclarationTree). IsNumbered (c.symbols ++ o.symbols) d.body)))
+
 pub record IsOnce (c : Setting) (o : Outcome) : Type 0 where
   pub distinct : IsDistinct (made o.decls)
   pub later : (k : ℕ) → Contains (made o.decls) k → length c.symbols ≤ k
   pub theory : (k : ℕ) → Contains (made o.decls) k → (symbol_or (c.symbols ++ o.symbols) k).theory ≡ c.theory
   pub of : All (λ (d : DeclarationTree). d.theory ≡ c.theory) o.decls
+  pub numbered : All (λ (d : DeclarationTree). IsNumbered (c.symbols ++ o.symbols) d.body) o.decls
 
-none_once : (c : Setting) (o : Outcome) → made o.decls ≡ [] → IsThere c o.decls → IsOnce c o
-none_once c o q t = record {
+none_once : (c : Setting) (o : Outcome) → made o.decls ≡ [] → IsThere c o.decls → AreNumberedOnes c o → IsOnce c o
+none_once c o q t n = record {
+  numbered = n;
   of = t;
   distinct = rw q tt;
   later = λ k h. absurd (none_in k (subst (λ (ks : List ℕ). Contains ks k) q h));
@@ -130,9 +173,25 @@ none_once c o q t = record {
 }
 
 module _ (c : Setting) (o : Outcome) (tuples own : List SymbolTree) (symbols : o.symbols ≡ tuples ++ own) (of : All (OfTheory c.theory) own) (n : ℕ) (at : n ≡ length c.symbols + length tuples) (ks : List ℕ) (are : made o.decls ≡ ks) (there : IsThere c o.decls) where
-  once_of : AreBetween n (n + length own) ks → IsDistinct ks → IsOnce c o
-  once_of b d = record {
+  -- what is made, by its entry
+  entry_at : (k : ℕ) → n ≤ k → symbol_or (c.symbols ++ o.symbols) k ≡ get_or own (k - n) int_symbol
+  entry_at k l =
+      let front : length (c.symbols ++ tuples) ≡ n = length-append c.symbols tuples ∙ sym at in
+      let same : (c.symbols ++ tuples) ++ own ≡ c.symbols ++ o.symbols = append_assoc c.symbols tuples own ∙ ap (λ (es : List SymbolTree). c.symbols ++ es) (sym symbols) in
+      sym (ap (λ (es : List SymbolTree). symbol_or es k) same) ∙ get_or-append_right (c.symbols ++ tuples) own n k int_symbol front l
+
+  made_plain : All (λ (e : SymbolTree). is_projection e.kind ≡ false) own → AreBetween n (n + length own) ks → ArePlain (c.symbols ++ o.symbols) ks
+  made_plain p b = recursion_from_All (λ (k : ℕ). is_projection (symbol_or (c.symbols ++ o.symbols) k).kind ≡ false) ks (λ i d l.
+      let k = get_or ks i d in
+      let x = b i d l in
+      let low = x.0 in
+      let high = x.1 in
+      ap (λ (e : SymbolTree). is_projection e.kind) (entry_at k low) ∙ All-get_or (λ (e : SymbolTree). is_projection e.kind ≡ false) own (k - n) int_symbol (omega (arith, low, high)) p)
+
+  once_of : AreBetween n (n + length own) ks → IsDistinct ks → AreNumberedOnes c o → IsOnce c o
+  once_of b d numbered' = record {
     of = there;
+    numbered = numbered';
     distinct = rw are d;
     later = λ k h. let x = place k h in let l = x.0 in omega (arith, at, l);
     theory = λ k h.
@@ -153,8 +212,12 @@ type_once : (c : Setting) (x : TokenName) (n : ℕ) (o : Outcome) → o ≡ type
 type_once c x n o q =
     let k = length c.symbols in
     let e = type_entry c.theory (full_name c x) n in
-    once_of c o [] (e ∷ []) (ap (λ (i : Outcome). i.symbols) q) (All-cons (OfTheory c.theory) e [] refl (All-nil (OfTheory c.theory))) k (omega arith) (k ∷ []) (ap (λ (i : Outcome). made i.decls) q) (there_one c o.decls _ (ap (λ (i : Outcome). i.decls) q) refl)
-    (one_between k k (k + 1) [] (omega arith) (omega arith) (no_numbers k (k + 1))) ((λ h. none_in k h), tt)
+    let theories = All-cons (OfTheory c.theory) e [] refl (All-nil (OfTheory c.theory)) in
+    let there' = there_one c o.decls _ (ap (λ (i : Outcome). i.decls) q) refl in
+    let one : AreBetween k (k + 1) (k ∷ []) = one_between k k (k + 1) [] (omega arith) (omega arith) (no_numbers k (k + 1)) in
+    once_of c o [] (e ∷ []) (ap (λ (i : Outcome). i.symbols) q) theories k (omega arith) (k ∷ []) (ap (λ (i : Outcome). made i.decls) q) there'
+    one ((λ h. none_in k h), tt)
+    (numbered_one c o _ (ap (λ (i : Outcome). i.decls) q) (made_plain c o [] (e ∷ []) (ap (λ (i : Outcome). i.symbols) q) theories k (omega arith) (k ∷ []) (ap (λ (i : Outcome). made i.decls) q) there' (All-cons (λ (i : SymbolTree). is_projection i.kind ≡ false) e [] refl (All-nil (λ (i : SymbolTree). is_projection i.kind ≡ false))) one))
 
 group_once : (c : Setting) (ts : List AlgebraicType) (o : Outcome) → o ≡ group_outcome c ts → IsOnce c o
 group_once c ts o q =
@@ -170,7 +233,7 @@ group_once c ts o q =
     let ks = made_by_types (group_trees c ts) in
     once_of c o tuples (T ++ G) (ap (λ (j : Outcome). j.symbols) q) (All-append (OfTheory c.theory) T G (types_of c.theory c.within ts) (group_of c.theory c.within ts (group_trees c ts))) i (length-append c.symbols tuples) ks (ap (λ (j : Outcome). made j.decls) q ∙ append-nil ks) (there_one c o.decls _ (ap (λ (j : Outcome). j.decls) q) refl)
     (group_between w i i m (i + length (T ++ G)) ts (omega arith) (omega arith) (omega (arith, all, many, long)) (omega (arith, all, many, long)))
-    (group_distinct w i m ts (omega arith))
+    (group_distinct w i m ts (omega arith)) (numbered_one c o _ (ap (λ (j : Outcome). j.decls) q) (group_numbered w i m ts))
 
 pub body_between : (m : GroupMember) (ks : List GroupMember) (gs : List SignatureTree) (bs : List Tree) (k : ℕ) (b : Option Expression) → length gs ≡ length (m ∷ ks) → AreBetween k (k + length gs) (made_by (group_body b k gs bs))
 body_between m ks gs bs k None q = one_between k k (k + length gs) [] (omega arith) (omega (arith, q)) (no_numbers k (k + length gs))
@@ -181,7 +244,7 @@ body_distinct gs bs k None = ((λ h. none_in k h), tt)
 body_distinct gs bs k (Some e) = defined_distinct k gs bs
 
 members_once : (c : Setting) (ms : List GroupMember) (o : Outcome) → IsGroup c ms o → IsOnce c o
-members_once c [] o it = none_once c o (ap made it.decls) (there_none c o.decls it.decls)
+members_once c [] o it = none_once c o (ap made it.decls) (there_none c o.decls it.decls) (numbered_none c o it.decls)
 members_once c (m ∷ ks) o it =
     let ms = m ∷ ks in
     let gs = group_signatures c ms in
@@ -192,11 +255,15 @@ members_once c (m ∷ ks) o it =
     let own = signed_entries c.theory c.within ms gs in
     let long = signed_length c.theory c.within ms gs count in
     let list = made_by (group_body m.body k gs bs) in
-    once_of c o tuples own it.symbols (signed_of c.theory c.within ms gs) k (length-append c.symbols tuples) list (ap made it.decls ∙ append-nil list) (there_one c o.decls _ it.decls refl)
-    (subst (λ (n : ℕ). AreBetween k (k + n) list) (sym long) (body_between m ks gs bs k m.body count)) (body_distinct gs bs k m.body)
+    let between : AreBetween k (k + length own) list = subst (λ (n : ℕ). AreBetween k (k + n) list) (sym long) (body_between m ks gs bs k m.body count) in
+    let there' = there_one c o.decls _ it.decls refl in
+    let are = ap made it.decls ∙ append-nil list in
+    once_of c o tuples own it.symbols (signed_of c.theory c.within ms gs) k (length-append c.symbols tuples) list are there' between (body_distinct gs bs k m.body)
+    (numbered_one c o _ it.decls (body_numbered (c.symbols ++ o.symbols) k gs bs m.body
+    (made_plain c o tuples own it.symbols (signed_of c.theory c.within ms gs) k (length-append c.symbols tuples) list are there' (signed_kinds c.theory c.within ms gs) between)))
 
 inductives_once : (c : Setting) (ds : List InductivePredicate) (o : Outcome) → IsInductiveGroup c ds o → IsOnce c o
-inductives_once c [] o it = none_once c o (ap made it.decls) (there_none c o.decls it.decls)
+inductives_once c [] o it = none_once c o (ap made it.decls) (there_none c o.decls it.decls) (numbered_none c o it.decls)
 inductives_once c (d ∷ is) o it =
     let ds = d ∷ is in
     let ms = as_members ds in
@@ -209,13 +276,16 @@ inductives_once c (d ∷ is) o it =
     let list = map (λ (i : InductiveTree). i.symbol) (induced k ds it.clauses) in
     let many = length-map ds as_member in
     let same : length own ≡ length ds = long ∙ (count ∙ many) in
-    once_of c o tuples own it.symbols (signed_of c.theory c.within ms gs) k (length-append c.symbols tuples) list (ap made it.decls ∙ append-nil list) (there_one c o.decls _ it.decls refl)
-    (induced_between k (k + length own) ds it.clauses (omega (arith, same))) (induced_distinct k ds it.clauses)
+    let between : AreBetween k (k + length own) list = induced_between k (k + length own) ds it.clauses (omega (arith, same)) in
+    let there' = there_one c o.decls _ it.decls refl in
+    let are = ap made it.decls ∙ append-nil list in
+    once_of c o tuples own it.symbols (signed_of c.theory c.within ms gs) k (length-append c.symbols tuples) list are there' between (induced_distinct k ds it.clauses)
+    (numbered_one c o _ it.decls (made_plain c o tuples own it.symbols (signed_of c.theory c.within ms gs) k (length-append c.symbols tuples) list are there' (signed_kinds c.theory c.within ms gs) between))
 
 pub outcome_once : (c : Setting) (d : Declaration) (o : Outcome) → IsOutcome c d o → IsOnce c o
 outcome_once c (abstract_type x vs) o e = type_once c x (length vs) o e
-outcome_once c (alias x vs f) o e = let none : o.decls ≡ [] = ap (λ (j : Outcome). j.decls) e in none_once c o (ap made none) (there_none c o.decls none)
-outcome_once c (proposition_declaration k x y) o e = none_once c o (ap made e.decls) (there_one c o.decls _ e.decls refl)
+outcome_once c (alias x vs f) o e = let none : o.decls ≡ [] = ap (λ (j : Outcome). j.decls) e in none_once c o (ap made none) (there_none c o.decls none) (numbered_none c o none)
+outcome_once c (proposition_declaration k x y) o e = none_once c o (ap made e.decls) (there_one c o.decls _ e.decls refl) (numbered_one c o _ e.decls tt)
 outcome_once c (algebraic ts) o e = group_once c ts o e
 outcome_once c (member_group ms) o e = members_once c ms o e
 outcome_once c (inductive ds) o e = inductives_once c ds o e

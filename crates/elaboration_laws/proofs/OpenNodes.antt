@@ -9,16 +9,17 @@ use Rattle.elab_groups.specs.open_types.unify_types.Assigned.{Variable, assign, 
 use Rattle.elab_groups.specs.open_types.unify_types.Pairs.{IsSolution, IsLeftOpen}
 use Rattle.elab_groups.proofs.open_types.unify_types.Assigning.{assign-unknown}
 use Rattle.elab_groups.specs.surface.Lexeme.{Word}
-use Rattle.elab_groups.specs.name_resolution.Abstract.{Pattern, Patterns, wildcard_pattern, variable_pattern, constructor_pattern, tuple_pattern, alias_pattern, no_patterns, more_patterns, Alternatives, no_alternatives, more_alternatives, Expression, Expressions, MatchBranches, applied_expression, infix_expression, integer_expression, true_expression, false_expression, tuple_expression, cast_expression, field_expression, not_expression, connected_expression, equality_expression, if_expression, let_expression, match_expression, quantified_expression, no_expressions, more_expressions, no_branches, more_branches, count_patterns, count_expressions}
+use Rattle.elab_groups.specs.name_resolution.Abstract.{Pattern, Patterns, wildcard_pattern, variable_pattern, constructor_pattern, tuple_pattern, alias_pattern, record_pattern, no_patterns, more_patterns, Alternatives, no_alternatives, more_alternatives, Expression, Expressions, MatchBranches, applied_expression, infix_expression, integer_expression, true_expression, false_expression, tuple_expression, cast_expression, field_expression, record_expression, not_expression, connected_expression, equality_expression, if_expression, let_expression, match_expression, quantified_expression, no_expressions, more_expressions, no_branches, more_branches, count_patterns, count_expressions}
 use Rattle.elab_groups.specs.name_resolution.Faults.{first_of, name_fault, field_fault, bound_names, alternatives_names, is_formula_trigger, token, fault, faults, triggers_fault, branches_fault}
+use Rattle.elab_groups.specs.name_resolution.Records.{record_named}
 use Rattle.elab_groups.specs.name_resolution.Where.{Where}
-use Rattle.elab_groups.specs.open_types.Patterns.{Notes, noted, LocalTree, local, taken, first_or_int, rest_of, entry_of, part_types, pattern_piece, patterns_piece, later_pieces, alternatives_pieces, all_notes, first_variables}
-use Rattle.elab_groups.specs.open_types.Pieces.{type_at, NotedTree, unknown, unknown_after, noted_before, bare_piece, both_pieces, piece, pieces, triggers_notes, branches_arms, Use, Local', Symbol', use_of_name, field_use, tuple_use, use_vars, used_piece, parameters, binders_vars, bound, names}
+use Rattle.elab_groups.specs.open_types.Patterns.{Notes, noted, LocalTree, local, taken, first_or_int, rest_of, entry_of, part_types, place_types, part_pieces, pattern_piece, patterns_piece, later_pieces, alternatives_pieces, all_notes, first_variables}
+use Rattle.elab_groups.specs.open_types.Pieces.{type_at, NotedTree, unknown, unknown_after, noted_before, bare_piece, both_pieces, piece, pieces, triggers_notes, branches_arms, Use, Local', Symbol', use_of_name, field_use, tuple_use, record_use, field_places, values_placed, piece_under, use_vars, used_piece, parameters, binders_vars, bound, names}
 use Rattle.elab_groups.specs.open_types.Scoped.{IsScoped}
 use Rattle.elab_groups.proofs.open_types.Below.{below_more, AreBelow, LocalsBelow, locals_more, wanted_more, list_more, both_all, reversed, first_below, rest_below, parameters_of, symbol_scoped, use_below, form_below, bound_below}
 use Rattle.elab_groups.proofs.open_types.Bounded.{alternatives_below}
 use Rattle.elab_groups.proofs.open_types.Noting.{count_replicate}
-use Rattle.elab_groups.proofs.open_types.Walking.{none_both, in_cast, in_negation, in_joined, in_equated, in_choice, in_binding, in_tuple}
+use Rattle.elab_groups.proofs.open_types.Walking.{none_both, in_cast, in_negation, in_joined, in_equated, in_choice, in_binding, in_tuple, in_record}
 use Rattle.elab_groups.proofs.open_types.Branching.{in_cases, in_branches}
 use Rattle.elab_groups.proofs.open_types.Quantified.{in_quantified}
 use Rattle.elab_groups.specs.parts.Elaborated.{IsFixedUnknown, IsTypingFault}
@@ -27,6 +28,7 @@ use Rattle.elab_groups.specs.tasks.Vocabulary.{Vocabulary}
 use Rattle.elab_groups.specs.parts.Declarations.{GroupMember, with_vars}
 use Rattle.elab_groups.specs.members.Members.{SignatureTree}
 use Rattle.elab_groups.specs.Groups.{body_piece, member_piece, member_pieces, most_variables, bodies_pieces, pieces_notes}
+use Rattle.elaboration_laws.proofs.Placing.{places_all}
 use Rattle.elaboration_laws.specs.Typed.{IsNamedExpression}
 use Rattle.elaboration_laws.specs.GroupTypings.{body_locals, AreNamedBodies}
 use Rattle.elaboration_laws.specs.Typings.{HasOwnTypes}
@@ -85,6 +87,13 @@ module _ (w : Where) (sc : IsScoped w) where
         let inner = pattern_piece w first n t p in
         let e : n ≡ n + 0 = omega arith in
         covered_node i n 0 (Some t) (pattern_nodes w first n t p) (inner.notes.takers ++ []) h (covered_from n (n + 0) (pattern_nodes w first n t p) (inner.notes.takers ++ []) e (none_more n (pattern_nodes w first n t p) inner.notes.takers (pattern_covered p first n t h)))
+    pattern_covered (record_pattern i fs ps) first n t h =
+        let k = record_named w.symbols w.names fs in
+        let c = entry_of w.symbols (Some k) in
+        let ts = place_types (field_places w fs) (part_types n c) in
+        let m = n + c.symbol.vars in
+        covered_node i n c.symbol.vars (Some t) (patterns_nodes w first m ts ps) (all_notes (part_pieces w first m ts ps)).takers h
+        (fields_covered ps first m ts (places_all (TyVarsBelow m) tt (field_places w fs) (part_types n c) (parameters_of n (Symbol' c) (symbol_scoped w sc (Some k)))))
 
     patterns_covered : (ps : Patterns) (first : Option (List LocalTree)) (n : ℕ) (ts : List Tree) → AreBelow n ts → Covered n (patterns_nodes w first n ts ps) (patterns_piece w first n ts ps).notes.takers
     patterns_covered no_patterns first n ts h = refl
@@ -93,6 +102,15 @@ module _ (w : Where) (sc : IsScoped w) where
         let m = n + taken one.notes in
         parts_covered n one.notes (patterns_piece w first m (rest_of ts) ps).notes (pattern_nodes w first n (first_or_int ts) p) (patterns_nodes w first m (rest_of ts) ps)
         (pattern_covered p first n (first_or_int ts) (first_below n ts h)) (patterns_covered ps first m (rest_of ts) (list_more (rest_of ts) n m (omega arith) (rest_below n ts h)))
+
+    -- of a record
+    fields_covered : (ps : Patterns) (first : Option (List LocalTree)) (n : ℕ) (ts : List Tree) → AreBelow n ts → Covered n (patterns_nodes w first n ts ps) (all_notes (part_pieces w first n ts ps)).takers
+    fields_covered no_patterns first n ts h = refl
+    fields_covered (more_patterns p ps) first n ts h =
+        let one = pattern_piece w first n (first_or_int ts) p in
+        let m = n + taken one.notes in
+        parts_covered n one.notes (all_notes (part_pieces w first m (rest_of ts) ps)) (pattern_nodes w first n (first_or_int ts) p) (patterns_nodes w first m (rest_of ts) ps)
+        (pattern_covered p first n (first_or_int ts) (first_below n ts h)) (fields_covered ps first m (rest_of ts) (list_more (rest_of ts) n m (omega arith) (rest_below n ts h)))
 
   later_covered : (ps : Alternatives) (first : List LocalTree) (n : ℕ) (t : Tree) → TyVarsBelow n t → Covered n (later_nodes w first n t ps) (all_notes (later_pieces w first n t ps)).takers
   later_covered no_alternatives first n t h = refl
@@ -166,6 +184,14 @@ module _ (w : Where) (sc : IsScoped w) where
         used_covered n i t u (both_pieces (Two HCell) inner (bare_piece (Leaf HEnd))) (nodes_of w ls m (Some (first_or_int ts)) e) k
         (none_more m (nodes_of w ls m (Some (first_or_int ts)) e) inner.notes.takers
         (covered e ls m (Some (first_or_int ts)) ns false (locals_more ls n m (omega arith) h) (first_below m ts (parameters_of n u (symbol_scoped w sc (w.names qs x)))) (omega (arith, o)) p.0))
+    covered (record_expression i fs es) ls n t ns due h k o f =
+        let p = in_record w false ns due i fs es f in
+        let u = record_use w fs in
+        let m = n + use_vars u in
+        let ts = parameters n u in
+        let us = place_types (field_places w fs) ts in
+        used_covered n i t u (piece_under (values_placed (field_places w fs) (length ts)) (pieces w ls m us es)) (all_nodes w ls m us es) k
+        (all_covered es ls m us ns (locals_more ls n m (omega arith) h) (places_all (TyVarsBelow m) tt (field_places w fs) ts (parameters_of n u (symbol_scoped w sc (Some (record_named w.symbols w.names fs))))) (omega (arith, o)) p.2)
     covered (not_expression i e) ls n t ns due h k o f =
         let p = in_negation w false ns due i e f in
         plain_covered i n None (nodes_of w ls n None e) (piece w ls n None e).notes.takers tt (covered e ls n None ns true h tt o p.1)

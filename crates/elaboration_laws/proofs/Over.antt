@@ -12,6 +12,7 @@ use Rattle.elab_groups.specs.tasks.Valid.{IsTypeIn, ParametersOf}
 use Rattle.elab_groups.proofs.tasks.Closing.{typed_sorted}
 use Rattle.elab_groups.specs.open_types.unify_types.Assigned.{Variable, assign, IsTypeOrTypes}
 use Rattle.elab_groups.proofs.open_types.unify_types.SortedTypes.{kind_is_type}
+pub use Rattle.elab_groups.proofs.open_types.Fielding.{members_cells}
 
 abbrev pub leaf_over : Vocabulary → Bool → Head → Type 0
 leaf_over v true (HTyVar j) = Unit {0}
@@ -113,10 +114,6 @@ module _ (v : Vocabulary) where
   pub cells_over : (ts : List Tree) → AreOver ts → IsOver v false (cells ts)
   cells_over [] o = tt
   cells_over (t ∷ ts) o = (tt, o.0, cells_over ts o.1)
-
-pub members_cells : (ts : List Tree) → members (cells ts) ≡ ts
-members_cells [] = refl
-members_cells (t ∷ ts) = ap (λ (l : List Tree). t ∷ l) (members_cells ts)
 
 -- ---- at assigned unknowns
 module _ (v : Vocabulary) (r : ℕ) (f : ℕ → Tree) where

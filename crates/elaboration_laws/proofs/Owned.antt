@@ -11,18 +11,22 @@ use Rattle.elab_groups.specs.trees.Facts.{TyVarsBelow, leaf_below}
 use Rattle.elab_groups.specs.tasks.Task.{SymbolTree}
 use Rattle.elab_groups.specs.tasks.Equations.{cells, type_variables}
 use Rattle.elab_groups.specs.surface.Lexeme.{Word}
-use Rattle.elab_groups.specs.name_resolution.Abstract.{TypeExpression, Pattern, Patterns, wildcard_pattern, variable_pattern, constructor_pattern, tuple_pattern, alias_pattern, no_patterns, more_patterns, Alternatives, no_alternatives, more_alternatives, BoundNames, Expression, Expressions, MatchBranches, applied_expression, infix_expression, integer_expression, true_expression, false_expression, tuple_expression, cast_expression, field_expression, not_expression, connected_expression, equality_expression, if_expression, let_expression, match_expression, quantified_expression, no_expressions, more_expressions, no_branches, more_branches, count_patterns, count_expressions}
+use Rattle.elab_groups.specs.name_resolution.Abstract.{TypeExpression, Pattern, Patterns, wildcard_pattern, variable_pattern, constructor_pattern, tuple_pattern, alias_pattern, record_pattern, no_patterns, more_patterns, Alternatives, no_alternatives, more_alternatives, BoundNames, Expression, Expressions, MatchBranches, applied_expression, infix_expression, integer_expression, true_expression, false_expression, tuple_expression, cast_expression, field_expression, record_expression, not_expression, connected_expression, equality_expression, if_expression, let_expression, match_expression, quantified_expression, no_expressions, more_expressions, no_branches, more_branches, count_patterns, count_expressions}
 use Rattle.elab_groups.specs.name_resolution.declared.NamingFault.TheVariants.{WrongKind}
-use Rattle.elab_groups.specs.name_resolution.Faults.{first_of, fault_if, form_fault, type_fault, name_fault, field_fault, binders_fault, bound_names, alternatives_fault, alternatives_names, is_formula_trigger, token, fault, faults, triggers_fault, branches_fault}
+use Rattle.elab_groups.specs.name_resolution.Faults.{first_of, fault_if, form_fault, type_fault, name_fault, field_fault, record_fault, binders_fault, bound_names, alternatives_fault, alternatives_names, is_formula_trigger, token, fault, faults, triggers_fault, branches_fault}
+use Rattle.elab_groups.specs.name_resolution.Records.{record_named, put_at_places}
 use Rattle.elab_groups.specs.name_resolution.Where.{Where}
-use Rattle.elab_groups.specs.open_types.Patterns.{noted, no_notes, follow, taken, LocalTree, local, local_type, variable_equations, at_unknowns, result_or_int, first_or_int, rest_of, NumberedEntry, entry_of, Matched, part_types, constructed_by, pattern_piece, patterns_piece, later_pieces, alternatives_pieces, all_notes, first_variables, reordering, places_among, later_arms, arms}
-use Rattle.elab_groups.specs.open_types.Pieces.{type_at, NotedTree, unknown_after, unknown, noted_before, wanting, piece, pieces, triggers_notes, branches_arms, Arms, Use, Local', Symbol', variable_named, found_local, use_or, use_of_name, field_use, tuple_use, symbol_at_types, used_piece, use_vars, parameters, equality, untyped, locals_of_type, binder_locals, binder_vars, binders_vars, quantify, names}
+use Rattle.elab_groups.specs.open_types.Patterns.{noted, no_notes, follow, taken, LocalTree, local, local_type, variable_equations, at_unknowns, result_or_int, first_or_int, rest_of, NumberedEntry, entry_of, Matched, part_types, place_types, PatternTree, tree_of_matched, side_by_side_trees, wildcard_tree, fields_piece, part_pieces, constructed_by, pattern_piece, patterns_piece, later_pieces, alternatives_pieces, all_notes, first_variables, reordering, places_among, later_arms, arms}
+use Rattle.elab_groups.specs.open_types.Pieces.{type_at, NotedTree, unknown_after, unknown, noted_before, wanting, piece, pieces, triggers_notes, branches_arms, Arms, Use, Local', Symbol', variable_named, found_local, use_or, use_of_name, field_use, tuple_use, record_use, field_places, values_placed, piece_under, symbol_at_types, used_piece, use_vars, parameters, equality, untyped, locals_of_type, binder_locals, binder_vars, binders_vars, quantify, names}
 use Rattle.elab_groups.specs.open_types.Pieces as pieces_of
 use Rattle.elab_groups.specs.open_types.Scoped.{IsScoped, IsScopedEntry}
+use Rattle.elab_groups.specs.tasks.Typing.{members}
+use Rattle.elab_groups.proofs.name_resolution.Putting.{put_all}
 use Rattle.elab_groups.proofs.open_types.Below.{both_all, symbol_scoped, form_below}
 use Rattle.elab_groups.proofs.open_types.Noting.{count_replicate}
 use Rattle.elab_groups.proofs.open_types.Walking.{none_both}
 use Rattle.elab_groups.proofs.open_types.Branching.{in_cases}
+use Rattle.elaboration_laws.proofs.Placing.{no_value, places_all, fields_all}
 
 module _ (P : ℕ → Type 0) where
   abbrev pub leaf_in : Head → Type 0
@@ -260,6 +264,42 @@ module _ (P : ℕ → Type 0) where
         variables = r.variables;
       }
 
+  -- the parts of a record
+  record PiecesIn (ms : List Matched) : Type 0 where
+    trees : AllByRecursion (λ (p : PatternTree). VariablesIn p.tree) (map tree_of_matched ms)
+    variables : AllByRecursion (λ (p : PatternTree). LocalsIn p.variables) (map tree_of_matched ms)
+    equations : EquationsIn (all_notes ms).equations
+
+  sides_in : (ps : List PatternTree) → AllByRecursion (λ (p : PatternTree). VariablesIn p.tree) ps → VariablesIn (side_by_side_trees ps).tree
+  sides_in [] h = tt
+  sides_in (p ∷ ps) h = (h.0, sides_in ps h.1)
+
+  wildcards_in : (ts : List Tree) → AllIn ts → AllByRecursion (λ (p : PatternTree). VariablesIn p.tree) (map wildcard_tree ts)
+  wildcards_in [] h = tt
+  wildcards_in (t ∷ ts) h = (h.0, wildcards_in ts h.1)
+
+  fields_in : (places : List ℕ) (ts : List Tree) (ms : List Matched) → AllIn ts → PiecesIn ms → MatchedIn (fields_piece places ts ms)
+  fields_in places ts ms h k = record {
+    tree = sides_in (put_at_places places (map tree_of_matched ms) (map wildcard_tree ts)) (put_all (λ (p : PatternTree). VariablesIn p.tree) places (map tree_of_matched ms) (map wildcard_tree ts) k.trees (wildcards_in ts h));
+    equations = k.equations;
+    variables = fields_all (λ (v : LocalTree). VariablesIn v.type) places ts (map tree_of_matched ms) k.variables;
+  }
+
+  -- the values of one
+  members_in : (e : Tree) → VariablesIn e → AllIn (members e)
+  members_in (Two HCell a b) h = (h.0, members_in b h.1)
+  members_in (Leaf k) h = tt
+  members_in (One k a) h = tt
+  members_in (Two _ a b) h = tt
+  members_in (Three k a b c) h = tt
+
+  no_values_in : (n : ℕ) → AllIn (replicate n no_value)
+  no_values_in zero = tt
+  no_values_in (suc n) = (tt, no_values_in n)
+
+  values_in : (places : List ℕ) (count : ℕ) (e : Tree) → VariablesIn e → VariablesIn (values_placed places count e)
+  values_in places count e h = cells_in (put_at_places places (members e) (replicate count no_value)) (put_all VariablesIn places (members e) (replicate count no_value) (members_in e h) (no_values_in count))
+
   abbrev TreesIn : List Matched → Type 0
   TreesIn ms = AllByRecursion (λ (m : Matched). VariablesIn m.tree) ms
 
@@ -333,6 +373,15 @@ module _ (P : ℕ → Type 0) where
             equations = both_equations inner.notes.equations (variable_equations before x t) r.equations (bind_in before x t o h);
             variables = both_all (λ (v : LocalTree). VariablesIn v.type) inner.variables (local x t ∷ []) r.variables (h, tt);
           }
+      pattern_in (record_pattern i fs ps) before n t o h f =
+          let k = record_named w.symbols w.names fs in
+          let c = entry_of w.symbols (Some k) in
+          let s = symbol_scoped w sc (Some k) in
+          let places = field_places w fs in
+          let ts = part_types n c in
+          let m = n + c.symbol.vars in
+          let ms = part_pieces w before m (place_types places ts) ps in
+          constructed_in n i t c (fields_piece places ts ms) h s f (λ a b. let own' = args_in n c.symbol s a in fields_in places ts ms own' (parts_in ps before m (place_types places ts) o (places_all VariablesIn tt places ts own') b))
 
       patterns_in : (ps : Patterns) (before : Option (List LocalTree)) (n : ℕ) (ts : List Tree) → IfSome before LocalsIn → AllIn ts → Takes n (n + taken (patterns_piece w before n ts ps).notes) → MatchedIn (patterns_piece w before n ts ps)
       patterns_in no_patterns before n ts o h f = record { tree = tt; equations = tt; variables = tt }
@@ -347,6 +396,16 @@ module _ (P : ℕ → Type 0) where
             equations = both_equations one.notes.equations rest.notes.equations a.equations b.equations;
             variables = both_all (λ (v : LocalTree). VariablesIn v.type) one.variables rest.variables a.variables b.variables;
           }
+
+      parts_in : (ps : Patterns) (before : Option (List LocalTree)) (n : ℕ) (ts : List Tree) → IfSome before LocalsIn → AllIn ts → Takes n (n + taken (all_notes (part_pieces w before n ts ps))) → PiecesIn (part_pieces w before n ts ps)
+      parts_in no_patterns before n ts o h f = record { trees = tt; variables = tt; equations = tt }
+      parts_in (more_patterns p ps) before n ts o h f =
+          let one = pattern_piece w before n (first_or_int ts) p in
+          let i = n + taken one.notes in
+          let rest = all_notes (part_pieces w before i (rest_of ts) ps) in
+          let a = pattern_in p before n (first_or_int ts) o (first_in ts h) (front n one.notes.takers rest.takers f) in
+          let b = parts_in ps before i (rest_of ts) o (rest_in ts h) (back n one.notes.takers rest.takers f) in
+          record { trees = (a.tree, b.trees); variables = (a.variables, b.variables); equations = both_equations one.notes.equations rest.equations a.equations b.equations }
 
     later_in : (ps : Alternatives) (before : List LocalTree) (n : ℕ) (t : Tree) → LocalsIn before → VariablesIn t → Takes n (n + taken (all_notes (later_pieces w before n t ps))) → LaterIn (later_pieces w before n t ps)
     later_in no_alternatives before n t o h f = record { trees = tt; equations = tt }
@@ -419,6 +478,18 @@ module _ (P : ℕ → Type 0) where
           used_in n t i u args z k f (λ a b.
           let r = owned e ls m (Some (first_or_int ts)) ns false h (first_in ts (parameters_in n u z a)) p.0 (no_more m inner.notes.takers b) in
           record { tree = (r.tree, tt); equations = both_equations inner.notes.equations [] r.equations tt })
+      owned (record_expression i fs es) ls n t ns due h k q f =
+          let p = none_both (fault_if due (WrongKind i)) (first_of (record_fault w true i (count_expressions es) fs) (faults w false ns es)) q in
+          let r = none_both (record_fault w true i (count_expressions es) fs) (faults w false ns es) p.1 in
+          let u = record_use w fs in
+          let z = symbol_scoped w sc (Some (record_named w.symbols w.names fs)) in
+          let m = n + use_vars u in
+          let places = field_places w fs in
+          let ts = parameters n u in
+          let all = pieces w ls m (place_types places ts) es in
+          used_in n t i u (piece_under (values_placed places (length ts)) all) z k f (λ a b.
+          let y = all_owned es ls m (place_types places ts) ns h (places_all VariablesIn tt places ts (parameters_in n u z a)) r.1 b in
+          record { tree = values_in places (length ts) all.tree y.tree; equations = y.equations })
       owned (not_expression i e) ls n t ns due h k q f =
           let p = none_both (fault_if (not due) (WrongKind i)) (fault w false ns true e) q in
           let x = owned e ls n None ns true h tt p.1 f in

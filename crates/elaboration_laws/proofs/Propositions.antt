@@ -34,12 +34,16 @@ use Rattle.elaboration_laws.specs.Scopes.{IsSubvocabulary, NamesNew, IsTypedEntr
 use Rattle.elaboration_laws.proofs.Widths.{tuples_seen}
 use Rattle.elaboration_laws.proofs.Solutions.{matches_typed, solved_formula}
 use Rattle.elaboration_laws.proofs.Scopes.{scopes_more}
-use Rattle.elaboration_laws.proofs.Extended.{entries_part, news_front, news_later, typed_more, signature_more, scopes_extended}
+use Rattle.elaboration_laws.proofs.Extended.{entries_part, news_front, news_later, typed_more, signature_more, scopes_extended, BeginsPlain, records_later}
 use Rattle.elaboration_laws.specs.Valid.{IsTypedSetting, IsTypedOutcome, IsValidOutcome, DeclsFit, MayNameRigid}
 use Rattle.elaboration_laws.proofs.Settings.{inside, inside_typed, inside_scopes, world, formed, tuples, same_names}
 use Rattle.elaboration_laws.proofs.Algebraics.{at_end}
 
 -- ---- a formula at closed types
+rigids_plain : (vs : List Word) → BeginsPlain (map rigid_symbol vs)
+rigids_plain [] = tt
+rigids_plain (x ∷ vs) = refl
+
 module _ (tys : List Tree) where
   one_fits : (d : ℕ) (h : Head) (a b : Tree) → IndicesFit (one_by (typing tys) d h b) → (IndicesFit b → IndicesFit a) → IndicesFit (One h a)
   one_fits d (HBound i) a b x f = (x.0, f x.1)
@@ -196,7 +200,7 @@ module _ (base : Vocabulary) (c : Setting) (h : IsTypedSetting base c) where
     last = news_later base (length c.symbols) (length xs) (xs ++ ys) (omega (arith, length-append c.symbols (tuples_wanting c seen'))) whole_news
 
     sig : IsTypedSignature base (xs ++ ys)
-    sig = signature_more base xs ys (inside_typed base c h seen' news) (rigids_typed (with_entries base (xs ++ ys)) (rigid_names k vs)) last
+    sig = signature_more base xs ys (inside_typed base c h seen' news) (rigids_typed (with_entries base (xs ++ ys)) (rigid_names k vs)) last (records_later base xs ys (rigids_plain (rigid_names k vs)) last)
 
     named : fault (world base c h seen' vs) false [] true e ≡ None
     named = sym (alike (around c vs) (world base c h seen' vs) (same_names base c h seen' vs) e false [] true) ∙ closed (around c []) vs e unseen [] true q (λ u z. z)

@@ -181,10 +181,10 @@ in_front [] ys zs i l = absurd (omega arith)
 in_front (x ∷ xs) ys zs zero l = refl
 in_front (x ∷ xs) ys zs (suc i) l = in_front xs ys zs i (omega arith)
 
-behind : (xs ys : List Tree) (i k : ℕ) → i ≡ length xs + k → slice_get (xs ++ ys) i ≡ slice_get ys k
-behind [] ys i k q = ap (slice_get ys) (omega (arith, q))
-behind (x ∷ xs) ys zero k q = absurd (omega (arith, q))
-behind (x ∷ xs) ys (suc i) k q = behind xs ys i k (omega (arith, q))
+following : (xs ys : List Tree) (i k : ℕ) → i ≡ length xs + k → slice_get (xs ++ ys) i ≡ slice_get ys k
+following [] ys i k q = ap (slice_get ys) (omega (arith, q))
+following (x ∷ xs) ys zero k q = absurd (omega (arith, q))
+following (x ∷ xs) ys (suc i) k q = following xs ys i k (omega (arith, q))
 
 -- under variables of the types `xs`, which those of the types `ys` take the places of
 module _ (v : Vocabulary) (places : List ℕ) (xs ys zs : List Tree) (count : length places ≡ length xs) (counts : length ys ≡ length xs)
@@ -196,14 +196,14 @@ module _ (v : Vocabulary) (places : List ℕ) (xs ys zs : List Tree) (count : le
       at_place : (b : Bool) → nat_lt i (d + length places) ≡ b → d ≤ i → slice_get (mid ++ (ys ++ zs)) (cond b (d + get_or places (i - d) 0) i) ≡ Some a
       at_place true q l =
           let below : i < d + length places = grind arith in
-          let k : slice_get (xs ++ zs) (i - d) ≡ Some a = sym (behind mid (xs ++ zs) i (i - d) (omega (arith, n, l))) ∙ h in
+          let k : slice_get (xs ++ zs) (i - d) ≡ Some a = sym (following mid (xs ++ zs) i (i - d) (omega (arith, n, l))) ∙ h in
           let z : slice_get xs (i - d) ≡ Some a = sym (first_part xs zs (i - d) (omega (arith, below, count, l))) ∙ k in
-          behind mid (ys ++ zs) (d + get_or places (i - d) 0) (get_or places (i - d) 0) (omega (arith, n)) ∙ further ys zs (get_or places (i - d) 0) a (same (i - d) a z)
+          following mid (ys ++ zs) (d + get_or places (i - d) 0) (get_or places (i - d) 0) (omega (arith, n)) ∙ further ys zs (get_or places (i - d) 0) a (same (i - d) a z)
       at_place false q l =
           let above : d + length places ≤ i = grind arith in
           let j : ℕ = i - d - length xs in
-          let k : slice_get zs j ≡ Some a = sym (behind xs zs (i - d) j (omega (arith, above, count))) ∙ sym (behind mid (xs ++ zs) i (i - d) (omega (arith, n, l))) ∙ h in
-          behind mid (ys ++ zs) i (i - d) (omega (arith, n, l)) ∙ behind ys zs (i - d) j (omega (arith, above, count, counts)) ∙ k
+          let k : slice_get zs j ≡ Some a = sym (following xs zs (i - d) j (omega (arith, above, count))) ∙ sym (following mid (xs ++ zs) i (i - d) (omega (arith, n, l))) ∙ h in
+          following mid (ys ++ zs) i (i - d) (omega (arith, n, l)) ∙ following ys zs (i - d) j (omega (arith, above, count, counts)) ∙ k
 
       of : (b : Bool) → nat_lt i d ≡ b → slice_get (mid ++ (ys ++ zs)) (cond b i (cond (nat_lt i (d + length places)) (d + get_or places (i - d) 0) i)) ≡ Some a
       of true q = let l : i < d = grind arith in sym (in_front mid (xs ++ zs) (ys ++ zs) i (omega (arith, l, n))) ∙ h

@@ -3,11 +3,12 @@ use Rattle.std.proofs.Common.{◌≡◌, ℕ, ◌+◌, ◌<◌, zero, suc, true,
 use Rattle.std.specs.Prelude.{pos}
 use Rattle.elab_groups.specs.trees.Tree.{Tree, Leaf, Two, Three, HEnd, HNum, HFun, HEq}
 use Rattle.elab_groups.specs.trees.Sorts.{int_type}
-use Rattle.elab_groups.specs.tasks.declared.signature.SymbolKind.TheVariants.{Function}
-use Rattle.elab_groups.specs.tasks.Task.{SymbolTree, int_symbol}
+use Rattle.elab_groups.specs.tasks.declared.signature.SymbolKind.TheVariants.{Function, Constructor}
+use Rattle.elab_groups.specs.tasks.Task.{SymbolTree, int_symbol, symbol_or}
 use Rattle.elab_groups.specs.tasks.Vocabulary.{Vocabulary, of_signature}
 use Rattle.elab_groups.specs.tasks.Valid.{IsTypeIn, HasTypes, IsFormulaOver}
 use Rattle.elab_groups.specs.name_resolution.Abstract.{Expression, applied_expression, integer_expression, equality_expression, no_expressions}
+use Rattle.elab_groups.specs.name_resolution.Records.{constructor_before}
 use Rattle.elab_groups.specs.name_resolution.Where.{Where}
 use Rattle.elab_groups.specs.scopes.declared.Referent.TheVariants as stands
 use Rattle.elab_groups.specs.open_types.Pieces.{piece}
@@ -42,7 +43,13 @@ well_formed = record {
   types = λ qs x. (refl, record { entry = omega arith; kind = refl; types = record { args = λ k d l. absurd (omega arith); result = tt } });
   names = λ qs x. constant_is;
   constructors = λ k z q. rw (some_at here.symbols k int_symbol z.signature.entry, q) refl;
+  records = λ k z q. absurd (none k z.signature.entry q);
 }
+  where
+    none : (k : ℕ) → k < 2 → (symbol_or here.symbols (constructor_before here.symbols k)).kind ≡ Constructor → ⊥
+    none zero l q = absurd (cc (q))
+    none (suc zero) l q = absurd (cc (q))
+    none (suc (suc k)) l q = absurd (omega (arith, l))
 
 abbrev source : Expression
 source = equality_expression 1 true (applied_expression 0 [] (codes "c") no_expressions) (integer_expression 2 (pos 0))

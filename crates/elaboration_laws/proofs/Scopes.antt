@@ -1,5 +1,5 @@
 -- Over a typed signature and typed scopes names stand for what a well-formed signature asks.
-use Rattle.std.proofs.Common.{◌≡◌, ℕ, ◌<◌, zero, suc, Bool, true, false, cond, List, [], ◌∷◌, ◌++◌, length, get_or, slice_get, All, Option, Some, None, IfSome, option_map, IsTrue, codes, refl, sym, ap, subst, arith}
+use Rattle.std.proofs.Common.{◌≡◌, ℕ, ◌<◌, zero, suc, Bool, true, false, cond, List, [], ◌∷◌, ◌++◌, length, get_or, slice_get, All, Option, Some, None, IfSome, option_map, IsTrue, codes, refl, sym, ap, subst, ◌∙◌, arith}
 use Rattle.std.specs.Str.{bytes_eq}
 use Rattle.std.specs.List.{AllByRecursion}
 use Rattle.std.proofs.lemmas.List.Elements.{recursion_from_All, All-from_recursion, All-nil, All-cons, All-set}
@@ -14,6 +14,9 @@ use Rattle.elab_groups.specs.surface.Lexeme.{Word}
 use Rattle.elab_groups.specs.name_resolution.Naming.{or_int, type_named}
 use Rattle.elab_groups.specs.name_resolution.Where.{MeaningTree, NamesTree}
 use Rattle.elab_groups.specs.parts.Outcomes.{over}
+use Rattle.elab_groups.specs.name_resolution.Records.{constructor_before}
+use Rattle.elab_groups.proofs.parts.RecordsKept.{before_below}
+use Rattle.elab_groups.specs.tasks.declared.signature.SymbolKind.TheVariants.{Kind, Constructor}
 use Rattle.elaboration_laws.specs.Signature.{with_entries, IsSymbol, IsMeaning, IsWellFormed}
 use Rattle.elaboration_laws.specs.Scopes.{IsTypedEntry, IsTypedSignature, IsTypeNumber, IsSymbolNumber, IsTypeName, IsNameOfSymbol, IsTypedThing, AreTypedScopes}
 use Rattle.elab_groups.proofs.scopes.Listed.{same_table_is as same_is}
@@ -133,4 +136,9 @@ module _ (base : Vocabulary) (symbols : List SymbolTree) (sig : IsTypedSignature
     types = types_meant names (types_alone v names scopes);
     names = λ qs x. symbol (find_name names Symbols (qs ++ x ∷ [])) (found_thing (IsTypedThing v) names scopes Symbols (qs ++ x ∷ []));
     constructors = λ k z q. sig.constructors k (symbol_or symbols k) (some_at symbols k int_symbol z.signature.entry) z.usable q;
+    records = λ k z q. number_symbol (constructor_before symbols k) (record {
+      there = let l = before_below symbols k in let m = z.signature.entry in omega (arith, l, m);
+      usable = sig.records k z.signature.entry z.usable q;
+      kind = λ e. let n : Kind ≡ Constructor = sym e ∙ q in absurd (cc (n));
+    });
   }

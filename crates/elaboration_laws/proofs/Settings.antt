@@ -1,5 +1,5 @@
 -- Where a declaration stands with the entries of its tuples: what is typed there, and what its names mean.
-use Rattle.std.proofs.Common.{◌≡◌, ℕ, true, false, List, [], ◌++◌, map, length, get_or, Option, Some, None, IfSome, option_map, refl, sym, ap, All}
+use Rattle.std.proofs.Common.{◌≡◌, ℕ, ◌<◌, true, false, List, [], ◌∷◌, ◌++◌, map, length, get_or, slice_get, Option, Some, None, IfSome, option_map, refl, sym, ap, All, arith}
 use Rattle.std.proofs.Math.ListN.{get_or-append}
 use Rattle.elab_groups.specs.trees.Tree.{Tree, Leaf, One, Two, Three, Head, HTyVar}
 use Rattle.elab_groups.specs.trees.Facts.{TyVarsBelow, leaf_below}
@@ -20,7 +20,8 @@ use Rattle.elab_groups.specs.open_types.Scoped.{IsScoped, IsScopedMeaning}
 use Rattle.elab_groups.specs.open_types.Drafts.{MeaningHeld}
 use Rattle.elab_groups.specs.open_types.Pieces.{type_at}
 use Rattle.elab_groups.proofs.open_types.Below.{form_below}
-use Rattle.elab_groups.specs.parts.Alike.{meaning_arity, shape, AreScopesAlike}
+use Rattle.elab_groups.specs.parts.Alike.{meaning_arity, shape, RecordShape, record_shape, AreScopesAlike}
+use Rattle.elab_groups.proofs.parts.RecordsKept.{record_kept}
 use Rattle.elab_groups.specs.parts.Entries.{IsThing, AreScopes}
 use Rattle.elab_groups.specs.parts.Outcomes.{Setting, over, tuples_wanting}
 use Rattle.elab_groups.proofs.parts.Scopes.{tuples_below}
@@ -93,10 +94,20 @@ module _ (base : Vocabulary) (symbols more : List SymbolTree) where
   shape_kept None h = refl
   shape_kept (Some k) h = let q : symbol_or symbols k ≡ symbol_or (symbols ++ more) k = sym (get_or-append symbols more int_symbol k h.signature.entry) in cc
 
+  record_of : (m : Option ℕ) → IfSome m (IsSymbol (with_entries base symbols)) → option_map (record_shape symbols) m ≡ option_map (record_shape (symbols ++ more)) m
+  record_of None h = refl
+  record_of (Some k) h = ap (λ (s : RecordShape). Some s) (record_kept symbols more k h.signature.entry)
+
+  some_there : (es : List SymbolTree) → slice_get es 0 ≡ Some int_symbol → 0 < length es
+  some_there [] h = absurd (cc (h))
+  some_there (e ∷ es) h = omega arith
+
   alike_more : (names : NamesTree) (vars : List Word) → IsWellFormed base (over symbols names vars) → AreScopesAlike (over symbols names vars) (over (symbols ++ more) names vars)
   alike_more names vars good = record {
     forms = record { types = λ qs x. arity_kept (type_named names qs x) (good.types qs x); vars = refl };
     names = λ qs x. shape_kept (symbol_named names qs x) (good.names qs x);
+    records = λ qs x. record_of (symbol_named names qs x) (good.names qs x);
+    first = record_kept symbols more 0 (some_there symbols good.int);
   }
 
 -- ---- with the entries of tuples

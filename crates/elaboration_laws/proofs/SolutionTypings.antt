@@ -19,26 +19,30 @@ use Rattle.elab_groups.specs.open_types.unify_types.Assigned.{assign}
 use Rattle.elab_groups.specs.open_types.unify_types.Pairs.{IsKind, SolvesAll}
 use Rattle.elab_groups.proofs.open_types.unify_types.Assigning.{assign-unknown}
 use Rattle.elab_groups.specs.surface.Lexeme.{Word}
-use Rattle.elab_groups.specs.name_resolution.Abstract.{TypeExpression, Pattern, Patterns, wildcard_pattern, variable_pattern, constructor_pattern, tuple_pattern, alias_pattern, no_patterns, more_patterns, Alternatives, no_alternatives, more_alternatives, BoundNames, Expression, Expressions, MatchBranches, applied_expression, infix_expression, integer_expression, true_expression, false_expression, tuple_expression, cast_expression, field_expression, not_expression, connected_expression, equality_expression, if_expression, let_expression, match_expression, quantified_expression, no_expressions, more_expressions, no_branches, more_branches, count_patterns, count_expressions}
+use Rattle.elab_groups.specs.name_resolution.Abstract.{FieldName, TypeExpression, Pattern, Patterns, wildcard_pattern, variable_pattern, constructor_pattern, tuple_pattern, alias_pattern, record_pattern, no_patterns, more_patterns, Alternatives, no_alternatives, more_alternatives, BoundNames, Expression, Expressions, MatchBranches, applied_expression, infix_expression, integer_expression, true_expression, false_expression, tuple_expression, cast_expression, field_expression, record_expression, not_expression, connected_expression, equality_expression, if_expression, let_expression, match_expression, quantified_expression, no_expressions, more_expressions, no_branches, more_branches, count_patterns, count_expressions}
 use Rattle.elab_groups.specs.name_resolution.declared.NamingFault.TheVariants.{WrongKind, Arity, Duplicate}
+use Rattle.elab_groups.specs.name_resolution.Records.{record_named}
 use Rattle.elab_groups.specs.name_resolution.Where.{Where, place_of}
-use Rattle.elab_groups.specs.name_resolution.Faults.{first_of, fault_if, is_predicate, differ, symbol_fault, local_fault, name_fault, field_fault, constructor_fault, pattern_fault, patterns_fault, later_fault, same_names, pattern_names, alternatives_fault, alternatives_names, bound_names, type_fault, binders_fault, is_formula_trigger, token, fault, faults, triggers_fault, branches_fault}
-use Rattle.elab_groups.specs.open_types.Patterns.{noted, taken, LocalTree, local, at_unknowns, result_or_int, first_or_int, rest_of, NumberedEntry, entry_of, Matched, part_types, constructed_by, local_type, variable_equations, pattern_piece, patterns_piece, later_pieces, alternatives_pieces, all_notes, first_variables, arms}
-use Rattle.elab_groups.specs.open_types.Pieces.{type_at, NotedTree, unknown_after, unknown, wanting, noted_before, both_pieces, bare_piece, piece, pieces, triggers_notes, branches_arms, Use, Local', Symbol', found_local, use_or, use_of_name, field_use, tuple_use, used_piece, use_vars, parameters, equality, binder_locals, binder_vars, binders_vars, bound, untyped, names}
+use Rattle.elab_groups.proofs.name_resolution.Fielded.{is_fielded, fielded_kind}
+use Rattle.elab_groups.proofs.name_resolution.SameNames.{SameNames, fault_same}
+use Rattle.elab_groups.specs.name_resolution.Faults.{first_of, fault_if, is_predicate, differ, symbol_fault, local_fault, name_fault, field_fault, constructor_fault, record_fault, pattern_fault, patterns_fault, later_fault, same_names, pattern_names, alternatives_fault, alternatives_names, bound_names, type_fault, binders_fault, is_formula_trigger, token, fault, faults, triggers_fault, branches_fault}
+use Rattle.elab_groups.specs.open_types.Patterns.{noted, taken, LocalTree, local, at_unknowns, result_or_int, first_or_int, rest_of, NumberedEntry, entry_of, Matched, part_types, place_types, tree_of_matched, fields_tree, fields_piece, part_pieces, constructed_by, local_type, variable_equations, pattern_piece, patterns_piece, later_pieces, alternatives_pieces, all_notes, first_variables, arms}
+use Rattle.elab_groups.specs.open_types.Pieces.{type_at, NotedTree, unknown_after, unknown, wanting, noted_before, both_pieces, bare_piece, piece, pieces, triggers_notes, branches_arms, Use, Local', Symbol', found_local, use_or, use_of_name, field_use, tuple_use, record_use, field_places, values_placed, piece_under, used_piece, use_vars, parameters, equality, binder_locals, binder_vars, binders_vars, bound, untyped, names}
 use Rattle.elab_groups.specs.open_types.Scoped.{IsScoped, IsScopedEntry}
 use Rattle.elab_groups.proofs.open_types.Below.{symbol_scoped, both_all}
 use Rattle.elab_groups.proofs.open_types.Noting.{count_replicate, replicate_both}
-use Rattle.elab_groups.proofs.open_types.Walking.{none_both, not_if, must_be, in_cast, in_negation, in_joined, in_equated, in_choice, in_binding, in_tuple}
+use Rattle.elab_groups.proofs.open_types.Walking.{none_both, not_if, must_be, in_cast, in_negation, in_joined, in_equated, in_choice, in_binding, in_tuple, in_record}
 use Rattle.elab_groups.proofs.open_types.Arguments.{found_name}
 use Rattle.elab_groups.proofs.open_types.Branching.{in_cases, first_names}
 use Rattle.elab_groups.proofs.open_types.Quantified.{in_quantified, names_bound}
 use Rattle.elaboration_laws.proofs.Instances.{cells_assigned}
 use Rattle.elaboration_laws.specs.Signature.{with_entries, IsWellFormed, IsSymbol, IsTuple, HasTuple, PatternTuples, PatternsTuples, AlternativesTuples, HasTuples, HaveTuples, BranchesTuples}
-use Rattle.elaboration_laws.specs.Typings.{IsDueResult, choices_from, Choice, choices_at, Both, Choosing, IsUseTyping, IsSingle, pair_cells, IsPair, PatternTree, pattern_tree, beside, Constructed, IsPatternTyping, ArePatternTypings, AgreeWith, AreLaterTypings, AreAlternativeTypings, first_bound, IsBinderTyping, AreBinderTypings, IsTriggerTyping, if_tree, case_tree, both_trees, IsTyping, AreTypings, AreTriggerTypings, AreBranchTypings, ElaboratesTo, HasOwnTypes}
+use Rattle.elaboration_laws.specs.Typings.{IsDueResult, choices_from, Choice, choices_at, Both, Choosing, SymbolUsed, IsUseTyping, IsSingle, pair_cells, IsPair, ValuesPlaced, PatternTree, pattern_tree, beside, Constructed, PartsPlaced, IsPatternTyping, ArePatternTypings, AreFieldTypings, AgreeWith, AreLaterTypings, AreAlternativeTypings, first_bound, IsBinderTyping, AreBinderTypings, IsTriggerTyping, if_tree, case_tree, both_trees, IsTyping, AreTypings, AreTriggerTypings, AreBranchTypings, ElaboratesTo, HasOwnTypes}
 use Rattle.elab_groups.specs.Groups.{typed_locals}
-use Rattle.elaboration_laws.proofs.TypingSolutions.{at_local, at_locals, at_use, use_same, UseScoped, use_scoped, names_at, inside_at, type_same, one_at, parameters_at, types_tree, count_variables, AreMatchedAt, first_at, arms_at, typed_at, form_at, quantify_at, equality_at, locals_own, wanted_own}
-use Rattle.elaboration_laws.proofs.Sound.{field_applied}
-use Rattle.elaboration_laws.proofs.Expressions.{names_inside}
+use Rattle.elaboration_laws.proofs.TypingSolutions.{at_local, at_locals, at_use, use_same, UseScoped, use_scoped, names_at, inside_at, type_same, one_at, parameters_at, types_tree, whole_at, count_variables, AreMatchedAt, first_at, arms_at, typed_at, form_at, quantify_at, equality_at, locals_own, wanted_own}
+use Rattle.elaboration_laws.proofs.Sound.{field_applied, record_symbol}
+use Rattle.elaboration_laws.proofs.Placing.{fields_long, places_long, types_at, fields_all, pieces_cells, values_at}
+use Rattle.elaboration_laws.proofs.Expressions.{names_inside, names_within}
 use Rattle.elaboration_laws.proofs.Patterns.{constructor_is as is_constructor}
 use Rattle.elaboration_laws.proofs.Signed.{is_predicate_kind}
 
@@ -133,6 +137,14 @@ module _ (base : Vocabulary) (w : Where) (good : IsWellFormed base w) (sc : IsSc
       of None x = absurd x
       of (Some k) x = let e = constructor_term (symbol_or w.symbols k) x.kind in ((e, symbol_result k x.symbol e), x.args)
 
+  -- the constructor of a record
+  record_due : (whole : Bool) (i n : ℕ) (fs : List FieldName) → record_fault w whole i n fs ≡ None → ((symbol_or w.symbols (record_named w.symbols w.names fs)).kind ≡ Constructor) × HasResult (symbol_or w.symbols (record_named w.symbols w.names fs))
+  record_due whole i n fs h =
+      let c = record_named w.symbols w.names fs in
+      let k = fielded_kind w whole n fs (is_fielded w whole i n fs h) in
+      let q = is_constructor (symbol_or w.symbols c).kind k in
+      (q, symbol_result c (record_symbol base w good r fs k) (constructor_term (symbol_or w.symbols c) q))
+
   result_typed : (n : ℕ) (e : SymbolTree) (t : Option Tree) → IsScopedEntry e → IsDue (is_none t) e → SolvesAll r f (wanting (at_unknowns n e (result_or_int e.result)) t) → IsDueResult e (map at (type_variables n e.vars)) (option_map at t)
   result_typed n e None s d h = d
   result_typed n e (Some t) s d h = (d.0, of e.result s.result d.1 h.0)
@@ -141,17 +153,13 @@ module _ (base : Vocabulary) (w : Where) (good : IsWellFormed base w) (sc : IsSc
       of None k g q = absurd g
       of (Some x) k g q = ap (λ (z : Tree). Some z) (sym ((one_at w sc r own f kinds) n e (map at (type_variables n e.vars)) refl x k) ∙ q)
 
-  used_typed : (n i c : ℕ) (t : Option Tree) (u : Use) (Args : List Tree → Tree → List Choice → Type 0) (p : NotedTree) → r ≤ n → (UseScoped w sc r own f kinds) u → CanUse (is_none t) c u → SolvesAll r f (used_piece n t i u p).notes.equations → (c ≡ 0 → Args [] (Leaf HEnd) [])
-      → (length (parameters n u) ≡ c → SolvesAll r f p.notes.equations → Args (map at (parameters n u)) (at p.tree) (from_ (n + use_vars u) p.notes.takers))
-      → IsUseTyping ((at_use w sc r own f kinds) u) i Args (option_map at t) (at (used_piece n t i u p).tree) (from_ n (used_piece n t i u p).notes.takers)
-  used_typed n i c None (Local' k ty) Args p l s d q none args = absurd (cc (d.0))
-  used_typed n i c (Some t) (Local' k ty) Args p l s d q none args = (none d.1, ap (λ (z : Tree). Some z) (sym q.0), refl, refl)
-  used_typed n i c t (Symbol' u) Args p l s d q none args =
+  symbol_typed : (n i c : ℕ) (t : Option Tree) (u : NumberedEntry) (Args : List Tree → Tree → List Choice → Type 0) (p : NotedTree) → r ≤ n → IsScopedEntry u.symbol → CanUse (is_none t) c (Symbol' u) → SolvesAll r f (used_piece n t i (Symbol' u) p).notes.equations
+      → (length (parameters n (Symbol' u)) ≡ c → SolvesAll r f p.notes.equations → Args (map at (parameters n (Symbol' u))) (at p.tree) (from_ (n + u.symbol.vars) p.notes.takers))
+      → SymbolUsed u i Args (option_map at t) (at (used_piece n t i (Symbol' u) p).tree) (from_ n (used_piece n t i (Symbol' u) p).notes.takers)
+  symbol_typed n i c t u Args p l s d q args =
       let e = u.symbol in
-      let tvs = type_variables n e.vars in
       let parts = parts_solved r f (wanting (at_unknowns n e (result_or_int e.result)) t) p.notes.equations q in
       let below = recursion_from_All (TyVarsBelow e.vars) e.args s.args in
-      let more = from_ (n + e.vars) p.notes.takers in
       record {
         types = map at (type_variables n e.vars);
         args = at p.tree;
@@ -162,6 +170,13 @@ module _ (base : Vocabulary) (w : Where) (good : IsWellFormed base w) (sc : IsSc
         made = (types_tree w sc r own f kinds) u.number (type_variables n e.vars) (map at (type_variables n e.vars)) t p.tree (at p.tree) refl refl;
         chosen = choices_both f n (replicate e.vars i) p.notes.takers ∙ cc (choices_use n e.vars i l, count_replicate e.vars i);
       }
+
+  used_typed : (n i c : ℕ) (t : Option Tree) (u : Use) (Args : List Tree → Tree → List Choice → Type 0) (p : NotedTree) → r ≤ n → (UseScoped w sc r own f kinds) u → CanUse (is_none t) c u → SolvesAll r f (used_piece n t i u p).notes.equations → (c ≡ 0 → Args [] (Leaf HEnd) [])
+      → (length (parameters n u) ≡ c → SolvesAll r f p.notes.equations → Args (map at (parameters n u)) (at p.tree) (from_ (n + use_vars u) p.notes.takers))
+      → IsUseTyping ((at_use w sc r own f kinds) u) i Args (option_map at t) (at (used_piece n t i u p).tree) (from_ n (used_piece n t i u p).notes.takers)
+  used_typed n i c None (Local' k ty) Args p l s d q none args = absurd (cc (d.0))
+  used_typed n i c (Some t) (Local' k ty) Args p l s d q none args = (none d.1, ap (λ (z : Tree). Some z) (sym q.0), refl, refl)
+  used_typed n i c t (Symbol' u) Args p l s d q none args = symbol_typed n i c t u Args p l s d q args
 
   -- ---- patterns
   abbrev at_matched : Matched → PatternTree
@@ -225,6 +240,22 @@ module _ (base : Vocabulary) (w : Where) (good : IsWellFormed base w) (sc : IsSc
           subst (λ (xs : List ℕ). IsPatternTyping w (at t) a (at_matched inner) (from_ n xs)) (sym (append-nil inner.notes.takers)) (pattern_typed a first n t seen l u h.0 z.0),
           ap (pattern_tree (One HPatAlias (at inner.tree))) (map-append (at_local w sc r own f kinds) inner.variables (local x t ∷ [])),
         )
+    pattern_typed (record_pattern i fs ps) first n t seen l u q s =
+        let h = none_both (record_fault w false i (count_patterns ps) fs) (patterns_fault w seen ps) q in
+        let k = record_named w.symbols w.names fs in
+        let c = entry_of w.symbols (Some k) in
+        let d = record_due false i (count_patterns ps) fs h.0 in
+        let places = field_places w fs in
+        let ts = part_types n c in
+        let m = n + c.symbol.vars in
+        let ms = part_pieces w first m (place_types places ts) ps in
+        let count : length (place_types places ts) ≡ count_patterns ps = places_long places ts ∙ fields_long w false (count_patterns ps) fs (is_fielded w false i (count_patterns ps) fs h.0) in
+        built_typed n i (length c.symbol.args) t c (PartsPlaced places (λ us ys z. AreFieldTypings w us ps ys z)) (fields_piece places ts ms) l (symbol_scoped w sc (Some k)) (d.0, d.1, refl) s
+        (λ e z. record {
+          parts = map at_matched ms;
+          parts_are = subst (λ (us : List Tree). AreFieldTypings w us ps (map at_matched ms) (from_ m (all_notes ms).takers)) (sym (types_at r f places ts)) (fields_typed ps first m (place_types places ts) seen (omega arith) count u h.1 z);
+          made = (whole_at w sc r own f kinds) places ts ms;
+        })
 
     patterns_typed : (ps : Patterns) (first : Option (List LocalTree)) (n : ℕ) (ts : List Tree) (seen : List Word) → r ≤ n → length ts ≡ count_patterns ps → PatternsTuples base w ps → patterns_fault w seen ps ≡ None → SolvesAll r f (patterns_piece w first n ts ps).notes.equations
         → ArePatternTypings w (map at ts) ps (at_matched (patterns_piece w first n ts ps)) (from_ n (patterns_piece w first n ts ps).notes.takers)
@@ -240,6 +271,19 @@ module _ (base : Vocabulary) (w : Where) (good : IsWellFormed base w) (sc : IsSc
         (ap (pattern_tree (Two HCell (at one.tree) (at rest.tree))) (map-append (at_local w sc r own f kinds) one.variables rest.variables))
         (pattern_typed p first n t seen l u.0 h.0 z.0) (patterns_typed ps first (n + taken one.notes) ts (seen ++ pattern_names p) (omega arith) (omega (arith, k)) u.1 h.1 z.1)
 
+    fields_typed : (ps : Patterns) (first : Option (List LocalTree)) (n : ℕ) (ts : List Tree) (seen : List Word) → r ≤ n → length ts ≡ count_patterns ps → PatternsTuples base w ps → patterns_fault w seen ps ≡ None → SolvesAll r f (all_notes (part_pieces w first n ts ps)).equations
+        → AreFieldTypings w (map at ts) ps (map at_matched (part_pieces w first n ts ps)) (from_ n (all_notes (part_pieces w first n ts ps)).takers)
+    fields_typed no_patterns first n [] seen l k u q s = (refl, refl)
+    fields_typed no_patterns first n (t ∷ ts) seen l k u q s = absurd (omega (arith, k))
+    fields_typed (more_patterns p ps) first n [] seen l k u q s = absurd (omega (arith, k))
+    fields_typed (more_patterns p ps) first n (t ∷ ts) seen l k u q s =
+        let h = none_both (pattern_fault w seen p) (patterns_fault w (seen ++ pattern_names p) ps) q in
+        let one = pattern_piece w first n t p in
+        let rest = part_pieces w first (n + taken one.notes) ts ps in
+        let z = parts_solved r f one.notes.equations (all_notes rest).equations s in
+        both_typed {P = λ y c. IsPatternTyping w (at t) p y c} {Q = λ ys c. AreFieldTypings w (map at ts) ps ys c} (λ y ys. y ∷ ys) f n one.notes.takers (all_notes rest).takers (at_matched one) (map at_matched rest) (at_matched one ∷ map at_matched rest) refl
+        (pattern_typed p first n t seen l u.0 h.0 z.0) (fields_typed ps first (n + taken one.notes) ts (seen ++ pattern_names p) (omega arith) (omega (arith, k)) u.1 h.1 z.1)
+
   agree_both : (first us vs : List LocalTree) → AgreeWith first us → AgreeWith first vs → AgreeWith first (us ++ vs)
   agree_both first us vs h k = both_all (λ (v : LocalTree). local_type v.name first ≡ v.type) us vs h k
 
@@ -253,6 +297,13 @@ module _ (base : Vocabulary) (w : Where) (good : IsWellFormed base w) (sc : IsSc
         let inner = pattern_piece w (Some first) n t a in
         let z = parts_solved r f inner.notes.equations (variable_equations (Some first) x t) s in
         subst (AgreeWith (ats first)) (sym (map-append (at_local w sc r own f kinds) inner.variables (local x t ∷ []))) (agree_both (ats first) (ats inner.variables) (local x (at t) ∷ []) (pattern_agrees a first n t z.0) ((type_same w sc r own f kinds) x first ∙ z.1.0, tt))
+    pattern_agrees (record_pattern i fs ps) first n t s =
+        let c = entry_of w.symbols (Some (record_named w.symbols w.names fs)) in
+        let places = field_places w fs in
+        let ts = part_types n c in
+        let ms = part_pieces w (Some first) (n + c.symbol.vars) (place_types places ts) ps in
+        subst (λ (p : PatternTree). AgreeWith (ats first) p.variables) (sym ((whole_at w sc r own f kinds) places ts ms))
+        (fields_all (λ (v : LocalTree). local_type v.name (ats first) ≡ v.type) places (map at ts) (map at_matched ms) (fields_agree ps first (n + c.symbol.vars) (place_types places ts) s.1))
 
     patterns_agree : (ps : Patterns) (first : List LocalTree) (n : ℕ) (ts : List Tree) → SolvesAll r f (patterns_piece w (Some first) n ts ps).notes.equations → AgreeWith (ats first) (ats (patterns_piece w (Some first) n ts ps).variables)
     patterns_agree no_patterns first n ts s = tt
@@ -261,6 +312,13 @@ module _ (base : Vocabulary) (w : Where) (good : IsWellFormed base w) (sc : IsSc
         let rest = patterns_piece w (Some first) (n + taken one.notes) (rest_of ts) ps in
         let z = parts_solved r f one.notes.equations rest.notes.equations s in
         subst (AgreeWith (ats first)) (sym (map-append (at_local w sc r own f kinds) one.variables rest.variables)) (agree_both (ats first) (ats one.variables) (ats rest.variables) (pattern_agrees p first n (first_or_int ts) z.0) (patterns_agree ps first (n + taken one.notes) (rest_of ts) z.1))
+
+    fields_agree : (ps : Patterns) (first : List LocalTree) (n : ℕ) (ts : List Tree) → SolvesAll r f (all_notes (part_pieces w (Some first) n ts ps)).equations → AllByRecursion (λ (p : PatternTree). AgreeWith (ats first) p.variables) (map at_matched (part_pieces w (Some first) n ts ps))
+    fields_agree no_patterns first n ts s = tt
+    fields_agree (more_patterns p ps) first n ts s =
+        let one = pattern_piece w (Some first) n (first_or_int ts) p in
+        let z = parts_solved r f one.notes.equations (all_notes (part_pieces w (Some first) (n + taken one.notes) (rest_of ts) ps)).equations s in
+        (pattern_agrees p first n (first_or_int ts) z.0, fields_agree ps first (n + taken one.notes) (rest_of ts) z.1)
 
   -- ---- alternatives
   later_typed : (as' : Alternatives) (first : List LocalTree) (ns : List Word) (n : ℕ) (t : Tree) → r ≤ n → AlternativesTuples base w as' → later_fault w ns as' ≡ None → SolvesAll r f (all_notes (later_pieces w first n t as')).equations
@@ -402,6 +460,23 @@ module _ (base : Vocabulary) (w : Where) (good : IsWellFormed base w) (sc : IsSc
         let inner = piece w ls m (Some (first_or_int ts)) a in
         used_typed n i 1 t c (IsSingle (λ v y d. IsTyping w (ats ls) v a y d)) (both_pieces (Two HCell) inner (bare_piece (Leaf HEnd))) l (symbol_scoped w sc (w.names qs x)) (field_can (is_none t) k (w.names qs x) (good.names qs x) h.1) s (λ e. absurd (omega (arith, e)))
         (λ j z. single_typed m ts inner (λ v y d. IsTyping w (ats ls) v a y d) j (typed a ls m (Some (first_or_int ts)) (omega arith) u h.0 (parts_solved r f inner.notes.equations [] z).0))
+    typed (record_expression i fs es) ls n None l u q s = absurd (cc (q))
+    typed (record_expression i fs es) ls n (Some t) l u q s =
+        let h = in_record w false (names ls) false i fs es q in
+        let k = record_named w.symbols w.names fs in
+        let c = entry_of w.symbols (Some k) in
+        let d = record_due true i (count_expressions es) fs h.1 in
+        let places = field_places w fs in
+        let ts = parameters n (record_use w fs) in
+        let m = n + c.symbol.vars in
+        let all = pieces w ls m (place_types places ts) es in
+        let count : length (place_types places ts) ≡ count_expressions es = places_long places ts ∙ fields_long w true (count_expressions es) fs (is_fielded w true i (count_expressions es) fs h.1) in
+        symbol_typed n i (length c.symbol.args) (Some t) c (ValuesPlaced places (λ us y z. AreTypings w (ats ls) us es y z)) (piece_under (values_placed places (length ts)) all) l (symbol_scoped w sc (Some k)) ((constructor_term c.symbol d.0, d.1), refl) s
+        (λ j z. record {
+          values = at all.tree;
+          values_are = subst (λ (us : List Tree). AreTypings w (ats ls) us es (at all.tree) (from_ m all.notes.takers)) (sym (types_at r f places ts)) (all_typed es ls m (place_types places ts) (omega arith) count u h.2 z);
+          made = values_at r f places (length ts) all.tree (pieces_cells w ls m (place_types places ts) es) ∙ ap (λ (i : ℕ). values_placed places i (at all.tree)) (sym (length-map ts at));
+        })
     typed (not_expression i a) ls n (Some t) l u q s = absurd (cc (q))
     typed (not_expression i a) ls n None l u q s = let h = in_negation w false (names ls) true i a q in (refl, (at (piece w ls n None a).tree, typed a ls n None l u h.1 s, refl))
     typed (connected_expression i a op b) ls n t l u q s =
@@ -530,9 +605,9 @@ module _ (base : Vocabulary) (w : Where) (good : IsWellFormed base w) (sc : IsSc
         let rest = branches_arms w ls m v t bs in
         let z = parts_solved r f ((all_notes ms).equations ++ body.notes.equations) rest.notes.equations s in
         let z' = parts_solved r f (all_notes ms).equations body.notes.equations z.0 in
-        let ns : within ≡ names inside = sym (names_inside vs ls (alternatives_names ps) (first_names w n v ps)) in
+        let ns : SameNames (names inside) within = names_within vs ls (alternatives_names ps) (first_names w n v ps h.0) in
         let same : ats inside ≡ reverse (first_bound (map at_matched ms)) ++ ats ls = (inside_at w sc r own f kinds) vs ls ∙ ap (λ (us : List LocalTree). reverse us ++ ats ls) ((first_at w sc r own f kinds) ms (map at_matched ms) (matched_self ms)) in
-        let y = typed b inside o t (omega arith) u.1 (subst (λ (ws : List Word). fault w false ws (is_none t) b ≡ None) ns k.0) z'.1 in
+        let y = typed b inside o t (omega arith) u.1 (fault_same w b false (names inside) within (is_none t) ns ∙ k.0) z'.1 in
         let x = branches_typed bs ls m v t (omega arith) u.2 k.1 z.1 in
         let tk = (all_notes ms).takers ++ body.notes.takers in
         let e : n + length ((all_notes ms).takers ++ body.notes.takers) ≡ m = omega (arith, length-append (all_notes ms).takers body.notes.takers) in

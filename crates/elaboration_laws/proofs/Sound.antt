@@ -11,20 +11,23 @@ use Rattle.elab_groups.specs.trees.Sorts.{int_type, sort_of, type_of}
 use Rattle.elab_groups.specs.trees.Binding.{inst_types}
 use Rattle.elab_groups.specs.trees.Facts.{IndicesFit}
 use Rattle.elab_groups.specs.tasks.declared.signature.SymbolKind.{SymbolKind}
-use Rattle.elab_groups.specs.tasks.declared.signature.SymbolKind.TheVariants.{Predicate}
-use Rattle.elab_groups.specs.tasks.Equations.{type_variables}
-use Rattle.elab_groups.specs.tasks.Task.{symbol_or}
-use Rattle.elab_groups.specs.tasks.Vocabulary.{Vocabulary}
-use Rattle.elab_groups.specs.tasks.Typing.{MakesTerms}
+use Rattle.elab_groups.specs.tasks.declared.signature.SymbolKind.TheVariants.{Kind, Predicate, Constructor}
+use Rattle.elab_groups.specs.tasks.Task.{SymbolTree, symbol_or, int_symbol}
+use Rattle.elab_groups.specs.tasks.Vocabulary.{Vocabulary, is_constructor_kind}
+use Rattle.elab_groups.specs.tasks.Equations.{cells, type_variables}
+use Rattle.elab_groups.specs.tasks.Typing.{MakesTerms, members}
 use Rattle.elab_groups.specs.tasks.Valid.{IsTypeIn}
 use Rattle.elab_groups.specs.open_types.unify_types.Assigned.{assign}
 use Rattle.elab_groups.specs.open_types.unify_types.Pairs.{SolvesAll}
 use Rattle.elab_groups.specs.surface.Lexeme.{Word}
+use Rattle.elab_groups.specs.name_resolution.Abstract.{FieldName}
 use Rattle.elab_groups.specs.name_resolution.declared.NamingFault.TheVariants.{WrongKind, Arity}
-use Rattle.elab_groups.specs.name_resolution.Faults.{fault_if, name_fault, field_fault, local_fault, symbol_fault, is_predicate, is_projection, differ, entry_fault}
+use Rattle.elab_groups.specs.name_resolution.Faults.{fault_if, name_fault, field_fault, local_fault, symbol_fault, is_predicate, is_projection, differ, entry_fault, record_fault}
+use Rattle.elab_groups.specs.name_resolution.Records.{constructor_before, record_with, record_named, entry_of_field, put_at_places, named_after, each_named}
 use Rattle.elab_groups.specs.name_resolution.Where.{Where}
-use Rattle.elab_groups.specs.open_types.Patterns.{Notes, noted, no_notes, follow, LocalTree, at_unknowns, result_or_int, first_or_int, rest_of, NumberedEntry, entry_of}
-use Rattle.elab_groups.specs.open_types.Pieces.{NotedTree, bare_piece, both_pieces, Use, Local', Symbol', variable_named, found_local, use_or, use_of_name, field_use, tuple_use, parameters, used_piece, names}
+use Rattle.elab_groups.specs.open_types.Patterns.{Notes, noted, no_notes, follow, LocalTree, at_unknowns, result_or_int, first_or_int, rest_of, place_types, NumberedEntry, entry_of}
+use Rattle.elab_groups.specs.open_types.Pieces.{NotedTree, bare_piece, both_pieces, Use, Local', Symbol', variable_named, found_local, use_or, use_of_name, field_use, tuple_use, record_use, values_placed, piece_under, parameters, used_piece, names}
+use Rattle.elab_groups.proofs.name_resolution.Fielded.{AreNewPlaces, is_fielded, fielded_kind}
 use Rattle.elab_groups.proofs.open_types.Below.{both_all}
 use Rattle.elab_groups.proofs.open_types.Walking.{none_both, not_if, must_be}
 use Rattle.elaboration_laws.specs.Signature.{with_entries, IsSymbol, IsTuple, IsWellFormed, HasTuple}
@@ -32,6 +35,7 @@ use Rattle.elaboration_laws.specs.Typed.{assigned_types}
 use Rattle.elaboration_laws.proofs.Over.{IsGood, IsOver, AreOver, type_over, over_assigned}
 use Rattle.elaboration_laws.proofs.Instances.{inst_over, variables_over, cells_assigned, all_assigned_over}
 use Rattle.elaboration_laws.proofs.Forms.{TypedAs, ListTyped, variable_typed, predicate_typed, function_typed, end_typed, cell_typed}
+use Rattle.elaboration_laws.proofs.Placing.{IsCells, no_value, types_at, cells_at, placed_at, placed_values}
 use Rattle.elaboration_laws.proofs.Signed.{IsEntry, named_symbol, parameters_over, instance_at, at_assigned, parameters_assigned, is_predicate_kind, makes_terms}
 use Rattle.elab_groups.proofs.open_types.Arguments.{found_name}
 use Rattle.theory_states.proofs.goal_tasks.TuplesMade.{variables_count as count_variables}
@@ -127,6 +131,10 @@ pub field_applied : (w : Where) (due : Bool) (i : ℕ) (m : Option ℕ) → fiel
 field_applied w due i None h = absurd (cc (h))
 field_applied w due i (Some k) h = let e = symbol_or w.symbols k in (none_both (fault_if (not (is_projection e.kind)) (WrongKind i)) (entry_fault due i 1 e) h).1
 
+pub constructor_is : (k : SymbolKind) → is_constructor_kind k ≡ true → k ≡ Constructor
+constructor_is Constructor q = refl
+constructor_is _ q = absurd (cc)
+
 -- ---- notes
 module _ (base : Vocabulary) (w : Where) (rigid : ℕ) where
   -- a pattern of a type
@@ -175,6 +183,30 @@ module _ (base : Vocabulary) (w : Where) (good : IsWellFormed base w) (rigid : �
   pub field_usable : (ls : List LocalTree) (due : Bool) (i : ℕ) (qs : List Word) (x : Word) → field_fault w due i (w.names qs x) ≡ None → IsUsable (sig base w) ls due 1 (field_use w qs x)
   field_usable ls due i qs x h = symbol_usable ls due i 1 (w.names qs x) (good.names qs x) (field_applied w due i (w.names qs x) h)
 
+  -- the first entry is no constructor
+  first_kind : (es : List SymbolTree) → slice_get es 0 ≡ Some int_symbol → (symbol_or es 0).kind ≡ Kind
+  first_kind [] h = absurd (cc (h))
+  first_kind (e ∷ es) h = let q : e ≡ int_symbol = cc (h) in ap (λ (i : SymbolTree). i.kind) q
+
+  first_none : is_constructor_kind (symbol_or w.symbols 0).kind ≡ true → ⊥
+  first_none h = let q : is_constructor_kind Kind ≡ true = ap is_constructor_kind (sym (first_kind w.symbols good.int)) ∙ h in cc (q)
+
+  -- the constructor of the record to which fields belong
+  pub record_symbol : (fs : List FieldName) → is_constructor_kind (symbol_or w.symbols (record_named w.symbols w.names fs)).kind ≡ true → IsSymbol (sig base w) (record_named w.symbols w.names fs)
+  record_symbol [] h = absurd (first_none h)
+  record_symbol (f ∷ fs) h = of (entry_of_field w.names f) (good.names f.scopes f.text) h
+    where
+      of : (m : Option ℕ) → IfSome m (IsSymbol (sig base w)) → is_constructor_kind (symbol_or w.symbols (record_with w.symbols m)).kind ≡ true → IsSymbol (sig base w) (record_with w.symbols m)
+      of None s k = absurd (first_none k)
+      of (Some j) s k = good.records j s (constructor_is (symbol_or w.symbols (constructor_before w.symbols j)).kind k)
+
+  pub record_usable : (ls : List LocalTree) (whole : Bool) (i n : ℕ) (fs : List FieldName) → record_fault w whole i n fs ≡ None
+      → IsUsable (sig base w) ls false (length (symbol_or w.symbols (record_named w.symbols w.names fs)).args) (record_use w fs)
+  record_usable ls whole i n fs h =
+      let c = record_named w.symbols w.names fs in
+      let k = fielded_kind w whole n fs (is_fielded w whole i n fs h) in
+      (named_symbol (sig base w) c (record_symbol fs k), ap is_predicate (constructor_is (symbol_or w.symbols c).kind k), refl)
+
   pub tuple_usable : (ls : List LocalTree) (n : ℕ) → HasTuple base w n → IsUsable (sig base w) ls false n (tuple_use w n)
   tuple_usable ls n h = of (w.tuples n) h
     where
@@ -210,6 +242,28 @@ module _ (base : Vocabulary) (w : Where) (good : IsWellFormed base w) (rigid : �
   one_argument ls [] p n x = absurd (cc)
   one_argument ls (t ∷ []) p n x = more_arguments ls t [] p _ x (no_arguments ls)
   one_argument ls (t ∷ u ∷ ts) p n x = absurd (cc)
+
+  -- the values of all fields of a record
+  pub values_sound : (ls : List LocalTree) (places : List ℕ) (ts : List Tree) (p : NotedTree) → IsCells p.tree → AreNewPlaces (replicate (length ts) false) places → length places ≡ length (members p.tree)
+      → each_named (named_after places (replicate (length ts) false)) ≡ true → AreSound ls (place_types places ts) p → AreSound ls ts (piece_under (values_placed places (length ts)) p)
+  values_sound ls places ts p z new c all x = record {
+    notes = x.notes;
+    typed = λ f o s i.
+        let v = sig base w in
+        let types = assigned_types rigid f ls in
+        let es = map (assign rigid f) (members p.tree) in
+        let us = map (assign rigid f) ts in
+        let count : length (map (assign rigid f) ts) ≡ length ts = length-map ts (assign rigid f) in
+        let long : length places ≡ length (map (assign rigid f) (members p.tree)) = c ∙ sym (length-map (members p.tree) (assign rigid f)) in
+        let tree : assign rigid f p.tree ≡ cells (map (assign rigid f) (members p.tree)) = cells_at rigid f p.tree z in
+        let same : assign rigid f (values_placed places (length ts) p.tree) ≡ cells (put_at_places places (map (assign rigid f) (members p.tree)) (replicate (length (map (assign rigid f) ts)) no_value)) =
+        placed_at rigid f places ts p.tree z in
+        let y = placed_values v types places us es (subst (λ (k : ℕ). AreNewPlaces (replicate k false) places) (sym count) new) long (subst (λ (k : ℕ). each_named (named_after places (replicate k false)) ≡ true) (sym count) all)
+        (subst IndicesFit same i)
+        (λ fit. subst (λ (xs : List Tree). ListTyped v Term types xs (cells es)) (sym (types_at rigid f places ts))
+        (subst (ListTyped v Term types (map (assign rigid f) (place_types places ts))) tree (x.typed f o s (subst IndicesFit (sym tree) fit)))) in
+        subst (ListTyped v Term types us) (sym same) y;
+  }
 
   -- two operands
   pub two_arguments : (ls : List LocalTree) (ts : List Tree) (p q : NotedTree) → length ts ≡ 2 → IsSound ls (Some (first_or_int ts)) p → IsSound ls (Some (first_or_int (rest_of ts))) q → AreSound ls ts (both_pieces (Two HCell) p (both_pieces (Two HCell) q (bare_piece (Leaf HEnd))))

@@ -13,6 +13,7 @@ use Rattle.elab_groups.specs.scopes.declared.Table.TheVariants.{Symbols}
 use Rattle.elab_groups.specs.scopes.declared.Referent.TheVariants as stands
 use Rattle.elab_groups.specs.surface.Lexeme.{Word}
 use Rattle.elab_groups.specs.name_resolution.Abstract.{TypeExpression}
+use Rattle.elab_groups.specs.name_resolution.Records.{is_projection}
 use Rattle.elab_groups.specs.name_resolution.Faults.{first_of, type_fault, binders_fault}
 use Rattle.elab_groups.specs.name_resolution.Naming.{type_named}
 use Rattle.elab_groups.specs.name_resolution.Where.{Where, NamesTree}
@@ -30,7 +31,7 @@ use Rattle.elaboration_laws.specs.Signature.{with_entries}
 use Rattle.elaboration_laws.specs.Scopes.{is_projection_kind, is_nameable, NamesNew, IsTypedEntry, IsTypedSignature, IsSymbolNumber, IsTypedThing, AreTypedScopes}
 use Rattle.elaboration_laws.proofs.Widths.{IsWithin}
 use Rattle.elaboration_laws.proofs.Scopes.{scopes_more, typed_entry}
-use Rattle.elaboration_laws.proofs.Extended.{entries_part, news_front, news_later, type_more, signature_more, scopes_extended}
+use Rattle.elaboration_laws.proofs.Extended.{entries_part, news_front, news_later, type_more, signature_more, scopes_extended, BeginsPlain, records_later}
 use Rattle.elaboration_laws.proofs.Tuples.{tuple_front, tuples_there}
 use Rattle.elaboration_laws.specs.Valid.{IsTypedSetting}
 use Rattle.elaboration_laws.proofs.Settings.{arity_kept, inside, inside_typed, inside_scopes, formed}
@@ -99,6 +100,16 @@ abbrev pub AreSeen : SeenTree → List GroupMember → Type 0
 AreSeen all [] = Unit {0}
 AreSeen all (m ∷ ms) = ((u : SeenTree) × IsWithin (type_seen (params_seen u m.params) m.result) all) × AreSeen all ms
 
+-- a function or a predicate is no projection
+signed_plain : (theory within : Word) (ms : List GroupMember) (gs : List SignatureTree) → BeginsPlain (signed_entries theory within ms gs)
+signed_plain theory within [] gs = tt
+signed_plain theory within (m ∷ ms) [] = tt
+signed_plain theory within (m ∷ ms) (g ∷ gs) = of m.result
+  where
+    of : (t : Option TypeExpression) → is_projection (symbol_kind_of t) ≡ false
+    of None = refl
+    of (Some f) = refl
+
 -- where the members' names, after those of a scope, hide no type
 module _ (base : Vocabulary) (c : Setting) (h : IsTypedSetting base c) (ms : List GroupMember) (all_seen : SeenTree) (names' : NamesTree) (same_types : (qs : List Word) (x : Word) → type_named names' qs x ≡ type_named c.scope qs x) where
   abbrev pub front : List SymbolTree
@@ -158,8 +169,11 @@ module _ (base : Vocabulary) (c : Setting) (h : IsTypedSetting base c) (ms : Lis
       pub whole_signed : AreSigned vocabulary ms gs
       whole_signed = signed_more (with_entries base front) vocabulary (λ n t x. type_more (with_entries base front) vocabulary (entries_part base front own_entries) n t x) ms gs front_signed
 
+      later_news : NamesNew base (length front) whole
+      later_news = news_later base (length c.symbols) (length front) whole past news
+
       pub whole_typed : IsTypedSignature base whole
-      whole_typed = signature_more base front own_entries (inside_typed base c h all_seen front_news) (entries_typed c.theory c.within h.theory vocabulary ms gs whole_signed) (news_later base (length c.symbols) (length front) whole past news)
+      whole_typed = signature_more base front own_entries (inside_typed base c h all_seen front_news) (entries_typed c.theory c.within h.theory vocabulary ms gs whole_signed) later_news (records_later base front own_entries (signed_plain c.theory c.within ms gs) later_news)
 
       pub entries_here : EntriesAt base whole (length front) own_entries
       entries_here =

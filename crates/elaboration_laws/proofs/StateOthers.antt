@@ -53,7 +53,7 @@ module _ (m : Map) (theory within : List ℕ) (first : List DeclarationTree) whe
     made_right_of (copies d ∷ ss) r s l f =
         let fit = All-head (StepFits xs m symbols theory within first) (copies d) ss f in
         All-append (Right symbols) (declaration_copied m theory within d ∷ []) (made_from m theory within first ss)
-        (copied_right xs symbols m theory within d (All-head (λ (d : DeclarationTree). (k : ℕ) → Contains (made_by d.body) k → k < length xs) d (declarations_of ss) l) (λ i k n. (fit i k n).0) (All-head (Right xs) d (declarations_of ss) r))
+        (copied_right xs symbols m theory within d (All-head (λ (d : DeclarationTree). (k : ℕ) → Contains (made_by d.body) k → k < length xs) d (declarations_of ss) l) (λ i k n. (fit.0 i k n).0) (All-head (Right xs) d (declarations_of ss) r))
         (made_right_of ss (All-tail (Right xs) d (declarations_of ss) r) (All-tail (Right symbols) d (declarations_of ss) s) (All-tail (λ (d : DeclarationTree). (k : ℕ) → Contains (made_by d.body) k → k < length xs) d (declarations_of ss) l) (All-tail (StepFits xs m symbols theory within first) (copies d) ss f))
     made_right_of (leaves d ∷ ss) r s l f =
         made_right_of ss (All-tail (Right xs) d (declarations_of ss) r) (All-tail (Right symbols) d (declarations_of ss) s) (All-tail (λ (d : DeclarationTree). (k : ℕ) → Contains (made_by d.body) k → k < length xs) d (declarations_of ss) l) (All-tail (StepFits xs m symbols theory within first) (leaves d) ss f)

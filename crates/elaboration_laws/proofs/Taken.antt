@@ -8,7 +8,7 @@ use Rattle.clones.specs.Mapped.{Map}
 use Rattle.elaboration_laws.specs.Lists.{after}
 use Rattle.elaboration_laws.proofs.Lists.{list_part}
 use Rattle.elaboration_laws.specs.Built.{IsBuiltRight}
-use Rattle.elaboration_laws.specs.Tasks.{IsOwnSymbol, IsOfTheory, AreSound}
+use Rattle.elaboration_laws.specs.Tasks.{IsOwnSymbol, IsOfTheory, AreSound, HasRecords}
 use Rattle.elaboration_laws.proofs.Distinct.{IsDistinct, distinct_pairs, pairs_distinct, distinct_both}
 use Rattle.elaboration_laws.proofs.TupleDecls.{made_both}
 use Rattle.elaboration_laws.proofs.Grown.{then_valid, more_part, sound_more}
@@ -20,10 +20,13 @@ module _ (xs : List SymbolTree) (pre : List DeclarationTree) (m : Map) (symbols 
   pub cloning_left : ((k : ℕ) → Contains (made_by d.body) k → IsImage (after symbols [] now) m (symbol_or xs k) k (is_constructor (role_in k d.body))) → IsCloning xs (pre ++ d ∷ []) m symbols now
   cloning_left images = record { source = whole; sound = h.sound; morphism = morphism_next xs pre d (after symbols [] now) m h.morphism images }
 
+  abbrev HasTheirs : DeclarationTree → Type 0
+  HasTheirs b = HasRecords symbols (made_by b.body)
+
   -- it stays as it is
-  pub cloning_taken : IsValidDecl (after symbols [] (now ++ d ∷ [])) d → All (IsOwnSymbol symbols) (made_by d.body) → IsOfTheory symbols d → IsDistinct (made_by d.body) → ((k : ℕ) → Contains (made now) k → Contains (made_by d.body) k → ⊥)
+  pub cloning_taken : IsValidDecl (after symbols [] (now ++ d ∷ [])) d → All (IsOwnSymbol symbols) (made_by d.body) → IsOfTheory symbols d → HasRecords symbols (made_by d.body) → IsDistinct (made_by d.body) → ((k : ℕ) → Contains (made now) k → Contains (made_by d.body) k → ⊥)
       → ((k : ℕ) → Contains (made_by d.body) k → IsImage (after symbols [] (now ++ d ∷ [])) m (symbol_or xs k) k (is_constructor (role_in k d.body))) → IsCloning xs (pre ++ d ∷ []) m symbols (now ++ d ∷ [])
-  cloning_taken valid own theory distinct apart images = record {
+  cloning_taken valid own theory records distinct apart images = record {
     source = whole;
     sound = record {
       built = h.sound.built;
@@ -31,6 +34,7 @@ module _ (xs : List SymbolTree) (pre : List DeclarationTree) (m : Map) (symbols 
       once = distinct_pairs (made (now ++ d ∷ [])) (subst IsDistinct (sym all_made) (distinct_both (made now) (made_by d.body) (pairs_distinct (made now) h.sound.once) distinct apart));
       own = subst (All (IsOwnSymbol symbols)) (sym all_made) (All-append (IsOwnSymbol symbols) (made now) (made_by d.body) h.sound.own own);
       theories = All-append (IsOfTheory symbols) now (d ∷ []) h.sound.theories (All-cons (IsOfTheory symbols) d [] theory (All-nil (IsOfTheory symbols)));
+      records = All-append HasTheirs now (d ∷ []) h.sound.records (All-cons HasTheirs d [] records (All-nil HasTheirs));
     };
     morphism = morphism_next xs pre d (after symbols [] (now ++ d ∷ [])) m (morphism_more (after symbols [] now) (after symbols [] (now ++ d ∷ [])) (list_part symbols [] now (d ∷ [])) (after xs [] pre) m h.morphism) images;
   }

@@ -19,7 +19,7 @@ use Rattle.elaboration_laws.specs.Signature.{with_entries, IsTuple}
 use Rattle.elaboration_laws.specs.Scopes.{NamesNew, IsTypedEntry, IsTypedSignature}
 use Rattle.elaboration_laws.proofs.Over.{IsOver, over_good, cells_over, members_cells}
 use Rattle.elaboration_laws.proofs.Instances.{variables_over}
-use Rattle.elaboration_laws.proofs.Extended.{signature_more, news_front, news_later}
+use Rattle.elaboration_laws.proofs.Extended.{signature_more, news_front, news_later, records_later}
 use Rattle.elaboration_laws.proofs.Scopes.{typed_entry}
 use Rattle.elab_groups.proofs.plain_laws.Bools.{and_both as both_true}
 use Rattle.theory_states.proofs.goal_tasks.TuplesMade.{variables_count as count_variables}
@@ -84,7 +84,7 @@ tuple_typed base symbols n news =
     (constructor_typed v builtin (codes "Tuple" ++ decimal n) n (own_type k n) (type_variables 0 n) (own_in v k n (last_type base symbols rest builtin name n refl news)) (variables_in v 0 n n (omega arith)))
 
 one_typed : (base : Vocabulary) (symbols : List SymbolTree) (n : ℕ) (m : Option ℕ) → NamesNew base (length symbols) (symbols ++ wanting_tuple symbols n m) → IsTypedSignature base symbols → IsTypedSignature base (symbols ++ wanting_tuple symbols n m)
-one_typed base symbols n None news h = signature_more base symbols (tuple_entries (length symbols) n) h (tuple_typed base symbols n news) news
+one_typed base symbols n None news h = signature_more base symbols (tuple_entries (length symbols) n) h (tuple_typed base symbols n news) news (records_later base symbols (tuple_entries (length symbols) n) refl news)
 one_typed base symbols n (Some k) news h = rw append-nil h
 
 pub tuples_typed : (base : Vocabulary) (symbols : List SymbolTree) (ns : List ℕ) → NamesNew base (length symbols) (symbols ++ wanting_tuples symbols ns) → IsTypedSignature base symbols → IsTypedSignature base (symbols ++ wanting_tuples symbols ns)
@@ -113,9 +113,9 @@ tuple_front n k (x ∷ xs) ys h = of (is_tuple n x) (tuple_from n (suc k) xs) h 
     of true m q f = refl
     of false m q f = f q
 
-tuple_behind : (n k : ℕ) (xs ys : List SymbolTree) → ((j : ℕ) → has_tuple n j ys ≡ true) → has_tuple n k (xs ++ ys) ≡ true
-tuple_behind n k [] ys h = h k
-tuple_behind n k (x ∷ xs) ys h = of (is_tuple n x) (tuple_behind n (suc k) xs ys h)
+tuple_after : (n k : ℕ) (xs ys : List SymbolTree) → ((j : ℕ) → has_tuple n j ys ≡ true) → has_tuple n k (xs ++ ys) ≡ true
+tuple_after n k [] ys h = h k
+tuple_after n k (x ∷ xs) ys h = of (is_tuple n x) (tuple_after n (suc k) xs ys h)
   where
     of : (b : Bool) → has_tuple n (suc k) (xs ++ ys) ≡ true → is_some (cond b (Some k) (tuple_from n (suc k) (xs ++ ys))) ≡ true
     of true q = refl
@@ -128,7 +128,7 @@ own_tuple n k j =
     rw (q, l) refl
 
 one_there : (symbols : List SymbolTree) (n : ℕ) (m : Option ℕ) → tuple_in symbols n ≡ m → has_tuple n 0 (symbols ++ wanting_tuple symbols n m) ≡ true
-one_there symbols n None h = tuple_behind n 0 symbols (tuple_entries (length symbols) n) (λ j. own_tuple n (length symbols) j)
+one_there symbols n None h = tuple_after n 0 symbols (tuple_entries (length symbols) n) (λ j. own_tuple n (length symbols) j)
 one_there symbols n (Some k) h = tuple_front n 0 symbols [] (ap is_some h)
 
 either_there : (n m : ℕ) (xs rest : List SymbolTree) (c b : Bool) → (m == n) ≡ b → (b || c) ≡ true → has_tuple m 0 xs ≡ true → (c ≡ true → has_tuple n 0 (xs ++ rest) ≡ true) → has_tuple n 0 (xs ++ rest) ≡ true

@@ -21,7 +21,7 @@ use Rattle.elaboration_laws.specs.Signature.{with_entries}
 use Rattle.elaboration_laws.specs.Scopes.{NamesNew, IsTypedEntry, IsTypedThing}
 use Rattle.elaboration_laws.proofs.Widths.{form_tuples}
 use Rattle.elaboration_laws.proofs.Scopes.{scopes_more}
-use Rattle.elaboration_laws.proofs.Extended.{signature_more, scopes_extended}
+use Rattle.elaboration_laws.proofs.Extended.{signature_more, scopes_extended, records_later}
 use Rattle.elaboration_laws.proofs.Tuples.{type_entry_typed}
 use Rattle.elaboration_laws.specs.Valid.{IsTypedSetting, IsValidOutcome}
 use Rattle.elaboration_laws.proofs.Settings.{inside, inside_scopes, inside_typed, world, tuples, same_names, form_in}
@@ -49,7 +49,7 @@ module _ (base : Vocabulary) (c : Setting) (h : IsTypedSetting base c) where
       let t = type_entry_typed v c.theory (full_name c x) n in
       let kind : (symbol_or v.symbols k).kind ≡ Kind = ap (λ (i : SymbolTree). i.kind) (last_or c.symbols e) in
       record {
-        signature = signature_more base c.symbols (e ∷ []) h.signature (All-cons (IsTypedEntry v) e [] t (All-nil (IsTypedEntry v))) news;
+        signature = signature_more base c.symbols (e ∷ []) h.signature (All-cons (IsTypedEntry v) e [] t (All-nil (IsTypedEntry v))) news (records_later base c.symbols (e ∷ []) refl news);
         scopes = scopes_more (IsTypedThing v) c.scope Types x.name (stands.Entry k) true (record { there = last_there c.symbols e; usable = may; kind = kind })
             (scopes_extended base c.symbols (e ∷ []) c.scope h.scopes);
         decls = All-cons (IsValidDecl v) _ [] (record { entry = last_there c.symbols e; kind = kind; types = rw (last_or c.symbols e) t.types }) (All-nil (IsValidDecl v));

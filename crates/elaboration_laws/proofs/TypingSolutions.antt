@@ -1,6 +1,6 @@
 -- Each typing of an expression is its piece at a solution of its type equations.
-use Rattle.std.proofs.Common.{◌≡◌, ℕ, ◌+◌, ◌-◌, ◌<◌, ◌≤◌, zero, suc, Bool, true, false, cond, List, [], ◌∷◌, ◌++◌, map, reverse, replicate, length, get_or, Option, Some, None, IfSome, option_map, refl, sym, ap, subst, ◌∙◌, inl, arith, append-nil, length-append}
-use Rattle.std.specs.Option.{is_none}
+use Rattle.std.proofs.Common.{◌≡◌, ℕ, ◌+◌, ◌-◌, ◌<◌, ◌≤◌, zero, suc, Bool, true, false, not, cond, List, [], ◌∷◌, ◌++◌, map, reverse, replicate, length, get_or, Option, Some, None, IfSome, option_map, refl, sym, ap, subst, ◌∙◌, inl, arith, append-nil, length-append}
+use Rattle.std.specs.Option.{is_some, is_none}
 use Rattle.std.specs.Str.{bytes_eq}
 use Rattle.std.specs.List.{AllByRecursion}
 use Rattle.std.proofs.lemmas.List.{map-append}
@@ -17,21 +17,25 @@ use Rattle.elab_groups.specs.open_types.unify_types.Assigned.{assign, leaf_assig
 use Rattle.elab_groups.specs.open_types.unify_types.Pairs.{IsKind, SolvesAll}
 use Rattle.elab_groups.proofs.open_types.unify_types.Assigning.{assign-unknown, assign-rigid}
 use Rattle.elab_groups.specs.surface.Lexeme.{Word}
-use Rattle.elab_groups.specs.name_resolution.Abstract.{TypeExpression, Pattern, Patterns, wildcard_pattern, variable_pattern, constructor_pattern, tuple_pattern, alias_pattern, no_patterns, more_patterns, Alternatives, no_alternatives, more_alternatives, BoundNames, Expression, Expressions, MatchBranches, applied_expression, infix_expression, integer_expression, true_expression, false_expression, tuple_expression, cast_expression, field_expression, not_expression, connected_expression, equality_expression, if_expression, let_expression, match_expression, quantified_expression, no_expressions, more_expressions, no_branches, more_branches, count_patterns, count_expressions}
-use Rattle.elab_groups.specs.name_resolution.Faults.{first_of, name_fault, field_fault, form_fault, type_fault, binders_fault, bound_names, is_formula_trigger, token, fault, faults, triggers_fault, branches_fault, alternatives_names}
-use Rattle.elab_groups.specs.name_resolution.Where.{Where}
-use Rattle.elab_groups.specs.open_types.Patterns.{Notes, noted, no_notes, follow, taken, LocalTree, local, at_unknowns, result_or_int, first_or_int, rest_of, NumberedEntry, entry_of, Matched, part_types, constructed_by, local_type, variable_equations, pattern_piece, patterns_piece, later_pieces, alternatives_pieces, all_notes, first_variables, place_among, places_among, reordered, later_arms, arms}
-use Rattle.elab_groups.specs.open_types.Pieces.{type_at, NotedTree, unknown_after, unknown, wanting, noted_before, both_pieces, bare_piece, piece, pieces, triggers_notes, branches_arms, Arms, Use, Local', Symbol', variable_named, found_local, use_or, use_of_name, field_use, tuple_use, used_piece, local_piece, use_vars, parameters, symbol_at_types, equality, binder_locals, binder_vars, binders_vars, bound, untyped, locals_of_type, quantify, names}
+use Rattle.elab_groups.specs.name_resolution.Abstract.{TypeExpression, Pattern, Patterns, wildcard_pattern, variable_pattern, constructor_pattern, tuple_pattern, alias_pattern, record_pattern, no_patterns, more_patterns, Alternatives, no_alternatives, more_alternatives, BoundNames, Expression, Expressions, MatchBranches, applied_expression, infix_expression, integer_expression, true_expression, false_expression, tuple_expression, cast_expression, field_expression, record_expression, not_expression, connected_expression, equality_expression, if_expression, let_expression, match_expression, quantified_expression, no_expressions, more_expressions, no_branches, more_branches, count_patterns, count_expressions}
+use Rattle.elab_groups.specs.name_resolution.Faults.{first_of, fault_if, name_fault, field_fault, constructor_fault, record_fault, pattern_names, pattern_fault, patterns_fault, same_names, later_fault, alternatives_fault, form_fault, type_fault, binders_fault, bound_names, is_formula_trigger, token, fault, faults, triggers_fault, branches_fault, alternatives_names}
+use Rattle.elab_groups.specs.name_resolution.declared.NamingFault.TheVariants.{WrongKind, Duplicate}
+use Rattle.elab_groups.specs.name_resolution.Records.{record_named}
+use Rattle.elab_groups.specs.name_resolution.Where.{Where, place_of}
+use Rattle.elab_groups.specs.open_types.Patterns.{pattern_tree, Notes, noted, no_notes, follow, taken, LocalTree, local, at_unknowns, result_or_int, first_or_int, rest_of, NumberedEntry, entry_of, Matched, part_types, place_types, tree_of_matched, fields_tree, fields_piece, part_pieces, constructed_by, local_type, variable_equations, pattern_piece, patterns_piece, later_pieces, alternatives_pieces, all_notes, first_variables, place_among, places_among, reordered, later_arms, arms}
+use Rattle.elab_groups.specs.open_types.Pieces.{type_at, NotedTree, unknown_after, unknown, wanting, noted_before, both_pieces, bare_piece, piece, pieces, triggers_notes, branches_arms, Arms, Use, Local', Symbol', variable_named, found_local, use_or, use_of_name, field_use, tuple_use, record_use, field_places, values_placed, piece_under, used_piece, local_piece, use_vars, parameters, symbol_at_types, equality, binder_locals, binder_vars, binders_vars, bound, untyped, locals_of_type, quantify, names}
 use Rattle.elab_groups.specs.open_types.Scoped.{IsScoped, IsScopedEntry}
-use Rattle.elaboration_laws.specs.Typings.{IsDueResult, Choice, choices_at, tokens, Both, Choosing, SymbolUsed, IsUseTyping, IsSingle, pair_cells, IsPair, PatternTree, Constructed, IsPatternTyping, ArePatternTypings, AgreeWith, AreLaterTypings, AreAlternativeTypings, first_bound, arms_after, arms_of_patterns, IsBinderTyping, AreBinderTypings, IsTriggerTyping, if_tree, case_tree, IsTyping, AreTypings, AreTriggerTypings, AreBranchTypings, IsPieceAt, HasOwnTypes}
+use Rattle.elaboration_laws.specs.Typings.{IsDueResult, Choice, choices_at, tokens, Both, Choosing, SymbolUsed, IsUseTyping, IsSingle, pair_cells, IsPair, ValuesPlaced, PatternTree, Constructed, PartsPlaced, IsPatternTyping, ArePatternTypings, AreFieldTypings, AgreeWith, AreLaterTypings, AreAlternativeTypings, first_bound, arms_after, arms_of_patterns, IsBinderTyping, AreBinderTypings, IsTriggerTyping, if_tree, case_tree, IsTyping, AreTypings, AreTriggerTypings, AreBranchTypings, IsPieceAt, HasOwnTypes}
 use Rattle.elab_groups.specs.Groups.{typed_locals}
 use Rattle.elab_groups.proofs.open_types.Below.{below_more, form_below, symbol_scoped}
 use Rattle.elab_groups.proofs.open_types.Noting.{count_replicate, replicate_both}
-use Rattle.elab_groups.proofs.open_types.Walking.{none_both, in_cast, in_negation, in_joined, in_equated, in_choice, in_binding, in_tuple}
-use Rattle.elab_groups.proofs.open_types.Branching.{in_cases, in_branches}
+use Rattle.elab_groups.proofs.open_types.Walking.{none_both, in_cast, in_negation, in_joined, in_equated, in_choice, in_binding, in_tuple, in_record}
+use Rattle.elab_groups.proofs.open_types.Branching.{in_cases, in_branches, in_alternatives}
 use Rattle.elab_groups.proofs.open_types.Quantified.{in_quantified}
 use Rattle.elaboration_laws.proofs.Instances.{inst_assigned, cells_assigned}
 use Rattle.elaboration_laws.proofs.Ordered.{order_at}
+use Rattle.elab_groups.proofs.name_resolution.Fielded.{AreNewPlaces, is_fielded}
+use Rattle.elaboration_laws.proofs.Placing.{new_among, fields_long, places_long, types_at, fields_back, pieces_cells, values_at, tree_assigned, fields_assigned}
 use Rattle.elaboration_laws.proofs.Reordering as order
 pub use Rattle.elaboration_laws.proofs.Bodies.{both_solved as solves_both}
 pub use Rattle.theory_states.proofs.goal_tasks.TuplesMade.{variables_count as count_variables}
@@ -277,10 +281,46 @@ module _ (w : Where) (sc : IsScoped w) (r : ℕ) (own : length w.vars ≤ r) (f 
   variable_meets None x t h = tt
   variable_meets (Some first) x t h = (sym (type_same x first) ∙ h.0, tt)
 
+  -- each pattern at the places of a record's fields
+  fields_bind : (first : Option (List LocalTree)) (places : List ℕ) (ts : List Tree) (ps : List PatternTree) → AreNewPlaces (replicate (length ts) false) places → length places ≡ length ps → Binds first (fields_tree places ts ps).variables
+      → AllByRecursion (λ (p : PatternTree). Binds first p.variables) ps
+  fields_bind None places ts ps n c h = nothing ps
+    where
+      nothing : (qs : List PatternTree) → AllByRecursion (λ (p : PatternTree). Unit {0}) qs
+      nothing [] = tt
+      nothing (q ∷ qs) = (tt, nothing qs)
+  fields_bind (Some first) places ts ps n c h = fields_back (λ (v : LocalTree). local_type v.name (at_locals first) ≡ v.type) places ts ps n c h
+
+  fields_typed_long : (ps : Patterns) (ts : List Tree) (qs : List PatternTree) (cs : List Choice) → AreFieldTypings w ts ps qs cs → length qs ≡ length ts
+  fields_typed_long no_patterns [] qs cs d = ap length d.0
+  fields_typed_long no_patterns (t ∷ ts) qs cs d = absurd d
+  fields_typed_long (more_patterns p ps) [] qs cs d = absurd d
+  fields_typed_long (more_patterns p ps) (t ∷ ts) qs cs d = ap length d.made ∙ ap suc (fields_typed_long ps ts d.second d.second_chosen d.second_is)
+
   record MatchedAt (m : Matched) (p : PatternTree) (cs : List Choice) : Type 0 where
     notes : NotesAt m.notes cs
     tree : at m.tree ≡ p.tree
     variables : at_locals m.variables ≡ p.variables
+
+  -- the parts of a record
+  abbrev at_matched : Matched → PatternTree
+  at_matched m = record { tree = at m.tree; variables = at_locals m.variables }
+
+  record FieldsAt (ms : List Matched) (ps : List PatternTree) (cs : List Choice) : Type 0 where
+    notes : NotesAt (all_notes ms) cs
+    trees : map at_matched ms ≡ ps
+
+  trees_of : (ms : List Matched) → map (tree_assigned r f) (map tree_of_matched ms) ≡ map at_matched ms
+  trees_of [] = refl
+  trees_of (m ∷ ms) = ap (λ (ps : List PatternTree). at_matched m ∷ ps) (trees_of ms)
+
+  pub whole_at : (places : List ℕ) (ts : List Tree) (ms : List Matched) → at_matched (fields_piece places ts ms) ≡ fields_tree places (map at ts) (map at_matched ms)
+  whole_at places ts ms = fields_assigned r f places ts (map tree_of_matched ms) ∙ ap (fields_tree places (map at ts)) (trees_of ms)
+
+  fields_at : (places : List ℕ) (ts : List Tree) (ms : List Matched) (ps : List PatternTree) (p : PatternTree) (cs : List Choice) → FieldsAt ms ps cs → p ≡ fields_tree places (map at ts) ps → MatchedAt (fields_piece places ts ms) p cs
+  fields_at places ts ms ps p cs x e =
+      let q : at_matched (fields_piece places ts ms) ≡ p = whole_at places ts ms ∙ ap (fields_tree places (map at ts)) x.trees ∙ sym e in
+      record { notes = x.notes; tree = ap (λ (z : PatternTree). z.tree) q; variables = ap (λ (z : PatternTree). z.variables) q }
 
   built_at : (n i : ℕ) (t : Tree) (u : NumberedEntry) (first : Option (List LocalTree)) (Parts : List Tree → PatternTree → List Choice → Type 0) (m : Matched) (p : PatternTree) (cs : List Choice) → r ≤ n → IsScopedEntry u.symbol → Constructed u i Parts (at t) p cs → Binds first p.variables → Meets n cs
       → ((q : PatternTree) (c : List Choice) → Parts (map at (part_types n u)) q c → Binds first q.variables → Meets (n + u.symbol.vars) c → MatchedAt m q c) → MatchedAt (constructed_by n i t u m) p cs
@@ -299,49 +339,89 @@ module _ (w : Where) (sc : IsScoped w) (r : ℕ) (own : length w.vars ≤ r) (f 
       }
 
   mutual
-    pattern_at : (p : Pattern) (first : Option (List LocalTree)) (n : ℕ) (t : Tree) (q : PatternTree) (cs : List Choice) → r ≤ n → IsPatternTyping w (at t) p q cs → Binds first q.variables → Meets n cs → MatchedAt (pattern_piece w first n t p) q cs
-    pattern_at (wildcard_pattern i) first n t q cs l d b m = record { notes = nothing_at cs d.1; tree = ap (λ (z : PatternTree). z.tree) (sym d.0); variables = ap (λ (z : PatternTree). z.variables) (sym d.0) }
-    pattern_at (variable_pattern i x) first n t q cs l d b m = record {
+    pattern_at : (p : Pattern) (first : Option (List LocalTree)) (n : ℕ) (t : Tree) (seen : List Word) (q : PatternTree) (cs : List Choice) → r ≤ n → pattern_fault w seen p ≡ None → IsPatternTyping w (at t) p q cs → Binds first q.variables → Meets n cs → MatchedAt (pattern_piece w first n t p) q cs
+    pattern_at (wildcard_pattern i) first n t seen q cs l h d b m = record { notes = nothing_at cs d.1; tree = ap (λ (z : PatternTree). z.tree) (sym d.0); variables = ap (λ (z : PatternTree). z.variables) (sym d.0) }
+    pattern_at (variable_pattern i x) first n t seen q cs l h d b m = record {
       notes = noted_at (variable_equations first x t) [] cs (variable_meets first x t (subst (Binds first) (ap (λ (z : PatternTree). z.variables) d.0) b)) (ap tokens (sym d.1));
       tree = ap (λ (z : PatternTree). z.tree) (sym d.0);
       variables = ap (λ (z : PatternTree). z.variables) (sym d.0);
     }
-    pattern_at (constructor_pattern i qs x ps) first n t q cs l d b m =
+    pattern_at (constructor_pattern i qs x ps) first n t seen q cs l h d b m =
         let u = entry_of w.symbols (w.names qs x) in
+        let j = none_both (constructor_fault w i (count_patterns ps) (w.names qs x)) (patterns_fault w seen ps) h in
         built_at n i t u first (λ ts y c. ArePatternTypings w ts ps y c) (patterns_piece w first (n + u.symbol.vars) (part_types n u) ps) q cs l (symbol_scoped w sc (w.names qs x)) d b m
-        (λ y c e h k. patterns_at ps first (n + u.symbol.vars) (part_types n u) y c (omega arith) e h k)
-    pattern_at (tuple_pattern i ps) first n t q cs l d b m =
+        (λ y c e g k. patterns_at ps first (n + u.symbol.vars) (part_types n u) seen y c (omega arith) j.1 e g k)
+    pattern_at (tuple_pattern i ps) first n t seen q cs l h d b m =
         let u = entry_of w.symbols (w.tuples (count_patterns ps)) in
         built_at n i t u first (λ ts y c. ArePatternTypings w ts ps y c) (patterns_piece w first (n + u.symbol.vars) (part_types n u) ps) q cs l (symbol_scoped w sc (w.tuples (count_patterns ps))) d b m
-        (λ y c e h k. patterns_at ps first (n + u.symbol.vars) (part_types n u) y c (omega arith) e h k)
-    pattern_at (alias_pattern a i x) first n t q cs l d b m =
+        (λ y c e g k. patterns_at ps first (n + u.symbol.vars) (part_types n u) seen y c (omega arith) h e g k)
+    pattern_at (alias_pattern a i x) first n t seen q cs l h d b m =
+        let j = none_both (pattern_fault w seen a) (fault_if (is_some (place_of x (seen ++ pattern_names a))) (Duplicate i)) h in
         let inner = pattern_piece w first n t a in
         let e : q.variables ≡ d.0.variables ++ local x (at t) ∷ [] = ap (λ (z : PatternTree). z.variables) d.2 in
         let bs = binds_parts first d.0.variables (local x (at t) ∷ []) q.variables e b in
-        let y = pattern_at a first n t d.0 cs l d.1 bs.0 m in
+        let y = pattern_at a first n t seen d.0 cs l j.0 d.1 bs.0 m in
         record {
           notes = follow_at inner.notes (noted (variable_equations first x t) []) cs [] cs (sym (append-nil cs)) y.notes (noted_at (variable_equations first x t) [] [] (variable_meets first x t bs.1) refl);
           tree = ap (One HPatAlias) y.tree ∙ ap (λ (z : PatternTree). z.tree) (sym d.2);
           variables = map-append at_local inner.variables (local x t ∷ []) ∙ ap (λ (vs : List LocalTree). vs ++ local x (at t) ∷ []) y.variables ∙ sym e;
         }
+    pattern_at (record_pattern i fs ps) first n t seen q cs l h d b m =
+        let j = none_both (record_fault w false i (count_patterns ps) fs) (patterns_fault w seen ps) h in
+        let it = is_fielded w false i (count_patterns ps) fs j.0 in
+        let k = record_named w.symbols w.names fs in
+        let u = entry_of w.symbols (Some k) in
+        let places = field_places w fs in
+        let ts = part_types n u in
+        let us : List Tree = map at ts in
+        let o = n + u.symbol.vars in
+        let ms = part_pieces w first o (place_types places ts) ps in
+        let count : length us ≡ length u.symbol.args = length-map ts at ∙ length-map u.symbol.args (at_unknowns n u.symbol) in
+        built_at n i t u first (PartsPlaced places (λ ts' ys c. AreFieldTypings w ts' ps ys c)) (fields_piece places ts ms) q cs l (symbol_scoped w sc (Some k)) d b m
+        (λ y c e g z.
+        let long : length places ≡ length e.parts = sym (places_long places us) ∙ sym (fields_typed_long ps (place_types places us) e.parts c e.parts_are) in
+        let binds = fields_bind first places us e.parts (new_among w false (count_patterns ps) fs (length us) it count) long (subst (Binds first) (ap (λ (x : PatternTree). x.variables) e.made) g) in
+        let typed = subst (λ (ts' : List Tree). AreFieldTypings w ts' ps e.parts c) (types_at r f places ts) e.parts_are in
+        fields_at places ts ms e.parts y c (each_at ps first o (place_types places ts) seen e.parts c (omega arith) j.1 typed binds z) e.made)
 
-    patterns_at : (ps : Patterns) (first : Option (List LocalTree)) (n : ℕ) (ts : List Tree) (q : PatternTree) (cs : List Choice) → r ≤ n → ArePatternTypings w (map at ts) ps q cs → Binds first q.variables → Meets n cs → MatchedAt (patterns_piece w first n ts ps) q cs
-    patterns_at no_patterns first n [] q cs l d b m = record { notes = nothing_at cs d.1; tree = ap (λ (z : PatternTree). z.tree) (sym d.0); variables = ap (λ (z : PatternTree). z.variables) (sym d.0) }
-    patterns_at no_patterns first n (t ∷ ts) q cs l d b m = absurd d
-    patterns_at (more_patterns p ps) first n [] q cs l d b m = absurd d
-    patterns_at (more_patterns p ps) first n (t ∷ ts) q cs l d b m =
+    patterns_at : (ps : Patterns) (first : Option (List LocalTree)) (n : ℕ) (ts : List Tree) (seen : List Word) (q : PatternTree) (cs : List Choice) → r ≤ n → patterns_fault w seen ps ≡ None → ArePatternTypings w (map at ts) ps q cs → Binds first q.variables → Meets n cs → MatchedAt (patterns_piece w first n ts ps) q cs
+    patterns_at no_patterns first n [] seen q cs l h d b m = record { notes = nothing_at cs d.1; tree = ap (λ (z : PatternTree). z.tree) (sym d.0); variables = ap (λ (z : PatternTree). z.variables) (sym d.0) }
+    patterns_at no_patterns first n (t ∷ ts) seen q cs l h d b m = absurd d
+    patterns_at (more_patterns p ps) first n [] seen q cs l h d b m = absurd d
+    patterns_at (more_patterns p ps) first n (t ∷ ts) seen q cs l h d b m =
+        let j = none_both (pattern_fault w seen p) (patterns_fault w (seen ++ pattern_names p) ps) h in
         let one = pattern_piece w first n t p in
         let rest = patterns_piece w first (n + taken one.notes) ts ps in
         let e : q.variables ≡ d.first.variables ++ d.second.variables = ap (λ (z : PatternTree). z.variables) d.made in
         let bs = binds_parts first d.first.variables d.second.variables q.variables e b in
         let ms = meets_both n d.first_chosen d.second_chosen (subst (Meets n) d.chosen m) in
-        let x = pattern_at p first n t d.first d.first_chosen l d.first_is bs.0 ms.0 in
+        let x = pattern_at p first n t seen d.first d.first_chosen l j.0 d.first_is bs.0 ms.0 in
         let k = meets_from (n + length d.first_chosen) (n + taken one.notes) d.second_chosen (omega (arith, count_tokens one.notes.takers d.first_chosen x.notes.takers)) ms.1 in
-        let y = patterns_at ps first (n + taken one.notes) ts d.second d.second_chosen (omega arith) d.second_is bs.1 k in
+        let y = patterns_at ps first (n + taken one.notes) ts (seen ++ pattern_names p) d.second d.second_chosen (omega arith) j.1 d.second_is bs.1 k in
         record {
           notes = follow_at one.notes rest.notes d.first_chosen d.second_chosen cs d.chosen x.notes y.notes;
           tree = cc (x.tree, y.tree) ∙ ap (λ (z : PatternTree). z.tree) (sym d.made);
           variables = map-append at_local one.variables rest.variables ∙ cc (x.variables, y.variables) ∙ sym e;
+        }
+
+    -- the parts of a record
+    each_at : (ps : Patterns) (first : Option (List LocalTree)) (n : ℕ) (ts : List Tree) (seen : List Word) (qs : List PatternTree) (cs : List Choice) → r ≤ n → patterns_fault w seen ps ≡ None → AreFieldTypings w (map at ts) ps qs cs → AllByRecursion (λ (q : PatternTree). Binds first q.variables) qs → Meets n cs
+        → FieldsAt (part_pieces w first n ts ps) qs cs
+    each_at no_patterns first n [] seen qs cs l h d b m = record { notes = nothing_at cs d.1; trees = sym d.0 }
+    each_at no_patterns first n (t ∷ ts) seen qs cs l h d b m = absurd d
+    each_at (more_patterns p ps) first n [] seen qs cs l h d b m = absurd d
+    each_at (more_patterns p ps) first n (t ∷ ts) seen qs cs l h d b m =
+        let j = none_both (pattern_fault w seen p) (patterns_fault w (seen ++ pattern_names p) ps) h in
+        let one = pattern_piece w first n t p in
+        let bs = subst (AllByRecursion (λ (q : PatternTree). Binds first q.variables)) d.made b in
+        let ms = meets_both n d.first_chosen d.second_chosen (subst (Meets n) d.chosen m) in
+        let x = pattern_at p first n t seen d.first d.first_chosen l j.0 d.first_is bs.0 ms.0 in
+        let k = meets_from (n + length d.first_chosen) (n + taken one.notes) d.second_chosen (omega (arith, count_tokens one.notes.takers d.first_chosen x.notes.takers)) ms.1 in
+        let y = each_at ps first (n + taken one.notes) ts (seen ++ pattern_names p) d.second d.second_chosen (omega arith) j.1 d.second_is bs.1 k in
+        let q : at_matched one ≡ d.first = ap (λ (t : Tree). pattern_tree t (at_locals one.variables)) x.tree ∙ ap (pattern_tree d.first.tree) x.variables in
+        record {
+          notes = follow_at one.notes (all_notes (part_pieces w first (n + taken one.notes) ts ps)) d.first_chosen d.second_chosen cs d.chosen x.notes y.notes;
+          trees = cc (q, y.trees, d.made);
         }
 
   -- ---- alternatives
@@ -357,27 +437,30 @@ module _ (w : Where) (sc : IsScoped w) (r : ℕ) (own : length w.vars ≤ r) (f 
   no_alternatives_at : (ps : List PatternTree) (cs : List Choice) → ps ≡ [] → cs ≡ [] → AllMatchedAt [] ps cs
   no_alternatives_at ps cs a b = record { notes = nothing_at cs b; each = subst (AreMatchedAt []) (sym a) tt }
 
-  later_at : (as' : Alternatives) (first : List LocalTree) (n : ℕ) (t : Tree) (ps : List PatternTree) (cs : List Choice) → r ≤ n → AreLaterTypings w (at_locals first) (at t) as' ps cs → Meets n cs → AllMatchedAt (later_pieces w first n t as') ps cs
-  later_at no_alternatives first n t ps cs l d m = no_alternatives_at ps cs d.0 d.1
-  later_at (more_alternatives i a as') first n t ps cs l d m =
+  later_at : (as' : Alternatives) (first : List LocalTree) (ns : List Word) (n : ℕ) (t : Tree) (ps : List PatternTree) (cs : List Choice) → r ≤ n → later_fault w ns as' ≡ None → AreLaterTypings w (at_locals first) (at t) as' ps cs → Meets n cs → AllMatchedAt (later_pieces w first n t as') ps cs
+  later_at no_alternatives first ns n t ps cs l h d m = no_alternatives_at ps cs d.0 d.1
+  later_at (more_alternatives i a as') first ns n t ps cs l h d m =
+      let j = none_both (fault_if (not (same_names ns (pattern_names a))) (WrongKind i)) (first_of (pattern_fault w [] a) (later_fault w ns as')) h in
+      let o = none_both (pattern_fault w [] a) (later_fault w ns as') j.1 in
       let one = pattern_piece w (Some first) n t a in
       let ms = meets_both n d.first_chosen d.second_chosen (subst (Meets n) d.chosen m) in
-      let x = pattern_at a (Some first) n t d.first d.first_chosen l d.first_is.0 d.first_is.1 ms.0 in
+      let x = pattern_at a (Some first) n t [] d.first d.first_chosen l o.0 d.first_is.0 d.first_is.1 ms.0 in
       let k = meets_from (n + length d.first_chosen) (n + taken one.notes) d.second_chosen (omega (arith, count_tokens one.notes.takers d.first_chosen x.notes.takers)) ms.1 in
-      let y = later_at as' first (n + taken one.notes) t d.second d.second_chosen (omega arith) d.second_is k in
+      let y = later_at as' first ns (n + taken one.notes) t d.second d.second_chosen (omega arith) o.1 d.second_is k in
       record {
         notes = follow_at one.notes (all_notes (later_pieces w first (n + taken one.notes) t as')) d.first_chosen d.second_chosen cs d.chosen x.notes y.notes;
         each = subst (AreMatchedAt (one ∷ later_pieces w first (n + taken one.notes) t as')) (sym d.made) (x.tree, x.variables, y.each);
       }
 
-  alternatives_at : (as' : Alternatives) (n : ℕ) (t : Tree) (ps : List PatternTree) (cs : List Choice) → r ≤ n → AreAlternativeTypings w (at t) as' ps cs → Meets n cs → AllMatchedAt (alternatives_pieces w n t as') ps cs
-  alternatives_at no_alternatives n t ps cs l d m = no_alternatives_at ps cs d.0 d.1
-  alternatives_at (more_alternatives i a as') n t ps cs l d m =
+  alternatives_at : (as' : Alternatives) (n : ℕ) (t : Tree) (ps : List PatternTree) (cs : List Choice) → r ≤ n → alternatives_fault w as' ≡ None → AreAlternativeTypings w (at t) as' ps cs → Meets n cs → AllMatchedAt (alternatives_pieces w n t as') ps cs
+  alternatives_at no_alternatives n t ps cs l h d m = no_alternatives_at ps cs d.0 d.1
+  alternatives_at (more_alternatives i a as') n t ps cs l h d m =
+      let j = none_both (pattern_fault w [] a) (later_fault w (pattern_names a) as') h in
       let one = pattern_piece w None n t a in
       let ms = meets_both n d.first_chosen d.later_chosen (subst (Meets n) d.chosen m) in
-      let x = pattern_at a None n t d.first d.first_chosen l d.first_is tt ms.0 in
+      let x = pattern_at a None n t [] d.first d.first_chosen l j.0 d.first_is tt ms.0 in
       let k = meets_from (n + length d.first_chosen) (n + taken one.notes) d.later_chosen (omega (arith, count_tokens one.notes.takers d.first_chosen x.notes.takers)) ms.1 in
-      let y = later_at as' one.variables (n + taken one.notes) t d.later d.later_chosen (omega arith) (subst (λ (vs : List LocalTree). AreLaterTypings w vs (at t) as' d.later d.later_chosen) (sym x.variables) d.later_are) k in
+      let y = later_at as' one.variables (pattern_names a) (n + taken one.notes) t d.later d.later_chosen (omega arith) j.1 (subst (λ (vs : List LocalTree). AreLaterTypings w vs (at t) as' d.later d.later_chosen) (sym x.variables) d.later_are) k in
       record {
         notes = follow_at one.notes (all_notes (later_pieces w one.variables (n + taken one.notes) t as')) d.first_chosen d.later_chosen cs d.chosen x.notes y.notes;
         each = subst (AreMatchedAt (one ∷ later_pieces w one.variables (n + taken one.notes) t as')) (sym d.made) (x.tree, x.variables, y.each);
@@ -554,6 +637,22 @@ module _ (w : Where) (sc : IsScoped w) (r : ℕ) (own : length w.vars ≤ r) (f 
         let inner = piece w ls o (Some (first_or_int ts)) a in
         used_at n i t u (IsSingle (λ v y c. IsTyping w (at_locals ls) v a y c)) (both_pieces (Two HCell) inner (bare_piece (Leaf HEnd))) e cs l (symbol_scoped w sc (w.names qs x)) d m
         (λ y c p g. single_at o ts inner (λ v z f'. IsTyping w (at_locals ls) v a z f') y c p g (λ z f' v s. meets a ls o (Some (first_or_int ts)) ns false z f' (omega arith) h.0 v s))
+    meets (record_expression i fs es) ls n t ns due e cs l q d m =
+        let h = in_record w false ns due i fs es q in
+        let u = record_use w fs in
+        let places = field_places w fs in
+        let ts = parameters n u in
+        let o = n + use_vars u in
+        let all = pieces w ls o (place_types places ts) es in
+        used_at n i t u (ValuesPlaced places (λ ts' a c. AreTypings w (at_locals ls) ts' es a c)) (piece_under (values_placed places (length ts)) all) e cs l (symbol_scoped w sc (Some (record_named w.symbols w.names fs))) d m
+        (λ y c p g.
+        let x = all_meet es ls o (place_types places ts) ns p.values c (omega arith) h.2 (subst (λ (ts' : List Tree). AreTypings w (at_locals ls) ts' es p.values c) (types_at r f places ts) p.values_are) g in
+        record {
+          solves = x.solves;
+          tree = values_at r f places (length ts) all.tree (pieces_cells w ls o (place_types places ts) es)
+              ∙ ap (values_placed places (length ts)) x.tree ∙ ap (λ (k : ℕ). values_placed places k p.values) (sym (length-map ts at)) ∙ sym p.made;
+          takers = x.takers;
+        })
     meets (not_expression i a) ls n t ns due e cs l q d m =
         let h = in_negation w false ns due i a q in
         let x = meets a ls n None ns true d.1.0 cs l h.1 d.1.1 m in
@@ -668,7 +767,7 @@ module _ (w : Where) (sc : IsScoped w) (r : ℕ) (own : length w.vars ≤ r) (f 
         let rest = branches_arms w ls (unknown_after o body) u t bs in
         let js = meets_both n (d.patterns_chosen ++ d.body_chosen) d.rest_chosen (subst (Meets n) d.chosen m) in
         let ks = meets_both n d.patterns_chosen d.body_chosen js.0 in
-        let x = alternatives_at ps n u d.patterns d.patterns_chosen l d.patterns_are ks.0 in
+        let x = alternatives_at ps n u d.patterns d.patterns_chosen l (in_alternatives w ns due ps b bs q) d.patterns_are ks.0 in
         let same : reverse (first_bound d.patterns) ++ at_locals ls ≡ at_locals inside = ap (λ (us : List LocalTree). reverse us ++ at_locals ls) (sym (first_at ms d.patterns x.each)) ∙ sym (inside_at (first_variables ms) ls) in
         let c = count_tokens (all_notes ms).takers d.patterns_chosen x.notes.takers in
         let y = meets b inside o t (reverse (alternatives_names ps) ++ ns) due d.body d.body_chosen (omega arith) h.0 (subst (λ (us : List LocalTree). IsTyping w us (option_map at t) b d.body d.body_chosen) same d.body_is)

@@ -1,17 +1,15 @@
 -- Each tuple of an expression has a constructor where each width that is seen in it has one.
-use Rattle.std.proofs.Common.{◌≡◌, ℕ, ◌==◌, ◌||◌, Bool, true, false, cond, List, [], ◌∷◌, ◌++◌, Option, Some, None, IfSome, eq-eqb, refl, ap}
+use Rattle.std.proofs.Common.{◌≡◌, ℕ, ◌==◌, ◌||◌, Bool, true, false, cond, List, [], ◌∷◌, ◌++◌, Option, Some, None, IfSome, refl, ap}
 use Rattle.elab_groups.specs.tasks.Vocabulary.{Vocabulary}
-use Rattle.elab_groups.specs.name_resolution.Abstract.{TypeExpression, TypeExpressions, variable_type, composed_type, product_type, no_types, more_types, Pattern, Patterns, wildcard_pattern, variable_pattern, constructor_pattern, tuple_pattern, alias_pattern, no_patterns, more_patterns, Alternatives, no_alternatives, more_alternatives, BoundNames, Expression, Expressions, MatchBranches, applied_expression, infix_expression, integer_expression, true_expression, false_expression, tuple_expression, cast_expression, field_expression, not_expression, connected_expression, equality_expression, if_expression, let_expression, match_expression, quantified_expression, no_expressions, more_expressions, no_branches, more_branches, count_forms, count_patterns, count_expressions}
+use Rattle.elab_groups.specs.name_resolution.Abstract.{TypeExpression, TypeExpressions, variable_type, composed_type, product_type, no_types, more_types, Pattern, Patterns, wildcard_pattern, variable_pattern, constructor_pattern, tuple_pattern, alias_pattern, record_pattern, no_patterns, more_patterns, Alternatives, no_alternatives, more_alternatives, BoundNames, Expression, Expressions, MatchBranches, applied_expression, infix_expression, integer_expression, true_expression, false_expression, tuple_expression, cast_expression, field_expression, record_expression, not_expression, connected_expression, equality_expression, if_expression, let_expression, match_expression, quantified_expression, no_expressions, more_expressions, no_branches, more_branches, count_forms, count_patterns, count_expressions}
 use Rattle.elab_groups.specs.name_resolution.Where.{Where}
 use Rattle.elab_groups.specs.name_resolution.variables.Seen.{SeenTree, has_width, with_width, form_seen, forms_seen, type_seen, binders_seen, pattern_seen, patterns_seen, alternatives_seen, seen, all_seen, branches_seen}
 use Rattle.elaboration_laws.specs.Signature.{HasTuple, FormTuples, FormsTuples, BindersTuples, PatternTuples, PatternsTuples, AlternativesTuples, HasTuples, HaveTuples, BranchesTuples}
+pub use Rattle.elab_groups.proofs.name_resolution.Fielded.{same_count as same_width}
 
 -- the widths of one are among those of the other
 abbrev pub IsWithin : SeenTree → SeenTree → Type 0
 IsWithin s t = (n : ℕ) → has_width n s.widths ≡ true → has_width n t.widths ≡ true
-
-pub same_width : (n : ℕ) → (n == n) ≡ true
-same_width n = eq-eqb n n refl
 
 width_both : (n : ℕ) (xs ys : List ℕ) → has_width n xs ≡ true → has_width n (xs ++ ys) ≡ true
 width_both n [] ys h = absurd (cc)
@@ -69,6 +67,7 @@ mutual
   pattern_grows (constructor_pattern i qs x ps) s = patterns_grow ps s
   pattern_grows (tuple_pattern i ps) s = λ n h. patterns_grow ps (with_width (count_patterns ps) s) n (width_grows (count_patterns ps) s n h)
   pattern_grows (alias_pattern p i x) s = pattern_grows p s
+  pattern_grows (record_pattern i fs ps) s = patterns_grow ps s
 
   patterns_grow : (ps : Patterns) (s : SeenTree) → IsWithin s (patterns_seen s ps)
   patterns_grow no_patterns s = λ n h. h
@@ -88,6 +87,7 @@ mutual
   grows (tuple_expression i es) s = λ n h. all_grow es (with_width (count_expressions es) s) n (width_grows (count_expressions es) s n h)
   grows (cast_expression i e f) s = λ n h. form_grows f (seen s e) n (grows e s n h)
   grows (field_expression i e k qs x) s = grows e s
+  grows (record_expression i fs es) s = all_grow es s
   grows (not_expression i e) s = grows e s
   grows (connected_expression i a o b) s = λ n h. grows b (seen s a) n (grows a s n h)
   grows (equality_expression i same a b) s = λ n h. grows b (seen s a) n (grows a s n h)
@@ -138,6 +138,7 @@ module _ (base : Vocabulary) (w : Where) where
         let m = count_patterns ps in
         (g m (patterns_grow ps (with_width m s) m (width_there m s)), patterns_tuples ps (with_width m s) g)
     pattern_tuples (alias_pattern p i x) s g = pattern_tuples p s g
+    pattern_tuples (record_pattern i fs ps) s g = patterns_tuples ps s g
 
     patterns_tuples : (ps : Patterns) (s : SeenTree) → HaveWidths (patterns_seen s ps) → PatternsTuples base w ps
     patterns_tuples no_patterns s g = tt
@@ -162,6 +163,7 @@ module _ (base : Vocabulary) (w : Where) where
         (g m (all_grow es (with_width m s) m (width_there m s)), all_tuples es (with_width m s) g)
     tuples_seen (cast_expression i e f) s g = (tuples_seen e s (λ n h. g n (form_grows f (seen s e) n h)), form_tuples f (seen s e) g)
     tuples_seen (field_expression i e k qs x) s g = tuples_seen e s g
+    tuples_seen (record_expression i fs es) s g = all_tuples es s g
     tuples_seen (not_expression i e) s g = tuples_seen e s g
     tuples_seen (connected_expression i a o b) s g = two_tuples a b s (λ h. tuples_seen a s h) (λ h. tuples_seen b (seen s a) h) g
     tuples_seen (equality_expression i same a b) s g = two_tuples a b s (λ h. tuples_seen a s h) (λ h. tuples_seen b (seen s a) h) g

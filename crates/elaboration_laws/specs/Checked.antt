@@ -3,10 +3,10 @@
 use Rattle.std.specs.Prelude.{◌≡◌, ℕ, ◌≤◌, Bool, true, false, cond, not, List, [], ◌∷◌, ◌++◌, reverse, Option, Some, None, ◌⊎◌}
 use Rattle.std.specs.Option.{is_some, is_none}
 use Rattle.elab_groups.specs.surface.Lexeme.{Word}
-use Rattle.elab_groups.specs.name_resolution.Abstract.{TypeExpression, TypeExpressions, variable_type, composed_type, product_type, no_types, more_types, Pattern, Patterns, wildcard_pattern, variable_pattern, constructor_pattern, tuple_pattern, alias_pattern, no_patterns, more_patterns, Alternatives, no_alternatives, more_alternatives, BoundNames, Expression, Expressions, MatchBranches, applied_expression, infix_expression, integer_expression, true_expression, false_expression, tuple_expression, cast_expression, field_expression, not_expression, connected_expression, equality_expression, if_expression, let_expression, match_expression, quantified_expression, no_expressions, more_expressions, no_branches, more_branches, count_forms, count_patterns, count_expressions}
+use Rattle.elab_groups.specs.name_resolution.Abstract.{TypeExpression, TypeExpressions, variable_type, composed_type, product_type, no_types, more_types, Pattern, Patterns, wildcard_pattern, variable_pattern, constructor_pattern, tuple_pattern, alias_pattern, record_pattern, no_patterns, more_patterns, Alternatives, no_alternatives, more_alternatives, BoundNames, Expression, Expressions, MatchBranches, applied_expression, infix_expression, integer_expression, true_expression, false_expression, tuple_expression, cast_expression, field_expression, record_expression, not_expression, connected_expression, equality_expression, if_expression, let_expression, match_expression, quantified_expression, no_expressions, more_expressions, no_branches, more_branches, count_forms, count_patterns, count_expressions}
 use Rattle.elab_groups.specs.name_resolution.declared.NamingFault.{NamingFault}
 use Rattle.elab_groups.specs.name_resolution.declared.NamingFault.TheVariants.{Memory, Unknown, Duplicate, WrongKind, Arity}
-use Rattle.elab_groups.specs.name_resolution.Faults.{fault_if, meaning_fault, name_fault, field_fault, bound_names, pattern_names, constructor_fault, same_names, alternatives_names, has_alternative, is_formula_trigger}
+use Rattle.elab_groups.specs.name_resolution.Faults.{fault_if, meaning_fault, name_fault, field_fault, record_fault, bound_names, pattern_names, constructor_fault, same_names, alternatives_names, has_alternative, is_formula_trigger}
 use Rattle.elab_groups.specs.name_resolution.Where.{Where, place_of}
 
 -- the token of a fault
@@ -55,6 +55,10 @@ abbrev mutual
   PatternFails w seen (alias_pattern p i x) g =
       PatternFails w seen p g
       ⊎ (fault_if (is_some (place_of x (seen ++ pattern_names p))) (Duplicate i) ≡ Some g)
+  -- the patterns of fields are checked where the fields are those of a record
+  PatternFails w seen (record_pattern i fs ps) g =
+      (record_fault w false i (count_patterns ps) fs ≡ Some g)
+      ⊎ ((record_fault w false i (count_patterns ps) fs ≡ None) × PatternsFail w seen ps g)
 
   pub PatternsFail : Where → List Word → Patterns → NamingFault → Type 0
   PatternsFail w seen no_patterns g = ⊥
@@ -91,6 +95,11 @@ abbrev mutual
       ⊎ (NamesFail w open_ ls false e g ⊎ FormFails w open_ f g)
   NamesFail w open_ ls due (field_expression i e k qs x) g =
       NamesFail w open_ ls false e g ⊎ (field_fault w due k (w.names qs x) ≡ Some g)
+  -- and so are their values
+  NamesFail w open_ ls due (record_expression i fs es) g =
+      (fault_if due (WrongKind i) ≡ Some g)
+      ⊎ ((record_fault w true i (count_expressions es) fs ≡ Some g)
+      ⊎ ((record_fault w true i (count_expressions es) fs ≡ None) × AllNamesFail w open_ ls es g))
   NamesFail w open_ ls due (not_expression i e) g =
       (fault_if (not due) (WrongKind i) ≡ Some g) ⊎ NamesFail w open_ ls true e g
   NamesFail w open_ ls due (connected_expression i a o b) g =

@@ -6,11 +6,12 @@ use Rattle.elab_groups.specs.trees.Tree.{Tree}
 use Rattle.elab_groups.specs.tasks.Equations.{type_variables}
 use Rattle.elab_groups.specs.open_types.unify_types.Assigned.{assign}
 use Rattle.elab_groups.specs.open_types.unify_types.Pairs.{IsSolution}
-use Rattle.elab_groups.specs.name_resolution.Abstract.{Pattern, Patterns, wildcard_pattern, variable_pattern, constructor_pattern, tuple_pattern, alias_pattern, no_patterns, more_patterns, Alternatives, no_alternatives, more_alternatives, Expression, Expressions, MatchBranches, applied_expression, infix_expression, integer_expression, true_expression, false_expression, tuple_expression, cast_expression, field_expression, not_expression, connected_expression, equality_expression, if_expression, let_expression, match_expression, quantified_expression, no_expressions, more_expressions, no_branches, more_branches, count_patterns, count_expressions}
+use Rattle.elab_groups.specs.name_resolution.Abstract.{Pattern, Patterns, wildcard_pattern, variable_pattern, constructor_pattern, tuple_pattern, alias_pattern, record_pattern, no_patterns, more_patterns, Alternatives, no_alternatives, more_alternatives, Expression, Expressions, MatchBranches, applied_expression, infix_expression, integer_expression, true_expression, false_expression, tuple_expression, cast_expression, field_expression, record_expression, not_expression, connected_expression, equality_expression, if_expression, let_expression, match_expression, quantified_expression, no_expressions, more_expressions, no_branches, more_branches, count_patterns, count_expressions}
 use Rattle.elab_groups.specs.name_resolution.Faults.{is_formula_trigger, token}
+use Rattle.elab_groups.specs.name_resolution.Records.{record_named}
 use Rattle.elab_groups.specs.name_resolution.Where.{Where}
-use Rattle.elab_groups.specs.open_types.Patterns.{LocalTree, local, noted, taken, first_or_int, rest_of, entry_of, part_types, pattern_piece, alternatives_pieces, all_notes, first_variables}
-use Rattle.elab_groups.specs.open_types.Pieces.{type_at, unknown, unknown_after, piece, noted_before, triggers_notes, Use, Local', Symbol', use_of_name, field_use, tuple_use, use_vars, parameters, binders_vars, bound, names}
+use Rattle.elab_groups.specs.open_types.Patterns.{LocalTree, local, noted, taken, first_or_int, rest_of, entry_of, part_types, place_types, pattern_piece, alternatives_pieces, all_notes, first_variables}
+use Rattle.elab_groups.specs.open_types.Pieces.{type_at, unknown, unknown_after, piece, noted_before, triggers_notes, Use, Local', Symbol', use_of_name, field_use, tuple_use, record_use, field_places, use_vars, parameters, binders_vars, bound, names}
 use Rattle.elab_groups.specs.parts.Declarations.{GroupMember, with_vars}
 use Rattle.elab_groups.specs.members.Members.{SignatureTree}
 use Rattle.elab_groups.specs.Groups.{member_piece}
@@ -47,6 +48,11 @@ abbrev mutual
       ∷ patterns_nodes w first (n + c.symbol.vars) (part_types n c) ps
   pattern_nodes w first n t (alias_pattern p i x) =
       typed_node i (Some t) n 0 ∷ pattern_nodes w first n t p
+  pattern_nodes w first n t (record_pattern i fs ps) =
+      let c = entry_of w.symbols (Some (record_named w.symbols w.names fs)) in
+      typed_node i (Some t) n c.symbol.vars
+      ∷ patterns_nodes w first (n + c.symbol.vars)
+      (place_types (field_places w fs) (part_types n c)) ps
 
   pub patterns_nodes : Where → Option (List LocalTree) → ℕ → List Tree → Patterns → List TypedNode
   patterns_nodes w first n ts no_patterns = []
@@ -94,6 +100,10 @@ abbrev mutual
       let u = field_use w qs x in
       typed_node i t n (use_vars u)
       ∷ nodes_of w ls (n + use_vars u) (Some (first_or_int (parameters n u))) e
+  nodes_of w ls n t (record_expression i fs es) =
+      let u = record_use w fs in
+      typed_node i t n (use_vars u)
+      ∷ all_nodes w ls (n + use_vars u) (place_types (field_places w fs) (parameters n u)) es
   nodes_of w ls n t (not_expression i e) = typed_node i None n 0 ∷ nodes_of w ls n None e
   nodes_of w ls n t (connected_expression i a o b) =
       typed_node i None n 0 ∷ (nodes_of w ls n None a

@@ -13,6 +13,7 @@ use Rattle.elab_groups.specs.scopes.Names.{EntryOf}
 use Rattle.elab_groups.specs.scopes.declared.Table.{Table}
 use Rattle.elab_groups.specs.scopes.declared.Table.TheVariants.{Types, Symbols}
 use Rattle.elab_groups.specs.scopes.declared.Referent.TheVariants as stands
+use Rattle.elab_groups.specs.name_resolution.Records.{constructor_before}
 use Rattle.elab_groups.specs.name_resolution.Where.{MeaningTree, NamesTree}
 use Rattle.elab_groups.specs.open_types.Scoped.{IsScopedEntry}
 use Rattle.elab_groups.specs.parts.Entries.{builtin, is_tuple}
@@ -25,7 +26,8 @@ pub record IsTypedEntry (v : Vocabulary) (e : SymbolTree) : Type 0 where
 
 -- The first entry is `int`. The types of each entry hold its own type variables alone, and those of
 -- an entry that may be named are over the vocabulary; of these a pattern may name each constructor,
--- and no other entry; tuples may be named.
+-- and no other entry; tuples may be named. Where a field may be named, so may the constructor
+-- before it.
 pub record IsTypedSignature (base : Vocabulary) (symbols : List SymbolTree) : Type 0 where
   pub int : slice_get symbols 0 ≡ Some int_symbol
   pub int_usable : IsTrue (base.usable 0)
@@ -38,6 +40,9 @@ pub record IsTypedSignature (base : Vocabulary) (symbols : List SymbolTree) : Ty
       → IsTrue (base.usable k)
   pub tuples : (n k : ℕ) (e : SymbolTree) → slice_get symbols k ≡ Some e → is_tuple n e ≡ true
       → IsTrue (base.usable k)
+  pub records : (k : ℕ) → k < length symbols → IsTrue (base.usable k)
+      → (symbol_or symbols (constructor_before symbols k)).kind ≡ Constructor
+      → IsTrue (base.usable (constructor_before symbols k))
 
 abbrev pub is_projection_kind : SymbolKind → Bool
 is_projection_kind Projection = true

@@ -7,7 +7,8 @@ use Rattle.elab_groups.specs.tasks.Task.{SymbolTree, int_symbol, symbol_or}
 use Rattle.elab_groups.specs.tasks.Vocabulary.{Vocabulary}
 use Rattle.elab_groups.specs.tasks.Typing.{MakesTerms}
 use Rattle.elab_groups.specs.tasks.Valid.{IsTypeIn, IsTypeEntry, IsSignatureOf}
-use Rattle.elab_groups.specs.name_resolution.Abstract.{TypeExpression, TypeExpressions, variable_type, composed_type, product_type, no_types, more_types, Pattern, Patterns, wildcard_pattern, variable_pattern, constructor_pattern, tuple_pattern, alias_pattern, no_patterns, more_patterns, Alternatives, no_alternatives, more_alternatives, BoundNames, Expression, Expressions, MatchBranches, applied_expression, infix_expression, integer_expression, true_expression, false_expression, tuple_expression, cast_expression, field_expression, not_expression, connected_expression, equality_expression, if_expression, let_expression, match_expression, quantified_expression, no_expressions, more_expressions, no_branches, more_branches, count_forms, count_patterns, count_expressions}
+use Rattle.elab_groups.specs.name_resolution.Abstract.{TypeExpression, TypeExpressions, variable_type, composed_type, product_type, no_types, more_types, Pattern, Patterns, wildcard_pattern, variable_pattern, constructor_pattern, tuple_pattern, alias_pattern, record_pattern, no_patterns, more_patterns, Alternatives, no_alternatives, more_alternatives, BoundNames, Expression, Expressions, MatchBranches, applied_expression, infix_expression, integer_expression, true_expression, false_expression, tuple_expression, cast_expression, field_expression, record_expression, not_expression, connected_expression, equality_expression, if_expression, let_expression, match_expression, quantified_expression, no_expressions, more_expressions, no_branches, more_branches, count_forms, count_patterns, count_expressions}
+use Rattle.elab_groups.specs.name_resolution.Records.{constructor_before}
 use Rattle.elab_groups.specs.name_resolution.Where.{Where, MeaningTree}
 use Rattle.elab_groups.specs.scopes.declared.Referent.TheVariants as stands
 
@@ -35,7 +36,8 @@ IsMeaning v (stands.Entry k) = IsTrue (v.usable k) × IsTypeEntry v k
 IsMeaning v (stands.Alias vars t) = IsTypeIn v vars t
 
 -- entry 0 is `int` and may be named; names stand for types over the signature, and for symbols
--- whose types are over it; a pattern may name each constructor that may be named
+-- whose types are over it; a pattern may name each constructor that may be named; where a field may
+-- be named, so may the constructor before it
 pub record IsWellFormed (base : Vocabulary) (w : Where) : Type 0 where
   pub int : slice_get w.symbols 0 ≡ Some int_symbol
   pub int_usable : IsTrue (base.usable 0)
@@ -45,6 +47,9 @@ pub record IsWellFormed (base : Vocabulary) (w : Where) : Type 0 where
       → IfSome (w.names qs x) (IsSymbol (with_entries base w.symbols))
   pub constructors : (k : ℕ) → IsSymbol (with_entries base w.symbols) k
       → (symbol_or w.symbols k).kind ≡ Constructor → IsTrue (base.matched k)
+  pub records : (k : ℕ) → IsSymbol (with_entries base w.symbols) k
+      → (symbol_or w.symbols (constructor_before w.symbols k)).kind ≡ Constructor
+      → IsSymbol (with_entries base w.symbols) (constructor_before w.symbols k)
 
 abbrev pub HasTuple : Vocabulary → Where → ℕ → Type 0
 HasTuple base w n = IsSomeAnd (w.tuples n) (IsTuple (with_entries base w.symbols) n)
@@ -72,6 +77,7 @@ abbrev mutual
   PatternTuples base w (tuple_pattern i ps) =
       HasTuple base w (count_patterns ps) × PatternsTuples base w ps
   PatternTuples base w (alias_pattern p i x) = PatternTuples base w p
+  PatternTuples base w (record_pattern i fs ps) = PatternsTuples base w ps
 
   pub PatternsTuples : Vocabulary → Where → Patterns → Type 0
   PatternsTuples base w no_patterns = Unit {0}
@@ -93,6 +99,7 @@ abbrev mutual
       HasTuple base w (count_expressions es) × HaveTuples base w es
   HasTuples base w (cast_expression i e f) = HasTuples base w e × FormTuples base w f
   HasTuples base w (field_expression i e k qs x) = HasTuples base w e
+  HasTuples base w (record_expression i fs es) = HaveTuples base w es
   HasTuples base w (not_expression i e) = HasTuples base w e
   HasTuples base w (connected_expression i a o b) = HasTuples base w a × HasTuples base w b
   HasTuples base w (equality_expression i same a b) = HasTuples base w a × HasTuples base w b

@@ -1,6 +1,6 @@
 -- What a clone makes of a theory's declarations, one after the other, beside what is there (Why3
 -- manual, "theory cloning").
-use Rattle.std.specs.Prelude.{◌≡◌, ◌≢◌, ℕ, if◌then◌else◌, false, List, [], ◌∷◌, ◌++◌, map, All}
+use Rattle.std.specs.Prelude.{◌≡◌, ◌≢◌, ℕ, suc, if◌then◌else◌, false, List, [], ◌∷◌, ◌++◌, map, All}
 use Rattle.std.specs.List.{Contains}
 use Rattle.std.specs.Str.{bytes_eq}
 use Rattle.elab_groups.specs.tasks.Task.{SymbolTree, symbol_or, DeclarationTree, made, made_by}
@@ -47,13 +47,22 @@ made_from m theory within first [] = []
 made_from m theory within first (s ∷ ss) =
     made_of m theory within first s ++ made_from m theory within first ss
 
--- a symbol of a copied declaration is new; one that is left out became a symbol that is there; one
--- of another theory stays
+-- numbers one after another, from this one on
+abbrev pub AreConsecutive : ℕ → List ℕ → Type 0
+AreConsecutive n [] = Unit {0}
+AreConsecutive n (k ∷ ks) = (k ≡ n) × AreConsecutive (suc n) ks
+
+-- what a declaration makes becomes what is numbered so
+abbrev pub BecomesNumbered : Map → DeclarationTree → Type 0
+BecomesNumbered m d = (n : ℕ) × AreConsecutive n (map m.symbols (made_by d.body))
+
+-- a symbol of a copied declaration is new, and they are numbered one after another; one that is
+-- left out became a symbol that is there; one of another theory stays
 abbrev pub StepFits : List SymbolTree → Map → List SymbolTree → List ℕ → List ℕ
     → List DeclarationTree → CopyStep → Type 0
 StepFits xs m symbols theory within first (copies d) =
     All (λ (k : ℕ). BecomesNew xs symbols m theory within k
-    × (Contains (made first) (m.symbols k) → ⊥)) (made_by d.body)
+    × (Contains (made first) (m.symbols k) → ⊥)) (made_by d.body) × BecomesNumbered m d
 StepFits xs m symbols theory within first (leaves d) =
     All (λ (k : ℕ). IsImage (after symbols [] first) m (symbol_or xs k) k
     (is_constructor (role_in k d.body))) (made_by d.body)

@@ -1,5 +1,6 @@
 -- What is before a goal, and the goal, so that its task is valid.
 use Rattle.std.specs.Prelude.{◌≡◌, ◌≢◌, ℕ, false, List, [], ◌∷◌, map, All, AllPairs, slice_get, Some}
+use Rattle.std.specs.List.{Contains}
 use Rattle.std.specs.Str.{bytes_eq}
 use Rattle.elab_groups.specs.trees.Tree.{Tree}
 use Rattle.elab_groups.specs.trees.Binding.{inst_types}
@@ -9,6 +10,7 @@ use Rattle.elab_groups.specs.tasks.Vocabulary.{is_empty}
 use Rattle.elab_groups.specs.tasks.Valid.{IsFormulaOver, IsQuoted}
 use Rattle.elab_groups.specs.surface.declared.declarations.PropKind.{PropKind}
 use Rattle.elab_groups.specs.surface.declared.declarations.PropKind.TheVariants.{Axiom}
+use Rattle.elab_groups.specs.name_resolution.Records.{is_projection, constructor_before}
 use Rattle.elab_groups.specs.parts.Entries.{builtin}
 use Rattle.elab_declarations.specs.Outcomes.{rigid_types}
 use Rattle.elaboration_laws.specs.Lists.{after, AreValidAfter}
@@ -24,6 +26,12 @@ pub record IsOwnSymbol (symbols : List SymbolTree) (k : ℕ) : Type 0 where
 abbrev pub IsOfTheory : List SymbolTree → DeclarationTree → Type 0
 IsOfTheory symbols d = All (λ (k : ℕ). (symbol_or symbols k).theory ≡ d.theory) (made_by d.body)
 
+-- Entries that are made together: the first of them is no projection, and with each one there is
+-- the constructor before it, whose fields come after it.
+pub record HasRecords (symbols : List SymbolTree) (ks : List ℕ) : Type 0 where
+  pub first : (k : ℕ) → slice_get ks 0 ≡ Some k → is_projection (symbol_or symbols k).kind ≡ false
+  pub before : All (λ (k : ℕ). Contains ks (constructor_before symbols k)) ks
+
 -- declarations are valid where they are; no symbol is made twice, and none that is built in
 pub record AreSound (symbols : List SymbolTree) (ds : List DeclarationTree) : Type 0 where
   pub built : IsBuiltRight symbols
@@ -31,6 +39,7 @@ pub record AreSound (symbols : List SymbolTree) (ds : List DeclarationTree) : Ty
   pub once : AllPairs (λ j k. j ≢ k) (made ds)
   pub own : All (IsOwnSymbol symbols) (made ds)
   pub theories : All (IsOfTheory symbols) ds
+  pub records : All (λ (d : DeclarationTree). HasRecords symbols (made_by d.body)) ds
 
 -- the entry of a type variable of a goal, whose name has a quote
 pub record IsQuotedAt (symbols : List SymbolTree) (k : ℕ) : Type 0 where

@@ -12,11 +12,13 @@ use Rattle.elab_groups.specs.tasks.Equations.{cells}
 use Rattle.elab_groups.specs.open_types.unify_types.Assigned.{assign}
 use Rattle.elab_groups.specs.open_types.unify_types.Pairs.{IsKind, IsSolution}
 use Rattle.elab_groups.specs.surface.Lexeme.{Word}
-use Rattle.elab_groups.specs.name_resolution.Abstract.{TypeExpression, Pattern, Patterns, wildcard_pattern, variable_pattern, constructor_pattern, tuple_pattern, alias_pattern, no_patterns, more_patterns, Alternatives, no_alternatives, more_alternatives, BoundNames, Expression, Expressions, MatchBranches, applied_expression, infix_expression, integer_expression, true_expression, false_expression, tuple_expression, cast_expression, field_expression, not_expression, connected_expression, equality_expression, if_expression, let_expression, match_expression, quantified_expression, no_expressions, more_expressions, no_branches, more_branches, count_patterns, count_expressions}
+use Rattle.elab_groups.specs.name_resolution.Abstract.{TypeExpression, Pattern, Patterns, wildcard_pattern, variable_pattern, constructor_pattern, tuple_pattern, alias_pattern, record_pattern, no_patterns, more_patterns, Alternatives, no_alternatives, more_alternatives, BoundNames, Expression, Expressions, MatchBranches, applied_expression, infix_expression, integer_expression, true_expression, false_expression, tuple_expression, cast_expression, field_expression, record_expression, not_expression, connected_expression, equality_expression, if_expression, let_expression, match_expression, quantified_expression, no_expressions, more_expressions, no_branches, more_branches, count_patterns, count_expressions}
 use Rattle.elab_groups.specs.name_resolution.Faults.{is_predicate, is_formula_trigger, token}
 use Rattle.elab_groups.specs.name_resolution.Where.{Where}
-use Rattle.elab_groups.specs.open_types.Patterns.{LocalTree, local, NumberedEntry, entry_of, local_type, reordered}
-use Rattle.elab_groups.specs.open_types.Pieces.{NotedTree, type_at, Use, Local', Symbol', use_of_name, field_use, tuple_use, symbol_at_types, locals_of_type, quantify, equality, names}
+use Rattle.elab_groups.specs.name_resolution.Records.{record_named}
+use Rattle.elab_groups.specs.open_types.Patterns.{LocalTree, local, NumberedEntry, entry_of, local_type, place_types, fields_tree, reordered}
+pub use Rattle.elab_groups.specs.open_types.Patterns.{PatternTree, pattern_tree, beside}
+use Rattle.elab_groups.specs.open_types.Pieces.{NotedTree, type_at, Use, Local', Symbol', use_of_name, field_use, tuple_use, record_use, field_places, values_placed, symbol_at_types, locals_of_type, quantify, equality, names}
 use Rattle.elab_groups.specs.open_types.Scoped.{IsScoped}
 use Rattle.elab_groups.specs.Groups.{typed_locals}
 
@@ -93,17 +95,14 @@ abbrev pub IsPair : (Option Tree → Tree → List Choice → Type 0)
 IsPair Left Right (t ∷ u ∷ []) e cs = Both (Left (Some t)) (Right (Some u)) pair_cells e cs
 IsPair Left Right _ e cs = ⊥
 
+-- the values of fields at places, which are of the types there, in the order of the fields
+pub record ValuesPlaced (places : List ℕ) (Values : List Tree → Tree → List Choice → Type 0)
+    (ts : List Tree) (e : Tree) (cs : List Choice) : Type 0 where
+  pub values : Tree
+  pub values_are : Values (place_types places ts) values cs
+  pub made : e ≡ values_placed places (length ts) values
+
 -- ---- patterns
-pub record PatternTree : Type 0 where
-  pub tree : Tree
-  pub variables : List LocalTree
-
-abbrev pub pattern_tree : Tree → List LocalTree → PatternTree
-pattern_tree e vs = record { tree = e; variables = vs }
-
-abbrev pub beside : PatternTree → PatternTree → PatternTree
-beside p q = pattern_tree (Two HCell p.tree q.tree) (p.variables ++ q.variables)
-
 -- a constructor at types for its type variables; its result is the type of the pattern
 pub record Constructed (u : NumberedEntry) (i : ℕ)
     (Parts : List Tree → PatternTree → List Choice → Type 0) (t : Tree) (p : PatternTree)
@@ -117,6 +116,15 @@ pub record Constructed (u : NumberedEntry) (i : ℕ)
   pub result : option_map (λ (r : Tree). inst_types r types) u.symbol.result ≡ Some t
   pub made : p ≡ pattern_tree (Three (HPatCon u.number) (cells types) parts.tree t) parts.variables
   pub chosen : cs ≡ choices_at i types ++ more
+
+-- Patterns of fields at places, which are of the types there: they are in the order of the fields,
+-- with a wildcard for any other field.
+pub record PartsPlaced (places : List ℕ)
+    (Parts : List Tree → List PatternTree → List Choice → Type 0) (ts : List Tree) (p : PatternTree)
+    (cs : List Choice) : Type 0 where
+  pub parts : List PatternTree
+  pub parts_are : Parts (place_types places ts) parts cs
+  pub made : p ≡ fields_tree places ts parts
 
 abbrev pub with_alias : Word → Tree → PatternTree → PatternTree
 with_alias x t p = pattern_tree (One HPatAlias p.tree) (p.variables ++ local x t ∷ [])
@@ -135,6 +143,9 @@ abbrev mutual
       (λ ts q more. ArePatternTypings w ts ps q more) t p cs
   IsPatternTyping w t (alias_pattern a i x) p cs =
       (q : PatternTree) × IsPatternTyping w t a q cs × (p ≡ with_alias x t q)
+  IsPatternTyping w t (record_pattern i fs ps) p cs =
+      Constructed (entry_of w.symbols (Some (record_named w.symbols w.names fs))) i
+      (PartsPlaced (field_places w fs) (λ ts qs more. AreFieldTypings w ts ps qs more)) t p cs
 
   pub ArePatternTypings : Where → List Tree → Patterns → PatternTree → List Choice → Type 0
   ArePatternTypings w [] no_patterns p cs = (p ≡ pattern_tree (Leaf HEnd) []) × (cs ≡ [])
@@ -142,6 +153,15 @@ abbrev mutual
   ArePatternTypings w [] (more_patterns a ps) p cs = ⊥
   ArePatternTypings w (t ∷ ts) (more_patterns a ps) p cs =
       Both (λ q c. IsPatternTyping w t a q c) (λ q c. ArePatternTypings w ts ps q c) beside p cs
+
+  -- each by itself
+  pub AreFieldTypings : Where → List Tree → Patterns → List PatternTree → List Choice → Type 0
+  AreFieldTypings w [] no_patterns qs cs = (qs ≡ []) × (cs ≡ [])
+  AreFieldTypings w (t ∷ ts) no_patterns qs cs = ⊥
+  AreFieldTypings w [] (more_patterns a ps) qs cs = ⊥
+  AreFieldTypings w (t ∷ ts) (more_patterns a ps) qs cs =
+      Both (λ q c. IsPatternTyping w t a q c) (λ rest c. AreFieldTypings w ts ps rest c)
+      (λ q rest. q ∷ rest) qs cs
 
 -- a variable of a later alternative has the type of its name in the first one
 abbrev pub AgreeWith : List LocalTree → List LocalTree → Type 0
@@ -267,6 +287,9 @@ abbrev mutual
       (t ≡ Some (type_at w f)) × IsTyping w ls (Some (type_at w f)) a e cs
   IsTyping w ls t (field_expression i a k qs x) e cs =
       IsUseTyping (field_use w qs x) i (IsSingle (λ u y c. IsTyping w ls u a y c)) t e cs
+  IsTyping w ls t (record_expression i fs es) e cs =
+      IsUseTyping (record_use w fs) i
+      (ValuesPlaced (field_places w fs) (λ ts a c. AreTypings w ls ts es a c)) t e cs
   IsTyping w ls t (not_expression i a) e cs =
       (t ≡ None) × ((y : Tree) × IsTyping w ls None a y cs × (e ≡ One HNot y))
   IsTyping w ls t (connected_expression i a o b) e cs =

@@ -22,18 +22,18 @@ ghost use Rattle.elaboration_laws.specs.Scopes.{NamesNew, IsTypedSignature};
 ghost use Rattle.elaboration_laws.specs.Valid.{IsTypedSetting};
 ghost use Rattle.elaboration_laws.specs.Lists.{after};
 ghost use Rattle.elaboration_laws.specs.Built.{IsBuiltRight};
-ghost use Rattle.elaboration_laws.specs.Tasks.{IsOwnSymbol, IsOfTheory, AreSound, IsSoundAfter};
+ghost use Rattle.elaboration_laws.specs.Tasks.{IsOwnSymbol, IsOfTheory, HasRecords, AreSound, IsSoundAfter};
 ghost use Rattle.elab_groups.specs.tasks.Typing.{IsTypeSymbol};
 ghost use Rattle.elaboration_laws.specs.Morphisms.{HasMappedTypes};
-ghost use Rattle.elaboration_laws.specs.Steps.{CopyStep, declarations_of, made_from, IsClone};
+ghost use Rattle.elaboration_laws.specs.Steps.{CopyStep, declarations_of, made_from, BecomesNumbered, IsClone};
 ghost use Rattle.elaboration_laws.specs.Trials.{AgreeOn};
 ghost use Rattle.elaboration_laws.specs.Rights.{with_tuples, IsTypedForm};
 ghost use Rattle.elaboration_laws.specs.Cloning.{IsImage, BecomesNew, IsFixed, KeepsBuilt, IsCloning, IsMadeRight, AreMadeRight};
 
 /// A law: of sound declarations over a signature the next one, copied under a map by which what was
-/// before became what is sound now, is sound after it, where its symbols become new ones; so is what
-/// is now where the next one leaves nothing and its symbols have become others, where it stays as it
-/// is and is valid, and with more entries.
+/// before became what is sound now, is sound after it, where its symbols become new ones, one after
+/// another; so is what is now where the next one leaves nothing and its symbols have become others,
+/// where it stays as it is, is valid and has its fields with their constructors, and with more entries.
 pub fn clones_next()
     ensures copied { (xs : List SymbolTree) (pre : List DeclarationTree) (m : Map)
         (symbols : List SymbolTree) (now : List DeclarationTree) (d : DeclarationTree)
@@ -42,6 +42,7 @@ pub fn clones_next()
         → bytes_eq theory builtin ≡ false
         → All (BecomesNew xs symbols m theory within) (made_by d.body)
         → ((k : ℕ) → Contains (made_by d.body) k → Contains (made now) (m.symbols k) → ⊥)
+        → BecomesNumbered m d
         → IsCloning xs (pre ++ d ∷ []) m symbols
         (now ++ declaration_copied m theory within d ∷ []) }
     ensures left { (xs : List SymbolTree) (pre : List DeclarationTree) (m : Map)
@@ -55,7 +56,7 @@ pub fn clones_next()
         → IsCloning xs pre m symbols now → AreSound xs (pre ++ d ∷ [])
         → IsValidDecl (after symbols [] (now ++ d ∷ [])) d
         → All (IsOwnSymbol symbols) (made_by d.body) → IsOfTheory symbols d
-        → AllPairs (λ (j k : ℕ). j ≢ k) (made_by d.body)
+        → HasRecords symbols (made_by d.body) → AllPairs (λ (j k : ℕ). j ≢ k) (made_by d.body)
         → ((k : ℕ) → Contains (made now) k → Contains (made_by d.body) k → ⊥)
         → ((k : ℕ) → Contains (made_by d.body) k → IsImage (after symbols [] (now ++ d ∷ [])) m
         (symbol_or xs k) k (is_constructor (role_in k d.body)))

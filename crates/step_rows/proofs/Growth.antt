@@ -1,15 +1,12 @@
 -- What was made so far, as a store grows.
-use Rattle.std.proofs.Common.{List, ◌++◌, All, IfSome, Option, Some, None, sym, subst}
-use Rattle.std.specs.Prelude.{Result, Ok, Err, OnOk}
+use Rattle.std.proofs.Common.{List, ◌++◌, All, sym, subst}
 use Rattle.std.proofs.lemmas.List.Elements.{All-push, All-append, All-weaker}
 use Rattle.tasks.specs.trees.declared.TermId.{TermId}
 use Rattle.tasks.specs.trees.Tree.{Tree}
 use Rattle.tasks.specs.trees.Node.{Holds, Grows}
 use Rattle.elab_groups.specs.trees.binders.Visits.{HoldTypes, typing_stays_ready}
 use Rattle.tasks.specs.declared.declaration.Decl.{Decl}
-use Rattle.tasks.specs.declared.signature.SymbolInfo.{SymbolInfo}
-use Rattle.tasks.specs.Meaning.{SymbolHeld, DeclHeld}
-use Rattle.elab_groups.specs.open_types.Drafts.{HoldsType, SymbolTyped}
+use Rattle.tasks.specs.Meaning.{DeclHeld}
 use Rattle.tasks.proofs.Growth.{all_held_later, decl_held_later}
 use Rattle.rules.specs.Meaning.{StepHeld, StepsHeld}
 use Rattle.step_writing.proofs.kernel.Growth.{steps_held_later}
@@ -19,22 +16,10 @@ use Rattle.step_lines.specs.declared.thing.MadeThing.TheVariants as made
 use Rattle.step_lines.specs.Made.{ThingHeld}
 use Rattle.step_rows.specs.declared.read.Read.{Read}
 use Rattle.step_rows.specs.Read.{RowReadHeld, IsThingKept}
+pub use Rattle.elab_groups.proofs.open_types.Held.{symbols_held}
 
 pub decls_more : (s s' : List Tree) → Grows s s' → (ds es : List Decl) → All (DeclHeld s) ds → All (DeclHeld s') es → All (DeclHeld s') (ds ++ es)
 decls_more s s' g ds es h k = All-append (DeclHeld s') ds es (All-weaker (DeclHeld s) (DeclHeld s') (decl_held_later s s' g) ds h) k
-
-result_held : (s : List Tree) (ty : Option TermId) → IfSome ty (HoldsType s) → IfSome ty (Holds s)
-result_held s None h = tt
-result_held s (Some id) h = h.held
-
-symbol_held : (s : List Tree) (i : SymbolInfo) → SymbolTyped s i → SymbolHeld s i
-symbol_held s i h = record {
-  args = All-weaker (HoldsType s) (Holds s) (λ id k. k.held) i.args h.args;
-  result = result_held s i.result h.result;
-}
-
-pub symbols_held : (s : List Tree) (is : List SymbolInfo) → All (SymbolTyped s) is → All (SymbolHeld s) is
-symbols_held s is h = All-weaker (SymbolTyped s) (SymbolHeld s) (symbol_held s) is h
 
 pub read_later : (s s' : List Tree) → Grows s s' → (r : Read) → RowReadHeld s r → RowReadHeld s' r
 read_later s s' g r h = record {

@@ -1,5 +1,5 @@
 -- A theory ends, and theories are collected.
-use Rattle.std.proofs.Common.{◌≡◌, ℕ, ◌+◌, List, [], ◌∷◌, ◌++◌, map, length, slice_get, zero, suc, get_or, Some, All, refl, sym, ap, subst, ◌∙◌, arith}
+use Rattle.std.proofs.Common.{◌≡◌, ℕ, ◌+◌, List, [], ◌∷◌, ◌++◌, map, length, slice_get, zero, suc, Some, All, refl, sym, ap, subst, ◌∙◌, arith}
 use Rattle.std.specs.Prelude.{option_to_list}
 use Rattle.std.specs.List.{AllByRecursion}
 use Rattle.std.proofs.lemmas.List.{map-append}
@@ -14,9 +14,7 @@ use Rattle.elaboration_laws.specs.elab_groups.parts.Outcomes.{Setting}
 use Rattle.elaboration_laws.proofs.Begin.{begins}
 use Rattle.elaboration_laws.proofs.TaskOutcomes.{begins as begins_built}
 use Rattle.elaboration_laws.specs.Moves.{AreTypedMoves}
-use Rattle.tasks.specs.Meaning.{symbols_at, declaration_at, declarations_at, SymbolHeld, DeclHeld}
-use Rattle.tasks.specs.declared.signature.SymbolInfo.{SymbolInfo}
-use Rattle.elaboration_laws.specs.open_types.Drafts.{SymbolTyped}
+use Rattle.tasks.specs.Meaning.{symbols_at, declaration_at, declarations_at, DeclHeld}
 use Rattle.elaboration_laws.specs.theory_states.goal_tasks.Theories.{KnownTheoryTree, TheoriesTree}
 use Rattle.elaboration_laws.specs.theory_states.declared.goal_tasks.theories.Theory.{Theory}
 use Rattle.tasks.specs.declared.signature.Signature.{Signature}
@@ -32,7 +30,7 @@ use Rattle.elaboration_laws.proofs.Keeping.{begun_typed, ended_typed}
 use Rattle.theories.specs.Files.{IsTheoryBegun, IsEnded, visible_theory, theories_of, nothing_known}
 use Rattle.theories.specs.Ints.{int_entries}
 use Rattle.theories.specs.Right.{IsStateRight, AreTheoriesRight, IsPath, between_at}
-pub use Rattle.clones.proofs.clone_elements.Looked.{result_held as option_held}
+pub use Rattle.open_types.proofs.Held.{symbols_held}
 
 -- a theory begins
 pub begun_is : (s : List Tree) (t : Typed) (path : List ℕ) (n : ℕ) (o : Opened) → opened_at s o ≡ opened_empty path → o.count ≡ n + 1 → IsTheoryBegun path (between_at s t n) (state_at s t o)
@@ -89,9 +87,6 @@ theory_is s ds k = ap (λ (xs : List DeclarationTree). let it : KnownTheoryTree 
 pub theories_are : (s : List Tree) (t : Typed) (n : ℕ) (ks : List KnownTheory) → map (theory_at s t.decls) (map (λ (k : KnownTheory). k.theory) ks) ≡ map (visible_theory (between_at s t n)) (map (known_at s) ks)
 theories_are s t n [] = refl
 theories_are s t n (k ∷ ks) = ap (λ (x : KnownTheoryTree). x ∷ map (theory_at s t.decls) (map (λ (j : KnownTheory). j.theory) ks)) (theory_is s t.decls k) ∙ ap (λ (xs : List KnownTheoryTree). visible_theory (between_at s t n) (known_at s k) ∷ xs) (theories_are s t n ks)
-
-pub symbols_held : (s : List Tree) (is : List SymbolInfo) → All (SymbolTyped s) is → All (SymbolHeld s) is
-symbols_held s is a = λ k d l. let one = a k d l in record { args = λ i x h. (one.args i x h).held; result = option_held s (get_or is k d).result one.result }
 
 pub theories_held : (s : List Tree) (ds : List Decl) (ks : List KnownTheory) → All (KnownTheoryHeld s (length ds)) ks → AllByRecursion (TheoryHeld s ds) (map (λ (k : KnownTheory). k.theory) ks)
 theories_held s ds [] a = tt

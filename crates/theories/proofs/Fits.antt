@@ -1,6 +1,6 @@
 -- The map of a clone fits the steps of the clone: the symbols of copies are new, those that are replaced became symbols with the mapped
 -- signature, and those of other theories stay.
-use Rattle.std.proofs.Common.{◌≡◌, ◌≢◌, ◌⊎◌, inl, inr, ℕ, ◌<◌, ◌&&◌, not, if◌then◌else◌, zero, suc, Bool, true, false, List, [], ◌∷◌, ◌++◌, length, get_or, slice_get, Contains, All, Option, Some, None, IsSomeAnd, refl, sym, ap, subst, ◌∙◌, arith, length-append, append_assoc}
+use Rattle.std.proofs.Common.{◌≡◌, ◌≢◌, ◌⊎◌, inl, inr, ℕ, ◌+◌, ◌<◌, ◌&&◌, not, if◌then◌else◌, zero, suc, Bool, true, false, List, [], ◌∷◌, ◌++◌, length, get_or, slice_get, Contains, All, Option, Some, None, IsSomeAnd, refl, sym, ap, subst, ◌∙◌, arith, length-append, append_assoc}
 use Rattle.std.specs.Str.{bytes_eq}
 use Rattle.std.proofs.lemmas.List.{get_or_append_left}
 use Rattle.std.proofs.lemmas.List.Elements.{All-nil, All-cons, All-contains, Contains-get_or}
@@ -33,7 +33,9 @@ use Rattle.elaboration_laws.specs.TypedStates.{state_setting, IsTypedState}
 use Rattle.elaboration_laws.specs.Sound.{IsSoundKnown, IsApart, IsSoundState}
 use Rattle.elaboration_laws.proofs.Places.{here, in_places}
 use Rattle.elaboration_laws.specs.Cloning.{IsImage, BecomesNew, IsFixed, KeepsBuilt}
-use Rattle.elaboration_laws.specs.Steps.{copies, leaves, joins, StepFits}
+use Rattle.elaboration_laws.specs.Steps.{copies, leaves, joins, BecomesNumbered, StepFits}
+use Rattle.elaboration_laws.proofs.Distinct.{pairs_distinct}
+use Rattle.theories.proofs.InOrder.{in_order, block, kept_once}
 use Rattle.elaboration_laws.proofs.Vocabularies.{made_below}
 use Rattle.elaboration_laws.proofs.Trials.{signatures_agree}
 use Rattle.elaboration_laws.specs.clones.clone_elements.Left.{Origin, no_declaration, decl_or, last_place}
@@ -55,7 +57,7 @@ use Rattle.theories.proofs.Elements.{HasType, HasSymbol, IsSymbolReplaced, types
 use Rattle.theories.proofs.Owned.{own_in, own_there, makes_in, own_visible, one_place, makes_own, makes_below}
 use Rattle.theories.proofs.Maps.{IsMadeOwn, type_makes, symbol_makes, fixed, copied_type, copied_at, copied_alone, pair_of, replaced_type, replaced_symbol, symbol_from, agrees as maps_agree}
 use Rattle.theories.proofs.Rights.{agree, sides_after, right_numbers}
-use Rattle.elaboration_laws.proofs.Mapped.{behind, copied_at as copied_there}
+use Rattle.elaboration_laws.proofs.Mapped.{following, copied_at as copied_there}
 use Rattle.std.proofs.lemmas.Option.{slice_get-get_or as some_at}
 use Rattle.elaboration_laws.proofs.Numbers.{later}
 use Rattle.elaboration_laws.proofs.Begun.{slice_or}
@@ -204,14 +206,23 @@ module _ (c : StateTree) (t : KnownTree) (es : List Element) (rest : List Symbol
         let e : slice_get made_copies at.place ≡ Some (entry_copied m path within (symbol_or xs k)) = copied_there (λ (j : ℕ). entry_copied m path within (symbol_or xs j)) (kept o final) at.place k at.at in (
           record {
             kept = copied_type c.symbols xs c.decls t sides source_sound read told below p k own free z;
-            entry = behind xs more at.place (m.symbols k) at.is ∙ further made_copies rest at.place (entry_copied m path within (symbol_or xs k)) e;
+            entry = following xs more at.place (m.symbols k) at.is ∙ further made_copies rest at.place (entry_copied m path within (symbol_or xs k)) e;
             alone = λ j l s. copied_alone c.symbols xs c.decls t sides source_sound read told below p k own free z j l s;
           },
           (λ i. let b = made_below c.symbols first sound.opened.theory.sound (m.symbols k) i in let n = length-append c.symbols tuples in let a = at.is in omega (arith, b, n, a)),
         )
 
+    numbered : BecomesNumbered m (decl_or c.decls p)
+    numbered =
+        let read = sides_read c.symbols o c.opened.scope es c.symbols in
+        let b = block o final o.own p own free in
+        let once = kept_once c.decls t final t.visible (pairs_distinct (made (visible_in c t)) source_sound.once) in (
+          length xs + length b.before,
+          in_order (length xs) m.symbols (kept o final) b.before (made_by (body_of p)) b.after (length xs + length b.before) once b.is refl (λ k z. copied_at c.symbols xs c.decls t sides source_sound read told below p k own free z),
+        )
+
     fits_copies : StepFits xs m all path within first (copies (decl_or c.decls p))
-    fits_copies = λ i d l. new (get_or (made_by (body_of p)) i d) (Contains-get_or (made_by (body_of p)) i d l)
+    fits_copies = ((λ i d l. new (get_or (made_by (body_of p)) i d) (Contains-get_or (made_by (body_of p)) i d l)), numbered)
 
   -- ---- what is replaced
   valid_at : (p k : ℕ) → Contains t.visible p → MakesAt p k → IsValidDecl (after xs [] (visible_in c t)) (decl_or c.decls p)

@@ -24,7 +24,7 @@ use Rattle.elaboration_laws.proofs.Lists.{list_valid}
 use Rattle.elaboration_laws.specs.Built.{IsBuiltRight}
 use Rattle.elaboration_laws.specs.Joined.{has_theory, Agree}
 use Rattle.elaboration_laws.specs.Tasks.{AreSound, IsSoundAfter}
-use Rattle.elaboration_laws.proofs.Grown.{sound_more, behind_more, front_sound}
+use Rattle.elaboration_laws.proofs.Grown.{sound_more, after_more, front_sound}
 use Rattle.elaboration_laws.proofs.Kept.{IsOfSource, source_kept}
 use Rattle.elaboration_laws.proofs.Trees.{formula_mapped}
 use Rattle.elaboration_laws.specs.theory_states.goal_tasks.Theories.{GoalTree}
@@ -77,7 +77,7 @@ or_front (d ∷ ds) es (suc k) l = or_front ds es k (omega (arith, l))
 
 -- a goal among more declarations, over more entries
 pub among_grown : (symbols more : List SymbolTree) (ds es : List DeclarationTree) (g : GoalTree) → IsBuiltRight (symbols ++ more) → IsSoundAmong symbols ds g → IsSoundAmong (symbols ++ more) (ds ++ es) g
-among_grown symbols more ds es g built h = among_more (symbols ++ more) ds es g (record { before = h.before; sound = behind_more symbols more (take g.before ds) g h.sound built })
+among_grown symbols more ds es g built h = among_more (symbols ++ more) ds es g (record { before = h.before; sound = after_more symbols more (take g.before ds) g h.sound built })
 
 -- an axiom's declaration, with the names of its type variables
 pub record IsSaidAt (decls : List DeclarationTree) (p : ℕ) (vars : List Word) : Type 0 where

@@ -14,6 +14,7 @@ mod Lefts
 mod Elements
 mod Owned
 mod Maps
+mod InOrder
 mod Rights
 mod Fits
 mod Steps

@@ -1,16 +1,12 @@
 -- What is read of lists in code, in trees, and of a map without entries.
-use Rattle.std.proofs.Common.{◌≡◌, ℕ, zero, suc, List, [], ◌∷◌, map, get_or, slice_get, Option, Some, None, refl, ap, nat_eq, IfSome}
+use Rattle.std.proofs.Common.{◌≡◌, ℕ, zero, suc, List, [], ◌∷◌, map, get_or, slice_get, Some, ap, nat_eq}
 use Rattle.std.specs.Map.{lookup}
 use Rattle.indexmap.specs.IndexMap.{IndexMap}
-use Rattle.tasks.specs.trees.declared.TermId.{TermId}
-use Rattle.tasks.specs.trees.Tree.{Tree}
-use Rattle.tasks.specs.trees.Node.{Holds}
-use Rattle.tasks.specs.declared.signature.SymbolInfo.{SymbolInfo}
-use Rattle.tasks.specs.Meaning.{SymbolHeld}
-use Rattle.open_types.specs.Drafts.{HoldsType, SymbolTyped}
 use Rattle.clones.specs.declared.clone_elements.replacements.Effect.{Effect}
 use Rattle.clones.specs.clone_elements.Replacements.{no_effects}
 use Rattle.clones.specs.clone_elements.Meaning.{effects_at}
+pub use Rattle.open_types.proofs.Held.{symbol_held as typed_held}
+pub use Rattle.open_types.proofs.Held.{result_held}
 
 pub got_some : {X Y : Type 0} (f : X → Y) (xs : List X) (k : ℕ) (x : X) (z : Y) → slice_get xs k ≡ Some x → get_or (map f xs) k z ≡ f x
 got_some f [] k x z h = absurd (cc)
@@ -23,10 +19,3 @@ first_is f (x ∷ xs) d y h = cc
 
 pub empty_effects : {S : Type 0} (m : IndexMap ℕ Effect S) → m.entries ≡ [] → effects_at m ≡ no_effects
 empty_effects m e = λ i q. ap (lookup (nat_eq q)) e i
-
-pub result_held : (s : List Tree) (o : Option TermId) → IfSome o (HoldsType s) → IfSome o (Holds s)
-result_held s None h = tt
-result_held s (Some id) h = h.held
-
-pub typed_held : (s : List Tree) (i : SymbolInfo) → SymbolTyped s i → SymbolHeld s i
-typed_held s i h = record { args = λ k d l. (h.args k d l).held; result = result_held s i.result h.result }

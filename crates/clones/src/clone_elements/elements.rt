@@ -187,12 +187,12 @@ fn same_types(
     let Some((first, rest)) = types.split_first() else {
         return Ok(others.is_empty());
     };
-    let Some((other, behind)) = others.split_first() else {
+    let Some((other, following)) = others.split_first() else {
         return Ok(false);
     };
     let made = map_tree(alloc, store, morphism, known, *first)?;
     if store.same(made, *other) {
-        same_types(alloc, store, morphism, known, rest, behind)
+        same_types(alloc, store, morphism, known, rest, following)
     } else {
         Ok(false)
     }

@@ -72,7 +72,7 @@ module _ (p : Place) (s s1 : List Tree) (grows : Grows s s1) (g g1 : Signature) 
     (scopes : AreScopes s (length g.symbols) names)
     (ext : IsExtended s g s1 g1 (wanting_tuples (symbols_at s g.symbols) (group_seen ts).widths ++ type_entries p.theory.now p.within.now ts))
     (first : symbol ≡ length g.symbols + length (wanting_tuples (symbols_at s g.symbols) (group_seen ts).widths))
-    (behind : length g1.symbols ≡ symbol + length ts) (begins : number ≡ length g1.symbols) (declared : after ≡ with_types symbol number ts names) where
+    (following : length g1.symbols ≡ symbol + length ts) (begins : number ≡ length g1.symbols) (declared : after ≡ with_types symbol number ts names) where
   abbrev tuples : List SymbolTree
   tuples = wanting_tuples (symbols_at s g.symbols) (group_seen ts).widths
 
@@ -86,7 +86,7 @@ module _ (p : Place) (s s1 : List Tree) (grows : Grows s s1) (g g1 : Signature) 
   is_first = length-append (symbols_at s g.symbols) tuples ∙ (ap (λ (n : ℕ). n + length tuples) (length-map g.symbols (symbol_at s)) ∙ sym first)
 
   is_constructor : first_constructor c ts ≡ number
-  is_constructor = ap (λ (n : ℕ). n + length ts) is_first ∙ sym (begins ∙ behind)
+  is_constructor = ap (λ (n : ℕ). n + length ts) is_first ∙ sym (begins ∙ following)
 
   -- the scopes have its names
   scope_is : (s' : List Tree) → Grows s s' → scope_at s' after ≡ group_names c ts
@@ -99,8 +99,8 @@ module _ (p : Place) (s s1 : List Tree) (grows : Grows s s1) (g g1 : Signature) 
 
   pub all_scopes : (s' : List Tree) → Grows s s' → AreScopes s' all after
   all_scopes s' g' =
-      let k : AreScopes s' all names = scopes_grow s s' g' (length g.symbols) all (omega (arith, first, behind, begins)) names scopes in
-      subst (λ (ns : ScopeNames). AreScopes s' all ns) (sym declared) (scopes_types s' all symbol number ts names (omega (arith, behind, begins)) (omega arith) k)
+      let k : AreScopes s' all names = scopes_grow s s' g' (length g.symbols) all (omega (arith, first, following, begins)) names scopes in
+      subst (λ (ns : ScopeNames). AreScopes s' all ns) (sym declared) (scopes_types s' all symbol number ts names (omega (arith, following, begins)) (omega arith) k)
 
   is_inside : there ≡ inside_types c ts
   is_inside =

@@ -40,7 +40,7 @@ fn push_symbols(
     ensures first { IfOk result (λ symbol. symbol ≡ length sig.old.symbols + length
         (wanting_tuples (symbols_at store.old sig.old.symbols) (group_seen (algebraics_of
         types.now)).widths)) }
-    ensures behind { IfOk result (λ symbol. length sig.new.symbols ≡ symbol + length types.now) }
+    ensures following { IfOk result (λ symbol. length sig.new.symbols ≡ symbol + length types.now) }
     ensures grows { Grows store.old store.new }
 {
     let seen = group_seen(alloc, types)?;

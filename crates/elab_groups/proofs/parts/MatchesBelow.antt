@@ -3,11 +3,12 @@ use Rattle.std.proofs.Common.{◌≡◌, ℕ, ◌+◌, ◌<◌, ◌≤◌, Bool,
 use Rattle.std.specs.List.{AllByRecursion}
 use Rattle.tasks.specs.trees.Tree.{Tree, Two, Leaf, HCell, HEnd}
 use Rattle.tasks.specs.trees.Facts.{TyVarsBelow}
-use Rattle.name_resolution.specs.Abstract.{Pattern, Patterns, wildcard_pattern, variable_pattern, constructor_pattern, tuple_pattern, alias_pattern, no_patterns, more_patterns, Alternatives, no_alternatives, more_alternatives, Expression, Expressions, MatchBranches, applied_expression, infix_expression, integer_expression, true_expression, false_expression, tuple_expression, cast_expression, field_expression, not_expression, connected_expression, equality_expression, if_expression, let_expression, match_expression, quantified_expression, no_expressions, more_expressions, no_branches, more_branches, count_patterns, count_expressions}
+use Rattle.name_resolution.specs.Abstract.{Pattern, Patterns, wildcard_pattern, variable_pattern, constructor_pattern, tuple_pattern, alias_pattern, record_pattern, no_patterns, more_patterns, Alternatives, no_alternatives, more_alternatives, Expression, Expressions, MatchBranches, applied_expression, infix_expression, integer_expression, true_expression, false_expression, tuple_expression, cast_expression, field_expression, record_expression, not_expression, connected_expression, equality_expression, if_expression, let_expression, match_expression, quantified_expression, no_expressions, more_expressions, no_branches, more_branches, count_patterns, count_expressions}
 use Rattle.name_resolution.specs.Faults.{is_formula_trigger, token}
+use Rattle.name_resolution.specs.Records.{record_named}
 use Rattle.name_resolution.specs.Where.{Where}
-use Rattle.open_types.specs.Patterns.{Notes, noted, no_notes, follow, taken, LocalTree, local, at_unknowns, result_or_int, first_or_int, rest_of, entry_of, Matched, part_types, pattern_piece, patterns_piece, later_pieces, alternatives_pieces, all_notes, first_variables, pattern_trees}
-use Rattle.open_types.specs.Pieces.{type_at, wanting, NotedTree, unknown_after, unknown, noted_before, bare_piece, both_pieces, piece, pieces, triggers_notes, branches_arms, Arms, Use, Local', Symbol', use_of_name, field_use, tuple_use, used_piece, use_vars, parameters, binders_vars, names}
+use Rattle.open_types.specs.Patterns.{Notes, noted, no_notes, follow, taken, LocalTree, local, at_unknowns, result_or_int, first_or_int, rest_of, entry_of, Matched, part_types, place_types, part_pieces, pattern_piece, patterns_piece, later_pieces, alternatives_pieces, all_notes, first_variables, pattern_trees}
+use Rattle.open_types.specs.Pieces.{type_at, wanting, NotedTree, unknown_after, unknown, noted_before, bare_piece, both_pieces, piece, pieces, triggers_notes, branches_arms, Arms, Use, Local', Symbol', use_of_name, field_use, tuple_use, record_use, field_places, values_placed, piece_under, used_piece, use_vars, parameters, binders_vars, names}
 use Rattle.open_types.specs.Pieces as pieces_of
 use Rattle.open_types.specs.Scoped.{IsScoped}
 use Rattle.open_types.proofs.Below.{below_more, AreBelow, list_more, both_all}
@@ -46,6 +47,9 @@ mutual
   pattern_without w (constructor_pattern i qs x ps) first n t = let c = entry_of w.symbols (w.names qs x) in patterns_without w ps first (n + c.symbol.vars) (part_types n c)
   pattern_without w (tuple_pattern i ps) first n t = let c = entry_of w.symbols (w.tuples (count_patterns ps)) in patterns_without w ps first (n + c.symbol.vars) (part_types n c)
   pattern_without w (alias_pattern p i x) first n t = ap (λ (ms : List (ℕ × List Tree)). ms ++ []) (pattern_without w p first n t)
+  pattern_without w (record_pattern i fs ps) first n t =
+      let c = entry_of w.symbols (Some (record_named w.symbols w.names fs)) in
+      parts_without w ps first (n + c.symbol.vars) (place_types (field_places w fs) (part_types n c))
 
   patterns_without : (w : Where) (ps : Patterns) (first : Option (List LocalTree)) (n : ℕ) (ts : List Tree) → (patterns_piece w first n ts ps).notes.matches ≡ []
   patterns_without w no_patterns first n ts = refl
@@ -53,6 +57,13 @@ mutual
       let one = pattern_piece w first n (first_or_int ts) p in
       let rest = patterns_piece w first (n + taken one.notes) (rest_of ts) ps in
       ap (λ (ms : List (ℕ × List Tree)). ms ++ rest.notes.matches) (pattern_without w p first n (first_or_int ts)) ∙ patterns_without w ps first (n + taken one.notes) (rest_of ts)
+
+  parts_without : (w : Where) (ps : Patterns) (first : Option (List LocalTree)) (n : ℕ) (ts : List Tree) → (all_notes (part_pieces w first n ts ps)).matches ≡ []
+  parts_without w no_patterns first n ts = refl
+  parts_without w (more_patterns p ps) first n ts =
+      let one = pattern_piece w first n (first_or_int ts) p in
+      let rest = part_pieces w first (n + taken one.notes) (rest_of ts) ps in
+      ap (λ (ms : List (ℕ × List Tree)). ms ++ (all_notes rest).matches) (pattern_without w p first n (first_or_int ts)) ∙ parts_without w ps first (n + taken one.notes) (rest_of ts)
 
 later_without : (w : Where) (ps : Alternatives) (first : List LocalTree) (n : ℕ) (t : Tree) → (all_notes (later_pieces w first n t ps)).matches ≡ []
 later_without w no_alternatives first n t = refl
@@ -111,6 +122,11 @@ module _ (w : Where) (sc : IsScoped w) where
         let m = n + use_vars u in
         let inner = piece w ls m (Some (first_or_int (parameters n u))) e in
         used_matches n t i u (both_pieces (Two HCell) inner (bare_piece (Leaf HEnd))) (followed m inner.notes no_notes (matches_bounded e ls m (Some (first_or_int (parameters n u)))) tt)
+    matches_bounded (record_expression i fs es) ls n t =
+        let u = record_use w fs in
+        let m = n + use_vars u in
+        let ts = parameters n u in
+        used_matches n t i u (piece_under (values_placed (field_places w fs) (length ts)) (pieces w ls m (place_types (field_places w fs) ts) es)) (all_matches es ls m (place_types (field_places w fs) ts))
     matches_bounded (not_expression i e) ls n t = matches_bounded e ls n None
     matches_bounded (connected_expression i a o b) ls n t =
         let left = piece w ls n None a in

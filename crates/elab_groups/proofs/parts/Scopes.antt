@@ -24,9 +24,10 @@ use Rattle.open_types.specs.Scoped.{IsScopedMeaning}
 use Rattle.open_types.specs.Drafts.{MeaningHeld}
 use Rattle.open_types.proofs.Growing.{type_grows, type_stays}
 use Rattle.tasks.specs.trees.Facts.{TyVarsBelow}
-use Rattle.elab_groups.specs.parts.Alike.{meaning_arity, shape, AreScopesAlike}
+use Rattle.elab_groups.specs.parts.Alike.{meaning_arity, shape, record_shape, AreScopesAlike}
 use Rattle.elab_groups.specs.parts.Entries.{IsTypeNameMeaning, IsThing, IsEntry, AreScopes, builtin, is_tuple, tuple_from, tuple_in}
 use Rattle.elab_groups.specs.parts.Outcomes.{over}
+use Rattle.elab_groups.proofs.parts.RecordsKept.{record_kept, records_kept}
 use Rattle.tasks.proofs.plain_laws.Bools.{and_first as and_left, and_second as and_right}
 use Rattle.scopes.proofs.Listed.{same_table_is as same_is}
 
@@ -196,6 +197,10 @@ module _ (s : List Tree) (symbols more : List SymbolTree) where
     names = λ qs x. ap (option_map (shape symbols)) (symbol_named_at s names qs x)
         ∙ (shape_kept (symbol_named names qs x) (symbol_below s (length symbols) names h qs x)
         ∙ ap (option_map (shape (symbols ++ more))) (sym (syms qs x ∙ symbol_named_at s names qs x)));
+    records = λ qs x. ap (option_map (record_shape symbols)) (symbol_named_at s names qs x)
+        ∙ (records_kept symbols more (symbol_named names qs x) (symbol_below s (length symbols) names h qs x)
+        ∙ ap (option_map (record_shape (symbols ++ more))) (sym (syms qs x ∙ symbol_named_at s names qs x)));
+    first = record_kept symbols more 0 p;
   }
 
 -- ---- tuples

@@ -164,8 +164,8 @@ module _ (s : List Tree) (r : ℕ) (ns : Notes) (types : List TermId) (a : AreSo
   matches_at_types (m ∷ ms) b = cc (trees_at_types m.1 b.0, matches_at_types ms b.1)
 
 -- the notes of a draft without equations and matches, after so many takers
-pub begun_behind : {s s1 : List Tree} {d d1 : Constraints} {b : Notes} (r : ℕ) → d.equations ≡ [] → length d.takers ≡ r → d.matches ≡ [] → IsNoted s d s1 d1 b → notes_after r (notes_at s1 d1) ≡ b
-begun_behind {s} {s1} {d} {d1} {b} r e n m h = begun r (notes_at s d) b (notes_at s1 d1) h.notes (ap (equations_at s) e) n (ap (map (match_at s)) m)
+pub begun_after : {s s1 : List Tree} {d d1 : Constraints} {b : Notes} (r : ℕ) → d.equations ≡ [] → length d.takers ≡ r → d.matches ≡ [] → IsNoted s d s1 d1 b → notes_after r (notes_at s1 d1) ≡ b
+begun_after {s} {s1} {d} {d1} {b} r e n m h = begun r (notes_at s d) b (notes_at s1 d1) h.notes (ap (equations_at s) e) n (ap (map (match_at s)) m)
 
 pub begun_ready : (s : List Tree) (d : Constraints) → d.equations ≡ [] → d.matches ≡ [] → IsReady s d
 begun_ready s d e m = record {

@@ -45,7 +45,7 @@ use Rattle.elaboration_laws.specs.Placed.{IsPlacedEntry, ArePlaced}
 use Rattle.elaboration_laws.specs.Sides.{with_rights, copies_made, with_copies}
 use Rattle.elaboration_laws.proofs.Numbers.{symbol_of}
 use Rattle.elaboration_laws.proofs.Rights.{all_typed, rights_built, entries_more}
-use Rattle.elaboration_laws.proofs.Mapped.{maps_types, behind, copied_at}
+use Rattle.elaboration_laws.proofs.Mapped.{maps_types, following, copied_at}
 use Rattle.elaboration_laws.proofs.Copies.{all_copies_typed, all_placed, rigids_placed}
 use Rattle.theories.specs.cloning.Cloned.{symbols_tupled, sides_in, map_in, within_of, copying_in, with_copied_entries, with_names, IsCloned}
 use Rattle.theories.proofs.Rights.{right_numbers}
@@ -196,7 +196,7 @@ module _ (l : Link) (p : Path) (alias : Option Name) (es : List Element) (c c' :
   anew i k q x =
       let e = entry_copied m c.opened.path within (symbol_or all k) in
       let f : ℕ → SymbolTree = λ j. entry_copied m c.opened.path within (symbol_or all j) in
-      let at : slice_get whole (length all + i) ≡ Some e = behind all copies i (length all + i) refl ∙ copied_at f ks i k q in
+      let at : slice_get whole (length all + i) ≡ Some e = following all copies i (length all + i) refl ∙ copied_at f ks i k q in
       let same : symbol_or whole (length all + i) ≡ e = or_at whole (length all + i) e at in
       symbol_there whole (length all + i) (slice_below whole (length all + i) e at) (ap (λ (s : SymbolTree). is_empty s.theory) same ∙ typed.theory) (λ z. x.kind (ap (λ (s : SymbolTree). s.kind) (sym same) ∙ z))
 

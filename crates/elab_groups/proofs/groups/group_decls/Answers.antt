@@ -43,6 +43,12 @@ returns-in_default-split_first-clause-decls c =
 pub returns-clause-held : goal.returns-clause-held
 returns-clause-held c = rw c.in_ok-push.ensures.ok (one_held c.body_of_group.new.store c.new-decls.result _ c.new-decls.ensures c.in_ok-body.ensures.held)
 
+same_declaration : (a b : DeclarationTree) → a.theory ≡ b.theory → a.name ≡ b.name → a.vars ≡ b.vars → a.body ≡ b.body → a ≡ b
+same_declaration a b t n v y =
+    let parts : DeclarationTree = record { theory = a.theory; name = a.name; vars = a.vars; body = a.body } in
+    let z : parts ≡ record { theory = b.theory; name = b.name; vars = b.vars; body = b.body } = cc (t, n, v, y) in
+    z
+
 pub returns-clause-decls : goal.returns-clause-decls
 returns-clause-decls c =
     let s = c.args.store.now in
@@ -61,6 +67,6 @@ returns-clause-decls c =
     let theory = c.in_ok-from_slice.ensures in
     let vars = c.len.ensures in
     let x : DeclarationTree = record { theory = p.theory.now; name = p.within.now ++ m.called.name; vars = length g.vars; body = group_body m.body c.args.number (g ∷ gs) bs } in
-    rw c.in_ok-push.ensures.ok (one_made s1 c.new-decls.result _ x c.new-decls.ensures (cc (theory, name, vars, body))
+    rw c.in_ok-push.ensures.ok (one_made s1 c.new-decls.result _ x c.new-decls.ensures (same_declaration _ x theory name vars body)
     ∙ sym (ap (λ (xs : List MemberSource). group_decls p.theory.now p.within.now (members_at xs) c.args.number (map (signed_at s) c.args.signed.now) bs) e
     ∙ ap (λ (its : List Signed). group_decls p.theory.now p.within.now (m ∷ ms) c.args.number (map (signed_at s) its) bs) f))

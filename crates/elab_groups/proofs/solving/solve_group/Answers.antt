@@ -8,7 +8,7 @@ use Rattle.open_types.specs.Pieces.{NotedTree}
 use Rattle.open_types.specs.Drafts.{match_at, notes_at}
 use Rattle.elab_groups.specs.parts.Elaborated.{IsTypingFault}
 use Rattle.elab_groups.specs.parts.Values.{notes_after}
-use Rattle.elab_groups.proofs.parts.Solving.{begun_behind, begun_ready, few_takers}
+use Rattle.elab_groups.proofs.parts.Solving.{begun_after, begun_ready, few_takers}
 use Rattle.elab_groups.specs.members.Members.{SignatureTree}
 use Rattle.elab_groups.specs.members.Sources.{member_at, members_at, signed_at}
 use Rattle.elab_groups.specs.declared.solving.Bodies.{Bodies}
@@ -92,7 +92,7 @@ solve_bodies-requires-clause-bounded c =
     let rigid : k ≡ most_variables gs = c.most_variables-rigid.ensures s in
     let takers : length d0.takers ≡ most_variables gs = c.in_ok-draft.ensures.takers ∙ rigid in
     let a : AreBodiesWalked ps ms its s d0 [] s1 d1 ids = rw (takers, c.new-ids.ensures.items) at c.in_ok-walk_bodies.ensures.walked in
-    let e : notes_after (most_variables gs) (notes_at s1 d1) ≡ pieces_notes ps = begun_behind (most_variables gs) c.in_ok-draft.ensures.equations takers c.in_ok-draft.ensures.matches a.noted in
+    let e : notes_after (most_variables gs) (notes_at s1 d1) ≡ pieces_notes ps = begun_after (most_variables gs) c.in_ok-draft.ensures.equations takers c.in_ok-draft.ensures.matches a.noted in
     let trees : trees_at s1 c.as_slice.result.now ≡ pieces_trees ps = ap (trees_at s1) c.as_slice.ensures.value ∙ a.trees in
     bounded_moved k (most_variables gs) (notes_at s1 d1) (pieces_notes ps) (trees_at s1 c.as_slice.result.now) (pieces_trees ps) rigid e trees (bodies_bounded w c.requires.scoped ms gs c.requires.resolved c.requires.own)
 
@@ -134,7 +134,7 @@ returns-clause-ok c =
     let rigid : k ≡ most_variables gs = c.most_variables-rigid.ensures s in
     let takers : length d0.takers ≡ most_variables gs = c.in_ok-draft.ensures.takers ∙ rigid in
     let a : AreBodiesWalked ps ms its s d0 [] s1 d1 ids = rw (takers, c.new-ids.ensures.items) at c.in_ok-walk_bodies.ensures.walked in
-    let e : notes_after (most_variables gs) (notes_at s1 d1) ≡ pieces_notes ps = begun_behind (most_variables gs) c.in_ok-draft.ensures.equations takers c.in_ok-draft.ensures.matches a.noted in
+    let e : notes_after (most_variables gs) (notes_at s1 d1) ≡ pieces_notes ps = begun_after (most_variables gs) c.in_ok-draft.ensures.equations takers c.in_ok-draft.ensures.matches a.noted in
     let trees : trees_at s1 c.as_slice.result.now ≡ pieces_trees ps = ap (trees_at s1) c.as_slice.ensures.value ∙ a.trees in
     let s2 = c.solve_bodies.new.store in
     IfOk-weaker c.solve_bodies.result _ (λ (it : Bodies). BodiesSolved w ms gs (trees_at s2 it.trees.items) (map (match_at s2) it.matches))
@@ -156,5 +156,5 @@ returns-clause-err c =
     let rigid : k ≡ most_variables gs = c.most_variables-rigid.ensures s in
     let takers : length d0.takers ≡ most_variables gs = c.in_ok-draft.ensures.takers ∙ rigid in
     let a : AreBodiesWalked ps ms its s d0 [] s1 d1 ids = rw (takers, c.new-ids.ensures.items) at c.in_ok-walk_bodies.ensures.walked in
-    let e : notes_after (most_variables gs) (notes_at s1 d1) ≡ pieces_notes ps = begun_behind (most_variables gs) c.in_ok-draft.ensures.equations takers c.in_ok-draft.ensures.matches a.noted in
+    let e : notes_after (most_variables gs) (notes_at s1 d1) ≡ pieces_notes ps = begun_after (most_variables gs) c.in_ok-draft.ensures.equations takers c.in_ok-draft.ensures.matches a.noted in
     IfErr-weaker c.solve_bodies.result _ (IsTypingFault (most_variables gs) (pieces_notes ps)) (λ f h. fault_moved k (most_variables gs) (notes_at s1 d1) (pieces_notes ps) f rigid e h) c.solve_bodies.ensures.err

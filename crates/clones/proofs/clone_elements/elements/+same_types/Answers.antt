@@ -23,13 +23,13 @@ same_types-requires t c =
     let w = c.map_tree.ensures.grows in
     let mo = c.args.morphism.now in
     let xs = tail_held s c.args.types.now c.in-Some.rest.now c.in-Some.first.now c.in-Some.ensures.cases.0 c.requires.held in
-    let ys = tail_held s c.args.others.now c.in-Some-split_first.behind.now c.in-Some-split_first.other.now c.in-Some-split_first.ensures.cases.0 c.requires.others_held in (
+    let ys = tail_held s c.args.others.now c.in-Some-split_first.following.now c.in-Some-split_first.other.now c.in-Some-split_first.ensures.cases.0 c.requires.others_held in (
       omega (arith, ap length c.in-Some.ensures.cases.0),
       (
         map_held s s1 w mo c.requires.map_held,
         (
           known_on mo s s1 w c.requires.map_held c.map_tree.new.known c.in_ok-made.ensures.known,
-          (all_held_later s s1 w c.in-Some.rest.now xs, all_held_later s s1 w c.in-Some-split_first.behind.now ys),
+          (all_held_later s s1 w c.in-Some.rest.now xs, all_held_later s s1 w c.in-Some-split_first.following.now ys),
         ),
       ),
     )
@@ -44,7 +44,7 @@ returns-then-same-clause-same t c =
     let x = c.in-Some.first.now in
     let xs = c.in-Some.rest.now in
     let y = c.in-Some-split_first.other.now in
-    let ys = c.in-Some-split_first.behind.now in
+    let ys = c.in-Some-split_first.following.now in
     let hx = tail_held s c.args.types.now xs x c.in-Some.ensures.cases.0 c.requires.held in
     let hy = tail_held s c.args.others.now ys y c.in-Some-split_first.ensures.cases.0 c.requires.others_held in
     let all_y : All (Holds s) (y ∷ ys) = subst (All (Holds s)) c.in-Some-split_first.ensures.cases.0 c.requires.others_held in

@@ -27,8 +27,8 @@ make_types-requires-clause-scopes c =
     let symbol = c.in_ok-symbol.symbol in
     let number = c.len-number.result in
     let grows = c.push_symbols.ensures.grows in
-    let behind : length g1.symbols ≡ symbol + length ts = c.in_ok-symbol.ensures.behind ∙ ap (λ (n : ℕ). symbol + n) (sym (types_counted c.args.types.now)) in
-    (number + group_count ts, all_scopes p s s1 grows g g1 names after ts symbol number c.requires.scopes c.in_ok-symbol.ensures.entries c.in_ok-symbol.ensures.first behind c.len-number.ensures c.in-Ok.ensures.scope s1 grows)
+    let following : length g1.symbols ≡ symbol + length ts = c.in_ok-symbol.ensures.following ∙ ap (λ (n : ℕ). symbol + n) (sym (types_counted c.args.types.now)) in
+    (number + group_count ts, all_scopes p s s1 grows g g1 names after ts symbol number c.requires.scopes c.in_ok-symbol.ensures.entries c.in_ok-symbol.ensures.first following c.len-number.ensures c.in-Ok.ensures.scope s1 grows)
 
 pub make_group-requires-clause-signature : goal.make_group-requires-clause-signature
 make_group-requires-clause-signature c = signature_grows c.push_symbols.new.store c.make_types.new.store c.make_types.ensures.grows c.push_symbols.new.sig.symbols c.in_ok-symbol.ensures.entries.signature
@@ -46,7 +46,7 @@ returns-in_ok-elaborated-in-Ok-make_types-clause-ok c =
     let symbol = c.in_ok-symbol.symbol in
     let number = c.len-number.result in
     let grows = c.push_symbols.ensures.grows in
-    let behind : length g1.symbols ≡ symbol + length ts = c.in_ok-symbol.ensures.behind ∙ ap (λ (n : ℕ). symbol + n) (sym (types_counted c.args.types.now)) in
+    let following : length g1.symbols ≡ symbol + length ts = c.in_ok-symbol.ensures.following ∙ ap (λ (n : ℕ). symbol + n) (sym (types_counted c.args.types.now)) in
     let s2 = c.make_types.new.store in
     let s3 = c.make_group.new.store in
     let more = c.make_types.ensures.grows in
@@ -54,7 +54,7 @@ returns-in_ok-elaborated-in-Ok-make_types-clause-ok c =
     let it = c.in_ok-elaborated-in-Ok-make_types.ensures in
     let made = c.in_ok-elaborated-in-Ok-make_types.elaborated in
     let all : Grows s s3 = Grows_trans s s1 s3 grows (Grows_trans s1 s2 s3 more c.make_group.ensures.grows) in
-    group_elaborated p s s1 grows g g1 names after ts symbol number c.requires.scopes c.in_ok-symbol.ensures.entries c.in_ok-symbol.ensures.first behind c.len-number.ensures c.in-Ok.ensures.scope s2 s3 more c.make_group.new.sig made ys c.in-Ok-make_types.ensures.types it.entries all c.in-Ok.ensures.told c.in-Ok-make_types.ensures.free it.decls it.rigid it.matches
+    group_elaborated p s s1 grows g g1 names after ts symbol number c.requires.scopes c.in_ok-symbol.ensures.entries c.in_ok-symbol.ensures.first following c.len-number.ensures c.in-Ok.ensures.scope s2 s3 more c.make_group.new.sig made ys c.in-Ok-make_types.ensures.types it.entries all c.in-Ok.ensures.told c.in-Ok-make_types.ensures.free it.decls it.rigid it.matches
 
 pub returns-in_ok-elaborated-in-Ok-make_types-clause-kept : goal.returns-in_ok-elaborated-in-Ok-make_types-clause-kept
 returns-in_ok-elaborated-in-Ok-make_types-clause-kept c =
@@ -69,7 +69,7 @@ returns-in_ok-elaborated-in-Ok-make_types-clause-kept c =
     let symbol = c.in_ok-symbol.symbol in
     let number = c.len-number.result in
     let grows = c.push_symbols.ensures.grows in
-    let behind : length g1.symbols ≡ symbol + length ts = c.in_ok-symbol.ensures.behind ∙ ap (λ (n : ℕ). symbol + n) (sym (types_counted c.args.types.now)) in
+    let following : length g1.symbols ≡ symbol + length ts = c.in_ok-symbol.ensures.following ∙ ap (λ (n : ℕ). symbol + n) (sym (types_counted c.args.types.now)) in
     let s2 = c.make_types.new.store in
     let s3 = c.make_group.new.store in
     let more = c.make_types.ensures.grows in
@@ -77,7 +77,7 @@ returns-in_ok-elaborated-in-Ok-make_types-clause-kept c =
     let it = c.in_ok-elaborated-in-Ok-make_types.ensures in
     let made = c.in_ok-elaborated-in-Ok-make_types.elaborated in
     let all : Grows s s3 = Grows_trans s s1 s3 grows (Grows_trans s1 s2 s3 more c.make_group.ensures.grows) in
-    group_kept p s s1 grows g g1 names after ts symbol number c.requires.scopes c.in_ok-symbol.ensures.entries c.in_ok-symbol.ensures.first behind c.len-number.ensures c.in-Ok.ensures.scope s2 s3 more c.make_group.new.sig made ys c.in-Ok-make_types.ensures.types it.entries all it.held it.matches
+    group_kept p s s1 grows g g1 names after ts symbol number c.requires.scopes c.in_ok-symbol.ensures.entries c.in_ok-symbol.ensures.first following c.len-number.ensures c.in-Ok.ensures.scope s2 s3 more c.make_group.new.sig made ys c.in-Ok-make_types.ensures.types it.entries all it.held it.matches
 
 pub returns-in-Err-make_types-clause-err : goal.returns-in-Err-make_types-clause-err
 returns-in-Err-make_types-clause-err c =
@@ -92,8 +92,8 @@ returns-in-Err-make_types-clause-err c =
     let symbol = c.in_ok-symbol.symbol in
     let number = c.len-number.result in
     let grows = c.push_symbols.ensures.grows in
-    let behind : length g1.symbols ≡ symbol + length ts = c.in_ok-symbol.ensures.behind ∙ ap (λ (n : ℕ). symbol + n) (sym (types_counted c.args.types.now)) in
-    subst (IsTypesRefusal (setting p s g names) ts) (sym c.naming_fault.ensures) (group_refused p s s1 grows g g1 names after ts symbol number c.requires.scopes c.in_ok-symbol.ensures.entries c.in_ok-symbol.ensures.first behind c.len-number.ensures c.in-Ok.ensures.scope c.in-Err-make_types.fault c.in-Ok.ensures.told c.in-Err-make_types.ensures.err)
+    let following : length g1.symbols ≡ symbol + length ts = c.in_ok-symbol.ensures.following ∙ ap (λ (n : ℕ). symbol + n) (sym (types_counted c.args.types.now)) in
+    subst (IsTypesRefusal (setting p s g names) ts) (sym c.naming_fault.ensures) (group_refused p s s1 grows g g1 names after ts symbol number c.requires.scopes c.in_ok-symbol.ensures.entries c.in_ok-symbol.ensures.first following c.len-number.ensures c.in-Ok.ensures.scope c.in-Err-make_types.fault c.in-Ok.ensures.told c.in-Err-make_types.ensures.err)
 
 pub returns-in-Err-clause-err : goal.returns-in-Err-clause-err
 returns-in-Err-clause-err c =

@@ -4,8 +4,8 @@ use Rattle.elab_declarations.specs.type_declarations.Algebraics.{algebraics_of, 
 use Rattle.elab_declarations.proofs.type_declarations.Counted.{types_counted, entries_counted}
 use Rattle.elab_declarations.proofs.type_declarations.group.push_symbols.Goals as goal
 
-pub returns-clause-behind : goal.returns-clause-behind
-returns-clause-behind c =
+pub returns-clause-following : goal.returns-clause-following
+returns-clause-following c =
     let theory = c.args.place.now.theory.now in
     let within = c.args.place.now.within.now in
     let ts = algebraics_of c.args.types.now in

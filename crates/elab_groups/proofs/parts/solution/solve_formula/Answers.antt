@@ -13,7 +13,7 @@ use Rattle.tasks.specs.Meaning.{trees_at}
 use Rattle.elab_groups.specs.parts.Elaborated.{IsTypingFault}
 use Rattle.elab_groups.specs.parts.Values.{AreSolvedTypes, notes_after, match_instance}
 use Rattle.elab_groups.proofs.parts.MatchesBelow.{MatchesBelow, matches_bounded}
-use Rattle.elab_groups.proofs.parts.Solving.{begun_behind, begun_ready, formula_solved, if_err}
+use Rattle.elab_groups.proofs.parts.Solving.{begun_after, begun_ready, formula_solved, if_err}
 use Rattle.elab_groups.proofs.parts.solution.solve_formula.Goals as goal
 use Rattle.open_types.proofs.Forming.{hold_types}
 
@@ -29,7 +29,7 @@ returns-in_err-types-clause-err c =
     let r = length c.args.world.now.vars.now in
     let p : NotedTree = piece (where_at c.args.store.now c.args.world.now) [] r None (expression_of c.args.e.now) in
     let a : IsWalked p Formula c.args.store.now c.in_ok-draft.draft c.walk.new.store c.walk.new.draft c.in_ok-tree.tree = rw c.in_ok-draft.ensures.takers at c.in_ok-tree.ensures.walked in
-    let e : notes_after r (notes_at c.walk.new.store c.walk.new.draft) ≡ p.notes = begun_behind r c.in_ok-draft.ensures.equations c.in_ok-draft.ensures.takers c.in_ok-draft.ensures.matches a.noted in
+    let e : notes_after r (notes_at c.walk.new.store c.walk.new.draft) ≡ p.notes = begun_after r c.in_ok-draft.ensures.equations c.in_ok-draft.ensures.takers c.in_ok-draft.ensures.matches a.noted in
     let k = rw e at c.in_err-types.ensures.err in
     if_err c.from_residual-in_err-types.result _ (IsTypingFault r p.notes) c.from_residual-in_err-types.ensures.1 (λ f h. rw h k)
 
@@ -47,7 +47,7 @@ returns-clause-ok c =
     let s4 = c.put_matches.new.store in
     let types = c.in_ok-types.types.items in
     let a : IsWalked p Formula c.args.store.now c.in_ok-draft.draft s1 c.walk.new.draft c.in_ok-tree.tree = rw c.in_ok-draft.ensures.takers at c.in_ok-tree.ensures.walked in
-    let e : notes_after r (notes_at s1 c.walk.new.draft) ≡ p.notes = begun_behind r c.in_ok-draft.ensures.equations c.in_ok-draft.ensures.takers c.in_ok-draft.ensures.matches a.noted in
+    let e : notes_after r (notes_at s1 c.walk.new.draft) ≡ p.notes = begun_after r c.in_ok-draft.ensures.equations c.in_ok-draft.ensures.takers c.in_ok-draft.ensures.matches a.noted in
     let t : AreSolvedTypes s2 r p.notes types = subst (λ (ns : Notes). AreSolvedTypes s2 r ns types) e c.in_ok-types.ensures.ok in
     let below : TyVarsBelow (r + taken p.notes) p.tree = bounded w c.requires.scoped (expression_of c.args.e.now) [] r None [] true tt tt (omega arith) c.requires.resolved in
     let within : MatchesBelow (r + taken p.notes) p.notes.matches = matches_bounded w c.requires.scoped (expression_of c.args.e.now) [] r None in
