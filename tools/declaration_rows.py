@@ -1,13 +1,14 @@
 """The rows of crates/source_rows that ask for the last declaration of a theory: those by hand, random theories, and random
-lists of patterns. `tools/source-rows` writes them behind its own.
+lists of patterns. `tools/source-rows` writes them after its own.
 
 First come the rows of crates/source_rows/declarations, as they are there. Of the random theories the first COUNT have four
 declarations that are well typed. Each further one has one name, type or number of arguments changed in one of those
-declarations, behind those before it. The elaborator here is plain: it gathers all faults of names and takes the one at the
-first token, it unifies by substitution on trees, and it looks for a type that is left open node by node. Then come a thousand
-lists of patterns, ten in a line: each is exhaustive where each shape that is deeper than its patterns is met. Last come
-theories with several faults of names in one declaration: after two to four changes, or in a `let` one in the pattern and one
-in the value.
+declarations, after those before it. Half of the theories have a record or the pattern of one in the last declaration. The
+elaborator here is plain: it gathers all faults of names and takes the one at the first token, where those of a record's fields
+count as at its brace; it unifies by substitution on trees, and it looks for a type that is left open node by node. Then come a
+thousand lists of patterns, ten in a line: each is exhaustive where each shape that is deeper than its patterns is met. Last
+come theories with several faults of names in one declaration: after two to four changes, in a `let` one in the pattern and one
+in the value, or all in one record.
 """
 import copy
 import inspect
@@ -21,11 +22,11 @@ sys.dont_write_bytecode = True
 TOP = os.path.dirname(os.path.dirname(os.path.realpath(__file__)))
 OPERATORS = {"+": 2, "-": 2, "<": 2, "-_": 1}
 FORMULAS = ("true", "false", "not", "join", "eq", "all", "ex")
-TERMS = ("int", "tup", "cast")
+TERMS = ("int", "tup", "cast", "rec")
 CONNECTIVES = {"/\\": "A", "&&": "B", "\\/": "O", "||": "P", "->": "I", "<->": "E"}
 
 
-# ---- writing: tokens are counted as they are written, and each node becomes a tuple whose token is behind its kind
+# ---- writing: tokens are counted as they are written, and each node becomes a tuple whose token is after its kind
 FIELD = "'."  # the dot before a field, which is written without blanks
 
 
@@ -68,11 +69,25 @@ class Writer:
         i = self.put(f[1])
         return ("c", i, f[1], self.row(f[2], lambda g: self.form(g, True)))
 
+    def fields(self, e, write):
+        """The fields of a record, each with the token of its name, and a semicolon after the last one where it has it."""
+
+        def field(f):
+            i = self.put(f[1], "=")
+            return (i, f[1], write(f[2]))
+
+        i = self.put("{")
+        made = self.row(e[1], field, ";")
+        self.put(*";}" if e[2] else "}")
+        return (e[0], i, made)
+
     def pattern(self, p, atom=False):
         if p[0] == "_":
             return ("_", self.put("_"))
         if p[0] == "x":
             return ("x", self.put(p[1]), p[1])
+        if p[0] == "recp":
+            return self.fields(p, self.pattern)
         if p[0] == "t":
             i = self.put("(")
             made = self.row(p[1], self.pattern, ",")
@@ -95,22 +110,22 @@ class Writer:
         i = self.put(p[1])
         return ("k", i, p[1], self.row(p[2], lambda q: self.pattern(q, True)))
 
-    def atom(self, e):
-        if e[0] in ("int", "true", "false", "tup", "cast", "dot") or e[0] == "app" and not e[2]:
+    def enclosed(self, e, bare):
+        """Writes an expression, in parentheses where it can't stand bare."""
+        if bare:
             return self.expression(e)
         self.put("(")
         made = self.expression(e)
         self.put(")")
         return made
 
+    def atom(self, e):
+        return self.enclosed(e, e[0] in ("int", "true", "false", "tup", "cast", "dot", "rec") or e[0] == "app" and not e[2])
+
     def plain(self, e):
-        """What a field may be taken of."""
-        if e[0] in ("tup", "cast", "dot", "match") or e[0] == "app" and not e[2] and e[1][:1].islower():
-            return self.expression(e)
-        self.put("(")
-        made = self.expression(e)
-        self.put(")")
-        return made
+        """Writes what a field may be taken of."""
+        is_name = e[0] == "app" and not e[2] and e[1][:1].islower()
+        return self.enclosed(e, e[0] in ("tup", "cast", "dot", "match", "rec") or is_name)
 
     def subject(self, e):
         if e[0] == "beside":
@@ -165,6 +180,9 @@ class Writer:
         f = self.form(e[2])
         self.put(")")
         return ("cast", i, a, f)
+
+    def write_rec(self, e):
+        return self.fields(e, self.expression)
 
     def write_dot(self, e):
         """The token of a field is that of its term's beginning; its name has one of its own."""
@@ -378,6 +396,16 @@ class Theory:
                 self.symbols[word] = n
         return k
 
+    def record_of(self, name):
+        """The constructor of the record of which a name is a field, or None."""
+        k = self.symbols[name]
+        while self.entries[k][2] == "projection":
+            k -= 1
+        return k if self.is_record(k) else None
+
+    def is_record(self, k):
+        return self.entries[k][2] == "constructor" and self.entries[k][1][0].islower()
+
     def tuple(self, n):
         if n not in self.tuples:
             k = self.add("BuiltIn", f"tuple{n}", "type", n, [], None)
@@ -387,23 +415,19 @@ class Theory:
 
 
 def seen_in(x, variables, widths):
-    """The type variables and the widths of tuples of an annotated tree, by token."""
+    """The type variables and the widths of tuples of an annotated tree, in the order of its parts."""
     if isinstance(x, list) or isinstance(x, tuple):
         if x and isinstance(x, tuple) and x[0] == "v" and len(x) == 3 and isinstance(x[1], int):
-            variables.append((x[1], x[2]))
+            variables.append(x[2])
             return
         if x and isinstance(x, tuple) and x[0] in ("p", "t", "tup") and len(x) == 3 and isinstance(x[1], int):
-            widths.append((x[1], len(x[2])))
+            widths.append(len(x[2]))
         for y in x:
             seen_in(y, variables, widths)
 
 
-def by_first(pairs):
-    made = []
-    for _, x in sorted(pairs):
-        if x not in made:
-            made.append(x)
-    return made
+def by_first(items):
+    return list(dict.fromkeys(items))
 
 
 class Elaborator:
@@ -421,13 +445,14 @@ class Elaborator:
         self.locals = 0
 
     # ---- names
-    def at(self, token, rank, word):
-        self.faults.append((token, rank, word))
+    def at(self, token, rank, word, place=None):
+        """A fault at a token comes at its place among the others, which is the token where it isn't told."""
+        self.faults.append((token if place is None else place, rank, token, word))
 
     def raise_first(self):
         if self.faults:
-            token, _, word = min(self.faults)
-            raise Fault(word, token, len({at for at, _, _ in self.faults}))
+            _, _, token, word = min(self.faults)
+            raise Fault(word, token, len({at for _, _, at, _ in self.faults}))
 
     def made(self, table, names, new):
         for token, name in names:
@@ -490,6 +515,26 @@ class Elaborator:
                 self.at(p[1], 2, "Arity")
             for q in p[3]:
                 self.check_pattern(q, bound)
+        elif p[0] == "recp":
+            self.check_fields(p, False)
+            for _, _, q in p[2]:
+                self.check_pattern(q, bound)
+
+    def check_fields(self, e, is_whole):
+        """The names of a record's fields come before its parts, and then that one isn't there."""
+        first = e[2][0][1]
+        record = self.t.record_of(first) if first in self.t.symbols else None
+        seen = set()
+        for token, name, _ in e[2]:
+            if name not in self.t.symbols:
+                self.at(token, 2, "Unknown", e[1])
+            elif record is None or self.t.record_of(name) != record:
+                self.at(token, 2, "WrongKind", e[1])
+            elif name in seen:
+                self.at(token, 2, "Duplicate", e[1])
+            seen.add(name)
+        if is_whole and record is not None and len(seen) < len(self.t.entries[record][4]):
+            self.at(e[1], 3, "Arity", e[1])
 
     def bind(self, token, name, bound):
         if name in bound:
@@ -529,6 +574,11 @@ class Elaborator:
     def check_cast(self, e, names, due):
         self.check(e[2], names, False)
         self.check_form(e[3])
+
+    def check_rec(self, e, names, due):
+        self.check_fields(e, True)
+        for _, _, a in e[2]:
+            self.check(a, names, False)
 
     def check_dot(self, e, names, due):
         self.check(e[2], names, False)
@@ -635,13 +685,15 @@ class Elaborator:
         self.locals += 1
         return (name, self.locals, t)
 
-    def use(self, token, k, args, env, w):
+    def use(self, token, k, args, env, w, places=None):
+        """An entry before arguments; those of a record are at places of their own."""
         e = self.t.entries[k]
         types = [self.unknown() for _ in range(e[3])]
         self.node(token, *([w] if w else []), *types)
         if w:
             self.equal(instance(e[5], types), w)
-        made = [self.term(a, env, instance(t, types)) for a, t in zip(args, e[4])]
+        wanted = [e[4][at] for at in places or range(len(args))]
+        made = [self.term(a, env, instance(t, types)) for a, t in zip(args, wanted)]
         return ("fun", k, types, made, w) if w else ("pred", k, types, made)
 
     def name(self, token, name, args, env, w):
@@ -664,6 +716,8 @@ class Elaborator:
             made = self.pattern(p[2], t, first, bound)
             self.bind_pattern(p[3], t, first, bound)
             return ("alias", made)
+        if p[0] == "recp":
+            return self.record_pattern(p, t, first, bound)
         parts = p[2] if p[0] == "t" else p[3]
         k = self.t.tuples[len(parts)] + 1 if p[0] == "t" else self.t.symbols[p[2]]
         e = self.t.entries[k]
@@ -671,6 +725,22 @@ class Elaborator:
         self.node(p[1], t, *types)
         self.equal(instance(e[5], types), t)
         return ("con", k, types, [self.pattern(q, instance(s, types), first, bound) for q, s in zip(parts, e[4])], t)
+
+    def record_pattern(self, p, t, first, bound):
+        """Its fields have types in the order in which they are written, and stand and bind in that of the record."""
+        k = self.t.record_of(p[2][0][1])
+        e = self.t.entries[k]
+        types = [self.unknown() for _ in range(e[3])]
+        self.node(p[1], t, *types)
+        self.equal(instance(e[5], types), t)
+        wanted = [instance(s, types) for s in e[4]]
+        parts = [(("any", s), []) for s in wanted]
+        for _, name, q in p[2]:
+            at, own = self.t.symbols[name] - k - 1, []
+            parts[at] = (self.pattern(q, wanted[at], first, own), own)
+        for _, own in parts:
+            bound += own
+        return ("con", k, types, [q for q, _ in parts], t)
 
     def bind_pattern(self, name, t, first, bound):
         if first is None:
@@ -708,6 +778,13 @@ class Elaborator:
         self.node(e[1], w)
         self.equal(t, w)
         return self.term(e[2], env, t)
+
+    def type_rec(self, e, env, w):
+        """Its values have types in the order in which they are written, and stand in that of the record."""
+        k = self.t.record_of(e[2][0][1])
+        places = [self.t.symbols[name] - k - 1 for _, name, _ in e[2]]
+        made = self.use(e[1], k, [a for _, _, a in e[2]], env, w, places)
+        return (*made[:3], [a for _, a in sorted(zip(places, made[3]))], w)
 
     def type_dot(self, e, env, w):
         return self.use(e[1], self.t.symbols[e[4]], [e[2]], env, w)
@@ -1053,9 +1130,12 @@ def answer_of(theory, declarations):
 
 # ---- random declarations, in trees without tokens
 class Generator:
-    def __init__(self, rng, theory):
+    """With `form` some form is drawn more often."""
+
+    def __init__(self, rng, theory, form=None):
         self.r = rng
         self.t = theory
+        self.form_asked = form
         self.vars = []
 
     def chance(self, p):
@@ -1112,6 +1192,21 @@ class Generator:
         known = self.symbols_for(t, ("function", "constructor", "projection"))
         return [s for s in known if s[0] not in dict(env) or s[1][2] == "projection"]
 
+    def records_for(self, t):
+        """The records that have the type, or any, each as what its fields are named and their types."""
+        made = []
+        for k, e in enumerate(self.t.entries):
+            found = {}
+            if self.t.is_record(k) and (t is None or self.match(e[5], t, found)):
+                words = [name for _, name, *_ in self.t.entries[k + 1 : k + 1 + len(e[4])]]
+                made.append([(x, instance(s, found) if t else s) for x, s in zip(words, e[4])])
+        return made
+
+    def record(self, kind, fields, write):
+        made = [["field", x, write(s)] for x, s in fields]
+        self.r.shuffle(made)
+        return [kind, made, self.chance(0.2)]
+
     def fields_of(self, env):
         """The fields of variables, with their types."""
         made = []
@@ -1146,6 +1241,9 @@ class Generator:
             return ["int", self.r.randint(0, 9)]
         known = self.functions_for(t, env)
         flat = [s for s in known if not s[1][4]]
+        records = self.records_for(t)
+        if records and not (flat and self.chance(0.5)):
+            return self.record("rec", records[0], lambda s: self.smallest(s, env))
         if flat or known:
             return self.apply(*self.r.choice(flat or known), env, 0)
         if t[0] == "a" and self.t.entries[t[1]][1].startswith("tuple"):
@@ -1160,6 +1258,11 @@ class Generator:
         fields = [e for e, s in self.fields_of(env) if s == t]
         if fields and self.chance(0.4):
             return self.r.choice(fields)
+        records = self.records_for(t)
+        if records and self.chance(0.6):
+            return self.record("rec", records[0], lambda s: self.term(s, env, depth - 1))
+        if self.form_asked == "recp" and self.chance(0.4):
+            return self.either(env, depth, lambda more: self.term(t, more, depth - 1))
         k = self.r.random()
         if k < 0.55:
             known = self.functions_for(t, env)
@@ -1183,7 +1286,8 @@ class Generator:
             s = self.type(1)
             x = self.name()
             return ["let", x, self.term(s, env, depth - 1), body(env + [(x, s)])]
-        s = self.type(2) if self.chance(0.5) else self.subject()
+        of_records = self.form_asked == "recp" or self.chance(0.5)
+        s = self.subject(of_records) if of_records or self.chance(0.5) else self.type(2)
         value = self.term(s, env, depth - 1)
         if self.chance(0.1):
             s = ("a", self.t.tuples[2], [self.type(1), self.type(1)]) if 2 in self.t.tuples else s
@@ -1199,6 +1303,8 @@ class Generator:
         for _ in range(self.r.randint(1, 3)):
             bound = []
             alternatives = [self.open_pattern(s, bound)]
+            if len(bound) > 1 and self.chance(0.5):
+                alternatives.append(self.reordered(alternatives[0], self.exchanged(bound)))
             for _ in range(4):
                 other = []
                 p = self.open_pattern(s, other)
@@ -1212,14 +1318,36 @@ class Generator:
         p = self.pattern(t, 2, bound)
         return ["beside", p[1]] if p[0] == "t" and len(p[1]) > 1 and self.chance(0.5) else p
 
+    def exchanged(self, bound):
+        """What two variables of one type become where they change places."""
+        pairs = [(x, y) for x, s in bound for y, t in bound if x != y and s == t]
+        x, y = self.r.choice(pairs) if pairs else ("", "")
+        return {x: y, y: x}
+
+    def reordered(self, p, names):
+        """A pattern with the fields of its records in another order, and with other names."""
+        if p[0] == "recp":
+            fields = [["field", x, self.reordered(q, names)] for _, x, q in p[1]]
+            self.r.shuffle(fields)
+            return ["recp", fields, p[2]]
+        if p[0] in ("t", "beside"):
+            return [p[0], [self.reordered(q, names) for q in p[1]]]
+        if p[0] == "k":
+            return ["k", p[1], [self.reordered(q, names) for q in p[2]]]
+        if p[0] == "as":
+            return ["as", self.reordered(p[1], names), names.get(p[2], p[2])]
+        return ["x", names.get(p[1], p[1])] if p[0] == "x" else p
+
     def with_fields(self):
         """A type that has a field with a name, if there is one."""
         known = [e[4][0] for _, e, _ in self.symbols_for(None, ("projection",))]
         t = self.r.choice(known) if known else self.type(1)
         return instance(t, [self.type(1) for _ in t[2]]) if known else t
 
-    def subject(self):
-        known = [e[5] for e in self.t.entries if e[2] == "constructor"]
+    def subject(self, of_records=False):
+        """A type that has a constructor, of a record where that is asked for, if there is one."""
+        made = [k for k, e in enumerate(self.t.entries) if e[2] == "constructor"]
+        known = [self.t.entries[k][5] for k in made if not of_records or self.t.is_record(k)]
         if not known:
             return self.type(1)
         t = self.r.choice(known)
@@ -1235,6 +1363,9 @@ class Generator:
                 name, e, found = self.r.choice(known)
                 types = [found[i] for i in range(e[3])]
                 return ["k", name, [self.pattern(instance(s, types), depth - 1, bound) for s in e[4]]]
+            for fields in self.records_for(t):
+                chosen = self.r.sample(fields, self.r.randint(1, len(fields)))
+                return self.record("recp", chosen, lambda s: self.pattern(s, depth - 1, bound))
         free = [x for x in "xyzw" if x not in dict(bound)]
         if k < 0.75 or not free:
             return ["_"]
@@ -1249,6 +1380,8 @@ class Generator:
         return ["x", x]
 
     def formula(self, env, depth):
+        if depth > 0 and self.form_asked == "recp" and self.chance(0.4):
+            return self.either(env, depth, lambda more: self.formula(more, depth - 1))
         k = self.r.random()
         if depth <= 0 or k < 0.1:
             known = [s for s in self.symbols_for(None, ("predicate",)) if s[0] not in dict(env)]
@@ -1282,7 +1415,7 @@ class Generator:
         triggers = []
         if self.chance(0.15):
             triggers = [self.formula(inner, 0) if self.chance(0.3) else self.term(self.type(0), inner, 1)]
-        triggers = [g for g in triggers if g[0] in ("app", "op", "eq", "dot")]
+        triggers = [g for g in triggers if g[0] in ("app", "op", "eq", "dot", "rec")]
         return [self.r.choice(["all", "ex"]), binders, triggers, self.formula(inner, depth - 1)]
 
     # ---- declarations
@@ -1318,7 +1451,10 @@ class Generator:
         for x, vs in heads:
             made.append([x, vs, []])
             if len(words) > 3 and self.chance(0.3):
+                group = self.t.types
+                self.t.types = group if self.chance(0.2) else kept
                 fields = [[[words.pop()], self.form(1, vs)] for _ in range(r.randint(1, 3))]
+                self.t.types = group
                 made[-1][2].append([None, fields, self.chance(0.3)])
                 continue
             for _ in range(r.randint(1, 2)):
@@ -1378,7 +1514,7 @@ class Generator:
         entered = elaborator.enter_members([m[:3] for m in heads[1]])
         for ((_, name), _, _, _), (k, _, _, _) in zip(heads[1], entered):
             t.symbols[name] = k
-        inner = Generator(self.r, t)
+        inner = Generator(self.r, t, self.form_asked)
         abstract = d[0] != "ind" and not is_last and self.chance(0.5) and len(members) == 1
         for i, ((_, params, result, _), (k, variables, args, own)) in enumerate(zip(heads[1], entered)):
             inner.vars = variables
@@ -1421,7 +1557,7 @@ def is_applied(x):
 
 def is_head(x):
     """Whether it is an algebraic type, a member of a group or an inductive predicate."""
-    expressions = ("all", "ex", "cast", "dot", "not", "if", "match", "letp", "as", "let")
+    expressions = ("all", "ex", "cast", "dot", "rec", "recp", "not", "if", "match", "letp", "as", "let")
     return len(x) > 2 and isinstance(x[1], list) and x[0] not in expressions
 
 
@@ -1430,6 +1566,8 @@ def change_name(rng, x, words):
         x[1] = rng.choice([w for w in words if w[0].isupper() == (x[0] == "k")])
     elif len(x) == 3 and x[0] == "dot":
         x[2] = rng.choice([w for w in words if w[0].islower()])
+    elif len(x) == 3 and x[0] == "field":
+        x[1] = rng.choice([w for w in words if w[0].islower()])
     elif is_head(x) and x[0][0].islower() and rng.random() < 0.7:
         x[0] = rng.choice([w for w in words if w[0].islower()])
     elif len(x) == 2 and x[0] == "v" and isinstance(x[1], str):
@@ -1457,6 +1595,8 @@ def change_type(rng, x, words):
         x[:] = ["c", "int", []]
     elif x == ["c", "int", []]:
         x[:] = rng.choice([["p", []], ["p", [["c", "int", []], ["c", "int", []]]], ["c", rng.choice("tuv"), []]])
+    elif x[0] in ("int", "true", "false") and rng.random() < 0.3:
+        x[:] = ["rec", [["field", rng.choice([w for w in words if w[0].islower()]), ["int", 1]]], False]
     elif len(x) == 2 and x[0] == "int":
         x[:] = rng.choice([["tup", [["int", 1], ["int", 2]]], ["tup", []], ["true"], ["app", rng.choice("xyzw"), []]])
     elif x in (["true"], ["false"]):
@@ -1495,6 +1635,23 @@ def change_field(rng, x, words):
     return True
 
 
+def change_record(rng, x, words):
+    """A field of a record is left out, or stands once more, or elsewhere, or one of another name does."""
+    if len(x) != 3 or x[0] not in ("rec", "recp"):
+        return False
+    kind = rng.randrange(4)
+    if kind == 0 and len(x[1]) > 1:
+        x[1].pop(rng.randrange(len(x[1])))
+    elif kind < 2:
+        x[1].insert(rng.randint(0, len(x[1])), copy.deepcopy(rng.choice(x[1])))
+    elif kind == 2:
+        more = ["field", rng.choice([w for w in words if w[0].islower()]), copy.deepcopy(rng.choice(x[1])[2])]
+        x[1].insert(rng.randint(0, len(x[1])), more)
+    else:
+        rng.shuffle(x[1])
+    return True
+
+
 def strings_of(x):
     return {x} if isinstance(x, str) else set().union(*map(strings_of, x)) if isinstance(x, list) else set()
 
@@ -1507,7 +1664,7 @@ def change(rng, declarations, part=None):
     found = []
     lists_of(part or declarations[-1], found)
     for _ in range(200):
-        kind = rng.choice([change_name, change_type, change_arity, change_field])
+        kind = rng.choice([change_name, change_type, change_arity, change_field, change_record, change_record])
         if any(kind(rng, x, words) for x in rng.sample(found, min(8, len(found))) if x and isinstance(x[0], str)):
             return
 
@@ -1558,7 +1715,8 @@ def let_of_pattern(rng, declarations):
         is_long = len(source_of([goal])[0]) > 190
     except (LookupError, RecursionError, ValueError):
         return None
-    return declarations + [goal] if pattern[-1] and pattern[0] in "kt" and not is_long else None
+    has_parts = pattern[0] == "recp" or pattern[0] in "kt" and pattern[-1]
+    return declarations + [goal] if has_parts and not is_long else None
 
 
 def changed_let(rng, declarations):
@@ -1576,12 +1734,31 @@ def changed_let(rng, declarations):
     return None
 
 
+def changed_record(rng, declarations):
+    """The same with two or three changes in one record of the last declaration, or None."""
+    for _ in range(10):
+        other = copy.deepcopy(declarations)
+        found = []
+        lists_of(other[-1], found)
+        records = [x for x in found if len(x) == 3 and x[0] in ("rec", "recp")]
+        if not records:
+            return None
+        record = rng.choice(records)
+        for _ in range(rng.randint(2, 3)):
+            change(rng, other, record)
+        fault = fault_of_names(other)
+        if fault and fault[2] > 1:
+            return other
+    return None
+
+
 def rows_of_faults(rng, rows, count):
-    """So many sources with several faults of names, half of them at a `let` of a pattern."""
+    """So many sources with several faults of names, a third of them at a `let` of a pattern, and a third in one record."""
     heads = [row[: k + 1] for row in rows for k in range(len(row))]
+    kinds = [changed_let, changed_often, changed_record]
     made = {}
     while len(made) < count:
-        other = (changed_often if len(made) % 2 else changed_let)(rng, rng.choice(heads))
+        other = kinds[len(made) % 3](rng, rng.choice(heads))
         if other:
             text, annotated = source_of(other)
             made[text] = answer_of(Theory(), annotated)
@@ -1601,12 +1778,28 @@ def names_field(d):
     return d[0] == "alg" and any(names for _, _, cons in d[1] for con in cons for names, _ in con[1])
 
 
-def takes_field(x):
-    return isinstance(x, list) and (len(x) == 3 and x[0] == "dot" or any(map(takes_field, x)))
+def names_record(d):
+    return d[0] == "alg" and any(cons[0][0] is None for _, _, cons in d[1])
 
 
-def well_typed(rng, of_fields):
-    """Declarations of a theory, each of which is well typed; the first names a field and the last takes one, if asked for."""
+def has_form(x, form):
+    return isinstance(x, list) and (len(x) == 3 and x[0] == form or any(has_form(y, form) for y in x))
+
+
+# What the first declaration of a theory makes, and a form that is in the last one.
+WANTED = (lambda d: True, None), (names_field, "dot"), (names_record, "rec"), (names_record, "recp")
+
+
+def is_short(declaration):
+    """Whether the text has at most 260 bytes. A declaration that is too deep to be written has more."""
+    try:
+        return len(source_of([declaration])[0]) <= 260
+    except RecursionError:
+        return False
+
+
+def well_typed(rng, first, form):
+    """Declarations of a theory, each of which is well typed; of the first and the last one something is asked."""
     theory = Theory()
     made = []
     for _ in range(200):
@@ -1614,14 +1807,14 @@ def well_typed(rng, of_fields):
             break
         state = copy.deepcopy(theory)
         try:
-            d = Generator(rng, copy.deepcopy(theory)).declaration(len(made) == 3)
+            d = Generator(rng, copy.deepcopy(theory), form).declaration(len(made) == 3)
         except (LookupError, RecursionError, ValueError):
             continue
         if None in d[:3] and d[0] != "type" and d[0] != "const" or d[0] in ("type", "const") and d[1] is None:
             continue
-        if len(source_of([d])[0]) > 190:
+        if not is_short(d):
             continue
-        if of_fields and (len(made) == 0 and not names_field(d) or len(made) == 3 and not takes_field(d)):
+        if len(made) == 0 and not first(d) or len(made) == 3 and form and not has_form(d, form):
             continue
         answer = answer_of(state, source_of(made + [d])[1][-1:])
         if answer.startswith("Made"):
@@ -1631,11 +1824,12 @@ def well_typed(rng, of_fields):
 
 
 # ---- rows of patterns against an enumeration of the shapes that are deeper than any of them
-COVERED = "type t = A | B type list 'a = Nil | Cons 'a (list 'a) type pair 'a 'b = Pair 'a 'b"
+COVERED = "type t = A | B type list 'a = Nil | Cons 'a (list 'a) type pair 'a 'b = Pair 'a 'b type r = {a: t; b: list t; c: t}"
 CONSTRUCTORS = {
     "t": {"A": (), "B": ()},
     "list t": {"Nil": (), "Cons": ("t", "list t")},
     "pair t (list t)": {"Pair": ("t", "list t")},
+    "r": {"": ("t", "list t", "t")},
 }
 
 
@@ -1651,7 +1845,16 @@ def random_pattern(rng, kind, depth):
     return (con, *(random_pattern(rng, part, depth - 1) for part in CONSTRUCTORS[kind][con]))
 
 
-def pattern_text(pattern, count):
+def fields_text(rng, parts):
+    """The fields of a record in any order, of which those with a wildcard may be left out."""
+    fields = [f"{x} = {part}" for x, part in zip("abc", parts)]
+    named = [field for field in fields if not field.endswith(" = _")] or [rng.choice(fields)]
+    fields = rng.choice([fields, named])
+    rng.shuffle(fields)
+    return "{" + "; ".join(fields) + "}"
+
+
+def pattern_text(rng, pattern, count):
     """With names that differ."""
     if pattern[0] == "_":
         return "_"
@@ -1661,8 +1864,10 @@ def pattern_text(pattern, count):
     if pattern[0] == "as":
         count[0] += 1
         name = f"v{count[0]}"
-        return f"({pattern_text(pattern[1], count)} as {name})"
-    parts = [pattern_text(part, count) for part in pattern[1:]]
+        return f"({pattern_text(rng, pattern[1], count)} as {name})"
+    parts = [pattern_text(rng, part, count) for part in pattern[1:]]
+    if pattern[0] == "":
+        return fields_text(rng, parts)
     return f"({' '.join([pattern[0], *parts])})" if parts else pattern[0]
 
 
@@ -1676,7 +1881,7 @@ def shapes_of(kind, depth):
 
 
 def meets(pattern, shape):
-    if pattern[0] in "_x" or shape is None:
+    if pattern[0] in ("_", "x") or shape is None:
         return True
     if pattern[0] == "as":
         return meets(pattern[1], shape)
@@ -1690,7 +1895,7 @@ def cover_rows(rng, shapes):
         kind = rng.choice(list(CONSTRUCTORS))
         patterns = [random_pattern(rng, kind, 3) for _ in range(rng.randrange(1, 8))]
         count = [0]
-        arms = " | ".join(f"{pattern_text(pattern, count)} -> true" for pattern in patterns)
+        arms = " | ".join(f"{pattern_text(rng, pattern, count)} -> true" for pattern in patterns)
         text += f"{' with' if text else 'predicate'} p{k} (x: {kind}) = match x with {arms} end"
         is_open = any(not any(meets(p, shape) for p in patterns) for shape in shapes[kind])
         answer += "|{}" + " open" * is_open
@@ -1701,8 +1906,8 @@ def cover_rows(rng, shapes):
 
 
 def rows_by_hand(folder):
-    """The rows of a folder's files: a source, and its answer behind four blanks in the next line. A line `before: TEXT` or
-    `after: TEXT` gives what stands around the sources behind it, a blank between."""
+    """The rows of a folder's files: a source, and its answer after four blanks in the next line. A line `before: TEXT` or
+    `after: TEXT` gives what stands around the sources after it, a blank between."""
     made = []
     for name in sorted(os.listdir(folder)):
         around = {"before:": "", "after:": ""}
@@ -1728,12 +1933,12 @@ def declaration_rows(seed, count):
     # A declaration that nests without end draws numbers up to this limit, so that the rows depend on it.
     sys.setrecursionlimit(998 + len(inspect.stack()))
     rng = random.Random(seed)
-    rows = [well_typed(rng, k % 2 == 1) for k in range(count)]
+    rows = [well_typed(rng, *WANTED[k % 4]) for k in range(count)]
     rows += [changed(rng, declarations[: k + 1]) for declarations in rows[:] for k in range(len(declarations))]
     made = [source_of(declarations) for declarations in rows]
     pairs = [(text, answer_of(Theory(), annotated)) for text, annotated in made]
     shapes = {kind: shapes_of(kind, 5) for kind in CONSTRUCTORS}
     pairs += [cover_rows(rng, shapes) for _ in range(100)]
-    pairs += rows_of_faults(rng, rows[:count], 150)
+    pairs += rows_of_faults(rng, rows[:count], 225)
     pairs = rows_by_hand(f"{TOP}/crates/source_rows/declarations") + pairs
     return [(f"last {text}", answer) for text, answer in pairs]
