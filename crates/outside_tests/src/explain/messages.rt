@@ -63,7 +63,7 @@ static MESSAGES: [(&str, &[usize], &str); 48] = [
     (
         "p",
         &[22, 1, 0],
-        "f:1:1: formula where a term is due, term where a formula is due, or alternative with other names (refused: 22 1 0)\np\n^\n",
+        "f:1:1: formula for a term, term for a formula, no field, or alternative with other names (refused: 22 1 0)\np\n^\n",
     ),
     (
         "p",

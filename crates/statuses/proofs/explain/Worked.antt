@@ -5,7 +5,7 @@ use Rattle.tokens_why.specs.declared.token.TokenKind.TheVariants as kind
 use Rattle.statuses.specs.declared.explain.table.Counts.TheVariants.{Tokens}
 use Rattle.statuses.specs.declared.explain.places.Spot.TheVariants.{Nowhere, Byte, Line}
 use Rattle.statuses.specs.explain.Table.{RowText}
-use Rattle.statuses.specs.explain.Places.{line_numbered, line_number, line_before, column_behind, byte_spot, token_byte}
+use Rattle.statuses.specs.explain.Places.{line_numbered, line_number, line_before, column_after, byte_spot, token_byte}
 use Rattle.statuses.specs.explain.Message.{excerpt, row_for}
 
 second_line : line_number (codes "a\nb c") 3 ≡ 2
@@ -22,7 +22,7 @@ last_line : line_number (codes "a\n") 2 ≡ 2
 last_line = refl
 
 -- a character of two bytes and a tab
-third_column : column_behind (195 ∷ 169 ∷ 9 ∷ []) ≡ 3
+third_column : column_after (195 ∷ 169 ∷ 9 ∷ []) ≡ 3
 third_column = refl
 
 the_end : byte_spot (codes "ab") 2 ≡ Byte 2
@@ -37,8 +37,8 @@ two_tokens = record { kind = kind.Lident; start = 1; end = 3 } ∷ record { kind
 its_start : token_byte two_tokens 1 ≡ Some 4
 its_start = refl
 
-behind_the_last : token_byte two_tokens 2 ≡ Some 5
-behind_the_last = refl
+after_the_last : token_byte two_tokens 2 ≡ Some 5
+after_the_last = refl
 
 no_token : token_byte two_tokens 3 ≡ None
 no_token = refl
@@ -59,5 +59,5 @@ at_a_character = refl
 in_a_line : excerpt (codes "p\nq") (Line 2) ≡ codes "q\n"
 in_a_line = refl
 
-behind_the_lines : excerpt (codes "p\nq") (Line 3) ≡ []
-behind_the_lines = refl
+after_the_lines : excerpt (codes "p\nq") (Line 3) ≡ []
+after_the_lines = refl

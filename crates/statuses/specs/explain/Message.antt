@@ -3,7 +3,7 @@ use Rattle.std.specs.Prelude.{ℕ, ◌-◌, ◌==◌, ◌≡◌, nat_lt, ◌||�
 use Rattle.statuses.specs.declared.explain.places.Spot.{Spot}
 use Rattle.statuses.specs.declared.explain.places.Spot.TheVariants.{Nowhere, Byte, Line}
 use Rattle.statuses.specs.explain.Table.{RowText, row_of}
-use Rattle.statuses.specs.explain.Places.{line_numbered, line_number, line_before, begins_character, column_behind, StandsAt}
+use Rattle.statuses.specs.explain.Places.{line_numbered, line_number, line_before, begins_character, column_after, StandsAt}
 
 -- each after a blank
 abbrev pub spaced_words : List ℕ → List ℕ
@@ -34,7 +34,7 @@ line_if_any (c ∷ cs) = shown_line (c ∷ cs)
 abbrev pub place_text : List ℕ → Spot → List ℕ
 place_text text Nowhere = []
 place_text text (Byte byte) =
-    decimal (line_number text byte) ++ codes ":" ++ decimal (column_behind (line_before text byte))
+    decimal (line_number text byte) ++ codes ":" ++ decimal (column_after (line_before text byte))
     ++ codes ":"
 place_text text (Line number) = decimal number ++ codes ":"
 

@@ -34,8 +34,8 @@ abbrev pub begins_character : ℕ → Bool
 begins_character b = nat_lt b 128 || nat_le 192 b
 
 -- Columns count characters, from 1 on.
-abbrev pub column_behind : List ℕ → ℕ
-column_behind bytes = count_by begins_character bytes + 1
+abbrev pub column_after : List ℕ → ℕ
+column_after bytes = count_by begins_character bytes + 1
 
 -- a byte of the text or its end, and else no place
 abbrev pub byte_spot : List ℕ → ℕ → Spot

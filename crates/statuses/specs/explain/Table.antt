@@ -28,7 +28,7 @@ row_of code = if code == 10 then fault_row 1 Bytes
     else (if code == 20 then fault_row 2 Tokens (codes "unknown name")
     else (if code == 21 then fault_row 2 Tokens (codes "name that is taken")
     else (if code == 22 then fault_row 2 Tokens
-    (codes "formula where a term is due, term where a formula is due, or alternative with other names")
+    (codes "formula for a term, term for a formula, no field, or alternative with other names")
     else (if code == 23 then fault_row 2 Tokens (codes "wrong number of arguments")
     else (if code == 30 then fault_row 2 Nothing (codes "types that clash")
     else (if code == 31 then fault_row 2 Tokens (codes "type that is left open")

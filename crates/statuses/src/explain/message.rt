@@ -8,7 +8,7 @@ ghost use Rattle.statuses.specs.explain.Places.{IsSpot};
 ghost use Rattle.statuses.specs.explain.Table.{row_text};
 
 use crate::explain::places::{
-    Spot, begins_character, column_behind, line_of, lines, place, spot_of,
+    Spot, begins_character, column_after, line_of, lines, place, spot_of,
 };
 use crate::explain::table::{Row, row_of};
 use std::alloc::{AllocError, Global};
@@ -88,7 +88,7 @@ fn place_text(alloc: Global, text: &[u8], spot: Spot) -> Result<Vec<u8>, AllocEr
             let (number, before) = place(alloc, text, byte)?;
             out.extend_from_slice(number.to_string(alloc)?.as_bytes())?;
             out.push(b':')?;
-            out.extend_from_slice(column_behind(before).to_string(alloc)?.as_bytes())?;
+            out.extend_from_slice(column_after(before).to_string(alloc)?.as_bytes())?;
             out.push(b':')?;
             Ok(out)
         }

@@ -3,7 +3,7 @@
 ghost use Rattle.std.specs.Prelude.{◌≡◌, ◌≤◌, ◌-◌, [], IfOk, length, get_or, map};
 ghost use Rattle.tokens_why.specs.declared.token.Token.{Token};
 ghost use Rattle.statuses.specs.explain.Places as spec;
-ghost use Rattle.statuses.specs.explain.Places.{bytes_of_parts, TokenStandsAt, StandsAt, IsSpot, spot_or, line_number, line_before, column_behind};
+ghost use Rattle.statuses.specs.explain.Places.{bytes_of_parts, TokenStandsAt, StandsAt, IsSpot, spot_or, line_number, line_before, column_after};
 
 use crate::explain::table::Counts;
 use std::alloc::{AllocError, Global};
@@ -57,8 +57,8 @@ pub fn begins_character(byte: u8) -> bool
 }
 
 /// The column after these bytes of a line.
-pub fn column_behind(bytes: &[u8]) -> usize
-    ensures { result ≡ spec.column_behind bytes.now }
+pub fn column_after(bytes: &[u8]) -> usize
+    ensures { result ≡ spec.column_after bytes.now }
 {
     bytes.iter().filter(|b| begins_character(**b)).count() + 1
 }

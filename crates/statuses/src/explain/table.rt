@@ -53,7 +53,7 @@ pub(crate) fn row_of(code: usize) -> Option<Row>
         22 => make_row(
             2,
             Counts::Tokens,
-            "formula where a term is due, term where a formula is due, or alternative with other names",
+            "formula for a term, term for a formula, no field, or alternative with other names",
         ),
         23 => make_row(2, Counts::Tokens, "wrong number of arguments"),
         30 => make_row(2, Counts::Nothing, "types that clash"),
