@@ -1,6 +1,6 @@
 /* Preloaded by tools/fuzz: runs a program again and again, each time in a copy of the process, without loading it anew.
  *
- * A request comes on standard input: a folder and the words of a command, a zero byte behind each, and a line feed at the end. A
+ * A request comes on standard input: a folder and the words of a command, a zero byte after each, and a line feed at the end. A
  * copy of the process, as it was before the program's own code began, goes to the folder and runs the program with these words;
  * its streams are the files `@out` and `@err` there, empty before. Its status as `waitpid` tells it is answered on standard
  * output, in four bytes. SECONDS bounds the processor time of each copy, and a hundred times that its time by the clock.
@@ -36,7 +36,7 @@ static void begin_run(const char *folder) {
   alarm(100 * seconds);
 }
 
-/* Returns the number of words of a request behind the folder, which it takes apart; the list ends in a null pointer. */
+/* Returns the number of words of a request after the folder, which it takes apart; the list ends in a null pointer. */
 static int take_words(char *line, char *end, char **words) {
   int count = 0;
   for (char *at = line + strlen(line) + 1; at < end && count < WORDS; at += strlen(at) + 1) words[count++] = at;

@@ -225,7 +225,7 @@ pub fn step_of_alike(
     }
 }
 
-// The same of formulas.
+// A step that refutes the negation of `l <-> r`, for formulas.
 fn formulas_step(draft: &mut Draft, l: TermId, r: TermId, by: AlikeBy) -> Result<usize, AllocError>
     requires pair { ArePair draft.old l r }
     requires formula { sort_of (tree_at draft.old.trees l) ≡ Sort.Formula }

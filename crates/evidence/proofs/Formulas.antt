@@ -77,14 +77,14 @@ two_formulas d a b f g = more_formulas d a (b ∷ []) f (one_formula d b g)
 
 -- ---- places
 -- a place after the front
-pub behind : (front tail : List Tree) (k : ℕ) → slice_get (front ++ tail) (length front + k) ≡ slice_get tail k
-behind [] tail k = let e : 0 + k ≡ k = omega arith in ap (slice_get tail) e
-behind (a ∷ front) tail k = let e : length (a ∷ front) + k ≡ suc (length front + k) = omega arith in ap (slice_get (a ∷ (front ++ tail))) e ∙ behind front tail k
+pub following : (front tail : List Tree) (k : ℕ) → slice_get (front ++ tail) (length front + k) ≡ slice_get tail k
+following [] tail k = let e : 0 + k ≡ k = omega arith in ap (slice_get tail) e
+following (a ∷ front) tail k = let e : length (a ∷ front) + k ≡ suc (length front + k) = omega arith in ap (slice_get (a ∷ (front ++ tail))) e ∙ following front tail k
 
 -- the same, where the front is given by numbers
-pub behind_ids : (d : DraftTree) (front : List TermId) (tail : List Tree) (k : ℕ) → slice_get (trees_at d.trees front ++ tail) (length front + k) ≡ slice_get tail k
-behind_ids d front tail k =
-    ap (λ (n : ℕ). slice_get (trees_at d.trees front ++ tail) (n + k)) (sym (length-map front (tree_at d.trees))) ∙ behind (trees_at d.trees front) tail k
+pub after_ids : (d : DraftTree) (front : List TermId) (tail : List Tree) (k : ℕ) → slice_get (trees_at d.trees front ++ tail) (length front + k) ≡ slice_get tail k
+after_ids d front tail k =
+    ap (λ (n : ℕ). slice_get (trees_at d.trees front ++ tail) (n + k)) (sym (length-map front (tree_at d.trees))) ∙ following (trees_at d.trees front) tail k
 
 some_negated : (o : Option Tree) (P : Tree → Type 0) → IsSomeAnd (negated o) P → (a : Tree) × ((o ≡ Some (neg a)) × P a)
 some_negated o P h = by_form o h
@@ -126,8 +126,8 @@ module _ (d : DraftTree) (front tail : List TermId) where
       record {
         sequents = [];
         refuted = tt;
-        row = clash_row d.task (trees_at d.trees front ++ trees_at d.trees tail) (length front + i) (length front + j) a.0 (behind_ids d front (trees_at d.trees tail) i ∙ a.1.1)
-            (behind_ids d front (trees_at d.trees tail) j ∙ a.1.0);
+        row = clash_row d.task (trees_at d.trees front ++ trees_at d.trees tail) (length front + i) (length front + j) a.0 (after_ids d front (trees_at d.trees tail) i ∙ a.1.1)
+            (after_ids d front (trees_at d.trees tail) j ∙ a.1.0);
       }
 
   some_of : (o : Option (Op × Tree × Tree)) (P : Op × Tree × Tree → Type 0) → IsSomeAnd o P → (p : Op × Tree × Tree) × ((o ≡ Some p) × P p)
@@ -145,7 +145,7 @@ module _ (d : DraftTree) (front tail : List TermId) where
       record {
         sequents = ps;
         refuted = p.1.1.1;
-        row = holding_row d.task s op (length front + i) (slice_get (trees_at d.trees tail) i) ps (behind_ids d front (trees_at d.trees tail) i) row;
+        row = holding_row d.task s op (length front + i) (slice_get (trees_at d.trees tail) i) ps (after_ids d front (trees_at d.trees tail) i) row;
       }
 
   pub failing_added : (op : Op) (i : ℕ) (premises : List ℕ) → RefuteFailing d (trees_at d.trees front ++ trees_at d.trees tail) op (negated (slice_get (trees_at d.trees tail) i)) premises
@@ -159,7 +159,7 @@ module _ (d : DraftTree) (front tail : List TermId) where
       record {
         sequents = ps;
         refuted = p.1.1.1;
-        row = failing_row d.task s op (length front + i) (slice_get (trees_at d.trees tail) i) ps (behind_ids d front (trees_at d.trees tail) i) row;
+        row = failing_row d.task s op (length front + i) (slice_get (trees_at d.trees tail) i) ps (after_ids d front (trees_at d.trees tail) i) row;
       }
 
 -- ---- what a step keeps
@@ -167,7 +167,7 @@ module _ (d : DraftTree) (front tail : List TermId) where
 counted_at : (front ys rest : List Tree) → map (slice_get (front ++ (ys ++ rest))) (counted (length front) (length ys)) ≡ map Some ys
 counted_at front [] rest = refl
 counted_at front (y ∷ ys) rest =
-    let head : slice_get (front ++ (y ∷ (ys ++ rest))) (length front + 0) ≡ Some y = behind front (y ∷ (ys ++ rest)) 0 in
+    let head : slice_get (front ++ (y ∷ (ys ++ rest))) (length front + 0) ≡ Some y = following front (y ∷ (ys ++ rest)) 0 in
     let zero' : length front + 0 ≡ length front = omega arith in
     let first : slice_get (front ++ (y ∷ (ys ++ rest))) (length front) ≡ Some y = ap (slice_get (front ++ (y ∷ (ys ++ rest)))) (sym zero') ∙ head in
     let e : (front ++ y ∷ []) ++ (ys ++ rest) ≡ front ++ (y ∷ (ys ++ rest)) = append_assoc front (y ∷ []) (ys ++ rest) in

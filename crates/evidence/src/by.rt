@@ -161,7 +161,8 @@ pub fn by_holding(
     by_rule(draft, front, tail, rule, premises)
 }
 
-/// The same of the negation of such a formula: `notand`, `notandthen`, `notor`, `notorelse`, `notimp`, `notiff`.
+/// Two formulas that a connective joins, where the tail's formula at a place is the negation of that: `notand`, `notandthen`,
+/// `notor`, `notorelse`, `notimp`, `notiff`.
 pub fn by_failing(
     draft: &mut Draft,
     front: &[TermId],

@@ -47,26 +47,26 @@ module _ (x : Tree) (closed : loose x ≡ 0) where
 
 -- ---- a hole among the terms for the open variables of a tree
 module _ (x : Tree) (closed : loose x ≡ 0) (term : pat_vars x ≡ 0) where
-  filled : (before behind : List Tree) (ty : Tree) → AreClosed before → AreClosed behind → map (λ s. inst_many s (x ∷ [])) (before ++ Bound 0 ty ∷ behind) ≡ before ++ x ∷ behind
-  filled [] behind ty a b = cc (inst_is_many (Bound 0 ty) x ∙ hole_here x closed ty, same behind b)
+  filled : (before following : List Tree) (ty : Tree) → AreClosed before → AreClosed following → map (λ s. inst_many s (x ∷ [])) (before ++ Bound 0 ty ∷ following) ≡ before ++ x ∷ following
+  filled [] following ty a b = cc (inst_is_many (Bound 0 ty) x ∙ hole_here x closed ty, same following b)
     where
       same : (es : List Tree) → AreClosed es → map (λ s. inst_many s (x ∷ [])) es ≡ es
       same [] c = refl
       same (e ∷ es) c = cc (inst_is_many e x ∙ hole_beside x closed e c.0.0, same es c.1)
-  filled (e ∷ before) behind ty a b = cc (inst_is_many e x ∙ hole_beside x closed e a.0.0, filled before behind ty a.1 b)
+  filled (e ∷ before) following ty a b = cc (inst_is_many e x ∙ hole_beside x closed e a.0.0, filled before following ty a.1 b)
 
-  patterns : (before behind : List Tree) (ty : Tree) → AreClosed before → AreClosed behind → AreNoPatterns (before ++ Bound 0 ty ∷ behind)
-  patterns [] behind ty a b = (refl, closed_terms behind b)
-  patterns (e ∷ before) behind ty a b = (a.0.1, patterns before behind ty a.1 b)
+  patterns : (before following : List Tree) (ty : Tree) → AreClosed before → AreClosed following → AreNoPatterns (before ++ Bound 0 ty ∷ following)
+  patterns [] following ty a b = (refl, closed_terms following b)
+  patterns (e ∷ before) following ty a b = (a.0.1, patterns before following ty a.1 b)
 
   -- what fills the hole is put in for its variable
-  pub template_filled : (e ty : Tree) (before behind : List Tree) → loose e ≤ length before + (1 + length behind) → AreClosed before → AreClosed behind
-      → inst (inst_many e (before ++ Bound 0 ty ∷ behind)) x ≡ inst_many e (before ++ x ∷ behind)
-  template_filled e ty before behind l a b =
-      let n : length (before ++ x ∷ behind) ≡ length before + (1 + length behind) = omega (arith, length_joined before (x ∷ behind)) in
-      let same : change (instantiating_many (x ∷ [])) (length (before ++ x ∷ behind)) e ≡ e = change_closed (instantiating_many (x ∷ [])) (keeps_many (x ∷ [])) (length (before ++ x ∷ behind)) e (omega (arith, n, l)) in
-      sym (inst_is_many (inst_many e (before ++ Bound 0 ty ∷ behind)) x)
-      ∙ inst_many_inst_many (x ∷ []) ((closed, term), tt) (before ++ Bound 0 ty ∷ behind) (patterns before behind ty a b) e
-      ∙ ap (λ (es : List Tree). inst_many e (x ∷ es)) (filled before behind ty a b)
-      ∙ sym (inst_many_under (x ∷ []) (before ++ x ∷ behind) (length (before ++ x ∷ behind)) ((closed, term), tt) refl e)
-      ∙ ap (λ (z : Tree). inst_many z (before ++ x ∷ behind)) same
+  pub template_filled : (e ty : Tree) (before following : List Tree) → loose e ≤ length before + (1 + length following) → AreClosed before → AreClosed following
+      → inst (inst_many e (before ++ Bound 0 ty ∷ following)) x ≡ inst_many e (before ++ x ∷ following)
+  template_filled e ty before following l a b =
+      let n : length (before ++ x ∷ following) ≡ length before + (1 + length following) = omega (arith, length_joined before (x ∷ following)) in
+      let same : change (instantiating_many (x ∷ [])) (length (before ++ x ∷ following)) e ≡ e = change_closed (instantiating_many (x ∷ [])) (keeps_many (x ∷ [])) (length (before ++ x ∷ following)) e (omega (arith, n, l)) in
+      sym (inst_is_many (inst_many e (before ++ Bound 0 ty ∷ following)) x)
+      ∙ inst_many_inst_many (x ∷ []) ((closed, term), tt) (before ++ Bound 0 ty ∷ following) (patterns before following ty a b) e
+      ∙ ap (λ (es : List Tree). inst_many e (x ∷ es)) (filled before following ty a b)
+      ∙ sym (inst_many_under (x ∷ []) (before ++ x ∷ following) (length (before ++ x ∷ following)) ((closed, term), tt) refl e)
+      ∙ ap (λ (z : Tree). inst_many z (before ++ x ∷ following)) same

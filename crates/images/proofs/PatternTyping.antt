@@ -20,7 +20,7 @@ use Rattle.tasks.specs.typed_trees.instances.Instances.{AreFor}
 use Rattle.images.specs.OpenTerms.{AreOpenFor}
 use Rattle.images.proofs.Images.{ArePatterns}
 use Rattle.images.proofs.Templates.{term_has_type}
-use Rattle.images.proofs.Slices.{slice_front, slice_behind}
+use Rattle.images.proofs.Slices.{slice_front, slice_after}
 use Rattle.images.proofs.Constructors.{IsMadeCon, made_con, con_projections}
 use Rattle.images.proofs.DataTerms.{IsTermUnder, con_fields_typed, con_fields_types, equation_typed}
 
@@ -50,7 +50,7 @@ module _ (v : Vocabulary) (types : List Tree) where
       by i k ty e q n (inr l) =
           let z = length_joined ts us in
           let r : i ≡ length ys + (i - length ys) = omega (arith, l) in
-          let w = a.each (i - length ys) k ty e (sym (slice_behind ys xs i (i - length ys) r) ∙ q) (omega (arith, z, n, l, a.as_many, b.as_many)) in
+          let w = a.each (i - length ys) k ty e (sym (slice_after ys xs i (i - length ys) r) ∙ q) (omega (arith, z, n, l, a.as_many, b.as_many)) in
           subst (λ (s : Tree). (sort_of s ≡ Term) × ((type_of s ≡ Some ty) × TypedUnder v types s)) (sym (left_at ts us k e (omega (arith, z, n, l, b.as_many)))) w
 
 -- ---- conjunctions

@@ -49,9 +49,10 @@ BodiesAreAt =
 -- closed terms for the others
 abbrev pub TemplatesFill : Type 0
 TemplatesFill =
-    (x : Tree) → loose x ≡ 0 → pat_vars x ≡ 0 → (e ty : Tree) (before behind : List Tree)
-    → loose e ≤ length before + (1 + length behind) → AreClosed before → AreClosed behind
-    → inst (inst_many e (before ++ Bound 0 ty ∷ behind)) x ≡ inst_many e (before ++ x ∷ behind)
+    (x : Tree) → loose x ≡ 0 → pat_vars x ≡ 0 → (e ty : Tree) (before following : List Tree)
+    → loose e ≤ length before + (1 + length following) → AreClosed before → AreClosed following
+    → inst (inst_many e (before ++ Bound 0 ty ∷ following)) x
+    ≡ inst_many e (before ++ x ∷ following)
 
 abbrev pub NodesFill : Type 0
 NodesFill = (x ty : Tree) → loose x ≡ 0 → FillsNodes x ty

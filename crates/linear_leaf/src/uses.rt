@@ -256,7 +256,7 @@ fn part_of(x: &Leaf<'_>, d: Bound, multiplier: i128, one: Option<TermId>) -> i12
     times(multiplier, both)
 }
 
-// The same of a formula that may be none.
+// A formula's share of the sum, which is 0 where there is none.
 fn part(x: &Leaf<'_>, d: Option<Bound>, multiplier: i128, one: Option<TermId>) -> i128
     requires held { IfSome d (BoundHeld x.now.store.now) }
     requires one { IfSome one (Holds x.now.store.now) }

@@ -23,18 +23,18 @@ digits_after (c ∷ cs) found d =
     let e : (c == 95) ≡ false = grind (arith, nat_tests) in
     rw e (digits_after cs found d.1)
 
-behind : (x ds found : List ℕ) → AllDigits 10 ds → after_last found (x ++ (95 ∷ ds)) ≡ ds
-behind [] ds found d = digits_after ds ds d
-behind (c ∷ cs) ds found d = elim (c == 95) as (λ b. cond b (after_last (cs ++ (95 ∷ ds)) (cs ++ (95 ∷ ds))) (after_last found (cs ++ (95 ∷ ds))) ≡ ds) [
-  | true ↦ behind cs ds (cs ++ (95 ∷ ds)) d
-  | false ↦ behind cs ds found d
+following : (x ds found : List ℕ) → AllDigits 10 ds → after_last found (x ++ (95 ∷ ds)) ≡ ds
+following [] ds found d = digits_after ds ds d
+following (c ∷ cs) ds found d = elim (c == 95) as (λ b. cond b (after_last (cs ++ (95 ∷ ds)) (cs ++ (95 ∷ ds))) (after_last found (cs ++ (95 ∷ ds))) ≡ ds) [
+  | true ↦ following cs ds (cs ++ (95 ∷ ds)) d
+  | false ↦ following cs ds found d
 ]
 
 places_same : (x y : List ℕ) (m n : ℕ) → m < 2 ^ 64 → n < 2 ^ 64 → name_at_place x m ≡ name_at_place y n → m ≡ n
 places_same x y m n p q e =
     let d = (decimal_is_IsNumeral m p).0.1 in
     let f = (decimal_is_IsNumeral n q).0.1 in
-    decimal_injective m n p q (sym (behind (clean (own_name x)) (decimal m) [] d) ∙ ap (after_last []) e ∙ behind (clean (own_name y)) (decimal n) [] f)
+    decimal_injective m n p q (sym (following (clean (own_name x)) (decimal m) [] d) ∙ ap (after_last []) e ∙ following (clean (own_name y)) (decimal n) [] f)
 
 -- the name at a place
 entry_name : (t : TaskTree) (all os : List Occurrence) (place i : ℕ) (d : NameEntry) → i < length (entries_from t all place os)

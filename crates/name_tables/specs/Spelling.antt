@@ -4,13 +4,13 @@ use Rattle.std.specs.Prelude.{ℕ, ◌+◌, ◌-◌, ◌&&◌, ◌==◌, nat_le,
 use Rattle.std.specs.List.{flat_map}
 
 -- what comes after the last dot, or what was found before
-abbrev pub behind_dots : List ℕ → List ℕ → List ℕ
-behind_dots found [] = found
-behind_dots found (c ∷ cs) = if c == 46 then behind_dots cs cs else behind_dots found cs
+abbrev pub after_dots : List ℕ → List ℕ → List ℕ
+after_dots found [] = found
+after_dots found (c ∷ cs) = if c == 46 then after_dots cs cs else after_dots found cs
 
 -- a name without those of its scopes
 abbrev pub own_name : List ℕ → List ℕ
-own_name name = behind_dots name name
+own_name name = after_dots name name
 
 -- the characters of operators, each with its word
 abbrev pub operator_words : List (ℕ × List ℕ)

@@ -110,8 +110,8 @@ symbol_there s infos k x is l = get_or-map (symbol_at s) infos k x int_symbol l 
 pub symbol_past : (s : List Tree) (infos : List SymbolInfo) (k : ℕ) → length infos ≤ k → symbol_or (symbols_at s infos) k ≡ int_symbol
 symbol_past s infos k l = get_or_past (symbols_at s infos) k int_symbol (omega (arith, length-map infos (symbol_at s), l))
 
-pub flat_done : {X : Type 0} (f : X → List ℕ) (xs : List X) (i : ℕ) (old head behind out : List ℕ) → length xs ≤ i → behind ≡ old ++ head → out ++ flat_map f (drop i xs) ≡ behind ++ flat_map f xs
+pub flat_done : {X : Type 0} (f : X → List ℕ) (xs : List X) (i : ℕ) (old head following out : List ℕ) → length xs ≤ i → following ≡ old ++ head → out ++ flat_map f (drop i xs) ≡ following ++ flat_map f xs
     → out ≡ old ++ (head ++ flat_map f xs)
-flat_done f xs i old head behind out l e so =
+flat_done f xs i old head following out l e so =
     let none : out ++ flat_map f (drop i xs) ≡ out = ap (λ ys. out ++ flat_map f ys) (drop_all i xs l) ∙ append-nil out in
     sym none ∙ so ∙ ap (λ z. z ++ flat_map f xs) e ∙ append_assoc old head (flat_map f xs)

@@ -144,6 +144,6 @@ module _ (s s' : List Tree) (g : Grows s s') (task : Task) (held : TaskHeld s ta
       let k : IsGood (task_at s task) tallest (steps_at s r.steps.items) x = subst (λ o. IsSomeAnd o (IsGood (task_at s task) tallest (steps_at s r.steps.items))) made' l in
       n (subst (λ t. IsGood t tallest (steps_at s' r.steps.items) x) (sym (task_later s s' g task held)) (subst (λ l'. IsGood (task_at s task) tallest l' x) (sym (steps_later s s' g r.steps.items h.steps)) k))
 
--- the same of equal tasks and lines
+-- what holds of a task and a line holds of equal ones
 pub moved : (P : TaskTree → List ℕ → Type 0) (t t' : TaskTree) (line line' : List ℕ) → t ≡ t' → line ≡ line' → P t line → P t' line'
 moved P t t' line line' e f p = subst (P t') f (subst (λ u. P u line) e p)

@@ -31,7 +31,7 @@ use Rattle.name_tables.specs.declared.name_entries.names.NameEntry.{NameEntry}
 use Rattle.step_lines.specs.tree_lines.Named.{meaning_by, entry_meaning, entry_named, entry_type}
 use Rattle.step_lines.specs.tree_lines.Words.{each}
 use Rattle.name_tables.specs.Occurrences.{Occurrence, whole_occurrence}
-use Rattle.name_tables.specs.Spelling.{behind_dots, own_name, operator_words, word_in, spelt, is_spelt_byte, is_prefix_operator_name, fixity, operator_name, clean_byte, lower_case, clean_first, clean, name_at_place}
+use Rattle.name_tables.specs.Spelling.{after_dots, own_name, operator_words, word_in, spelt, is_spelt_byte, is_prefix_operator_name, fixity, operator_name, clean_byte, lower_case, clean_first, clean, name_at_place}
 use Rattle.name_tables.specs.Tables.{is_same, distinct, is_in, thing_of, occurrence_place, task_things, named_thing, entry_at_place, entries_from, task_names, NamesDiffer}
 use Rattle.step_writing.specs.tree_writing.Spelt.{IsSpelt}
 use Rattle.step_writing.specs.tree_writing.Naming.{type_name}
@@ -227,10 +227,10 @@ first_plain c cs a = a 0 c (omega arith)
 rest_word : (c : ℕ) (cs : List ℕ) → IsLineWord (c ∷ cs) → IsLineWord cs
 rest_word c cs a k d h = a (suc k) d (omega (arith, h))
 
-behind_word : (found cs : List ℕ) → IsLineWord found → IsLineWord cs → IsLineWord (behind_dots found cs)
-behind_word found [] a b = a
-behind_word found (c ∷ cs) a b = at (c == 46) (behind_word cs cs (rest_word c cs b) (rest_word c cs b)) (behind_word found cs a (rest_word c cs b)) where
-  at : (x : Bool) → IsLineWord (behind_dots cs cs) → IsLineWord (behind_dots found cs) → IsLineWord (if x then behind_dots cs cs else behind_dots found cs)
+after_word : (found cs : List ℕ) → IsLineWord found → IsLineWord cs → IsLineWord (after_dots found cs)
+after_word found [] a b = a
+after_word found (c ∷ cs) a b = at (c == 46) (after_word cs cs (rest_word c cs b) (rest_word c cs b)) (after_word found cs a (rest_word c cs b)) where
+  at : (x : Bool) → IsLineWord (after_dots cs cs) → IsLineWord (after_dots found cs) → IsLineWord (if x then after_dots cs cs else after_dots found cs)
   at true m n = m
   at false m n = n
 
@@ -296,7 +296,7 @@ digits_word (c ∷ cs) d =
 
 place_word : (x : List ℕ) (n : ℕ) → n < 2 ^ 64 → IsLineWord x → IsLineWord (name_at_place x n)
 place_word x n h a =
-    All-append IsPlainByte (clean (own_name x)) (95 ∷ decimal n) (clean_word (own_name x) (behind_word x x a a))
+    All-append IsPlainByte (clean (own_name x)) (95 ∷ decimal n) (clean_word (own_name x) (after_word x x a a))
     (All-cons IsPlainByte 95 (decimal n) (λ e. omega (arith, e), λ e. omega (arith, e)) (digits_word (decimal n) (decimal_is_IsNumeral n h).0.1))
 
 ends : (x ds : List ℕ) → x ++ 95 ∷ ds ≡ 58 ∷ [] → ⊥

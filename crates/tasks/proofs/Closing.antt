@@ -35,9 +35,9 @@ third_of_three : (d : ℕ) (types : List Tree) (h : Head) (a b c : Tree) → Var
 third_of_three d [] h a b c v = tt
 third_of_three d (ty ∷ types) h a b c v = (v.0.2, third_of_three (d + 1) types h a b c v.1)
 
-behind : (d e : ℕ) (xs ys : List Tree) (b : Tree) → e ≡ d + length xs → VariablesHave d xs b → VariablesHave e ys b → VariablesHave d (xs ++ ys) b
-behind d e [] ys b q v w = subst (λ (n : ℕ). VariablesHave n ys b) (omega (arith, q)) w
-behind d e (x ∷ xs) ys b q v w = (v.0, behind (d + 1) e xs ys b (omega (arith, q)) v.1 w)
+following : (d e : ℕ) (xs ys : List Tree) (b : Tree) → e ≡ d + length xs → VariablesHave d xs b → VariablesHave e ys b → VariablesHave d (xs ++ ys) b
+following d e [] ys b q v w = subst (λ (n : ℕ). VariablesHave n ys b) (omega (arith, q)) w
+following d e (x ∷ xs) ys b q v w = (v.0, following (d + 1) e xs ys b (omega (arith, q)) v.1 w)
 
 -- a variable's type is that at its place
 at_place : (d i : ℕ) (types : List Tree) (a : Tree) → i < length types → VariablesHave d types (One (HBound (d + i)) a) → slice_get types i ≡ Some a
@@ -77,7 +77,7 @@ module _ (t : Vocabulary) where
         o.0,
         o.1.0,
         closed_typed types a o.2 (first_of_two 0 types h a b v) (omega arith),
-        closed_typed (bound_types h a ++ types) b o.3 (behind 0 (binders_over h a) (bound_types h a) types b (omega (arith, n)) o.1.1 w) (omega (arith, n, length-append (bound_types h a) types)),
+        closed_typed (bound_types h a ++ types) b o.3 (following 0 (binders_over h a) (bound_types h a) types b (omega (arith, n)) o.1.1 w) (omega (arith, n, length-append (bound_types h a) types)),
       )
   closed_typed types (Three h a b c) o v l =
       (o.0, o.1, closed_typed types a o.2 (first_of_three 0 types h a b c v) (omega arith), closed_typed types b o.3 (second_of_three 0 types h a b c v) (omega arith), closed_typed types c o.4 (third_of_three 0 types h a b c v) (omega arith))

@@ -85,11 +85,11 @@ pub facts_step : (ds : List Decl) (i n m : ℕ) (d : Decl) (old new : List Fact)
 facts_step ds i n m d old new h e q c so s symbols =
     let rest = declarations_at s (drop (i + 1) ds) in
     let mine = body_facts symbols n d.vars (body_at s d.body) in
-    let behind = facts_from symbols (n + facts.said_in (body_at s d.body)) rest in
+    let following = facts_from symbols (n + facts.said_in (body_at s d.body)) rest in
     let next : m ≡ n + facts.said_in (body_at s d.body) = c ∙ ap (λ z. n + z) (counted s d d.body) in
-    let joined : map fact_name mine ++ map fact_name behind ≡ map fact_name (mine ++ behind) = sym (map-append fact_name mine behind) in
+    let joined : map fact_name mine ++ map fact_name following ≡ map fact_name (mine ++ following) = sym (map-append fact_name mine following) in
     ap (λ z. z ++ map fact_name (facts_from symbols m rest)) q ∙ ap (λ z. (old ++ fact_names n d.body) ++ map fact_name (facts_from symbols z rest)) next
-    ∙ append_assoc old (fact_names n d.body) (map fact_name behind) ∙ ap (λ z. old ++ (z ++ map fact_name behind)) (names_are s symbols n d.vars d.body) ∙ ap (λ z. old ++ z) joined
+    ∙ append_assoc old (fact_names n d.body) (map fact_name following) ∙ ap (λ z. old ++ (z ++ map fact_name following)) (names_are s symbols n d.vars d.body) ∙ ap (λ z. old ++ z) joined
     ∙ ap (λ (z : List Decl). old ++ map fact_name (facts_from symbols n (declarations_at s z))) (sym (cut ds i d h e)) ∙ so s symbols
 
 pub facts_end : (ds : List Decl) (i n : ℕ) (fs : List Fact) → length ds ≤ i → FactsSoFar ds i n fs → (s : List Tree) (symbols : List SymbolTree) → fs ≡ map fact_name (facts_from symbols 0 (declarations_at s ds))

@@ -24,7 +24,7 @@ fn parameter_count(draft: &Draft) -> usize
     draft.task().params.len()
 }
 
-// One definition more, after those behind it.
+// One definition more, when those that follow it are unfolded.
 fn unfold_link(
     draft: &mut Draft,
     formula: TermId,

@@ -46,7 +46,7 @@ pub(crate) fn glue_goal(
     }
 }
 
-// The same of a quantifier.
+// From the step that refutes what is introduced, one that refutes the formulas and a negated quantifier.
 #[cycle(glue)]
 fn glue_universal(
     draft: &mut Draft,
@@ -87,7 +87,7 @@ fn glue_universal(
     )
 }
 
-// The same of an implication.
+// From the step that refutes what is introduced, one that refutes the formulas and a negated implication.
 #[cycle(glue)]
 fn glue_implication(
     draft: &mut Draft,

@@ -27,7 +27,7 @@ pub(crate) fn beginning_of(store: &Store, goal: TermId) -> Beginning
     }
 }
 
-// The same of a formula that joins two.
+// What a goal that joins two formulas begins with.
 fn connective_beginning(store: &Store, goal: TermId, op: Op, a: TermId, b: TermId) -> Beginning
     requires tree { tree_at store.now goal ≡ Two (HJoin op) (tree_at store.now a)
         (tree_at store.now b) }

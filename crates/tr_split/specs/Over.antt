@@ -27,7 +27,7 @@ pub record IsTypedTermAt (d : DraftTree) (id : TermId) : Type 0 where
   pub ty : Tree
   pub term : IsClosedTermAt d ty id
 
--- the same of a part under a quantifier, and a term of its type
+-- a step refutes some formulas and the negation of a part under a quantifier; a term has its type
 pub record IsUniversalEnd (d : DraftTree) (k : ℕ) (front : List Tree) (id : TermId) : Type 0 where
   pub ty : Tree
   pub term : IsClosedTermAt d ty id

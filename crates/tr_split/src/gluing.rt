@@ -95,7 +95,7 @@ pub(crate) fn glue_goal(
     }
 }
 
-// The same of a formula that joins two.
+// From steps that refute the parts, one that refutes the formulas and the negated goal, which joins two formulas.
 #[cycle(glue)]
 fn glue_joined(
     draft: &mut Draft,
@@ -120,7 +120,7 @@ fn glue_joined(
     }
 }
 
-// The same of two formulas, with the parts of both, those of the first one first.
+// From steps that refute the parts of two formulas, those of the first one first, a step for each formula's negation.
 #[cycle(glue)]
 fn glue_two(
     draft: &mut Draft,
@@ -150,7 +150,7 @@ fn glue_two(
     Ok((left, right))
 }
 
-// The same of a conjunction.
+// From steps that refute the parts, one that refutes the formulas and a negated conjunction.
 #[cycle(glue)]
 fn glue_and(
     draft: &mut Draft,
@@ -173,7 +173,7 @@ fn glue_and(
     refute_goal(draft, front, goal, &lines)
 }
 
-// The same of a conjunction by `&&`.
+// From steps that refute the parts, one that refutes the formulas and a negated conjunction by `&&`.
 #[cycle(glue)]
 fn glue_and_then(
     draft: &mut Draft,
@@ -201,7 +201,7 @@ fn glue_and_then(
     refute_goal(draft, front, goal, &lines)
 }
 
-// The same of an implication.
+// From steps that refute the parts, one that refutes the formulas and a negated implication.
 #[cycle(glue)]
 fn glue_imp(
     draft: &mut Draft,
@@ -222,7 +222,7 @@ fn glue_imp(
     refute_goal(draft, front, goal, &lines)
 }
 
-// The same of an equivalence.
+// From steps that refute the parts, one that refutes the formulas and a negated equivalence.
 fn glue_iff(
     draft: &mut Draft,
     front: &[TermId],
@@ -255,7 +255,7 @@ fn glue_iff(
     refute_goal(draft, front, goal, &lines)
 }
 
-// The same of a quantifier.
+// From steps that refute the parts, one that refutes the formulas and a negated quantifier.
 #[cycle(glue)]
 fn glue_forall(
     draft: &mut Draft,
@@ -281,7 +281,7 @@ fn glue_forall(
     refute_goal(draft, front, goal, &lines)
 }
 
-// The same of a `let`.
+// From steps that refute the parts, one that refutes the formulas and a negated `let`.
 #[cycle(glue)]
 fn glue_let(
     draft: &mut Draft,
@@ -310,7 +310,7 @@ fn glue_let(
     refute_goal(draft, front, goal, &lines)
 }
 
-// The same of an `if`.
+// From steps that refute the parts, one that refutes the formulas and a negated `if`.
 #[cycle(glue)]
 fn glue_if(
     draft: &mut Draft,

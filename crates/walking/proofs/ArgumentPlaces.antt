@@ -206,9 +206,9 @@ list_right_terms d env e l n w =
 pub one_pair : (d : DraftTree) (env : List TermId) (first : TermId) (n : ℕ) (one : Linked) → IsClosedAt d first → IsLinkOf d env first n (tree_at d.trees one.image) one → ArePair d first one.right
 one_pair d env first n one c k = record { left = c; right = place_closed d env one.image one.right n k.place; sort = k.sort; type = k.type }
 
-pub behind_tree : (d d1 : DraftTree) (x : Extends d d1) (k : SymbolAt) (before : List TermId) (right first list : TermId) → IsSymbolHeld d.trees k → All (Holds d.trees) before → Holds d.trees first → Holds d.trees list → Holds d.trees right
+pub after_tree : (d d1 : DraftTree) (x : Extends d d1) (k : SymbolAt) (before : List TermId) (right first list : TermId) → IsSymbolHeld d.trees k → All (Holds d.trees) before → Holds d.trees first → Holds d.trees list → Holds d.trees right
     → tree_at d.trees right ≡ applied d.trees k (listed (trees_at d.trees (before ++ first ∷ [])) (tree_at d.trees list)) → tree_at d1.trees right ≡ applied d1.trees k (listed (trees_at d1.trees before) (Two HCell (tree_at d1.trees first) (tree_at d1.trees list)))
-behind_tree d d1 x k before right first list hk hb hf hl hr e =
+after_tree d d1 x k before right first list hk hb hf hl hr e =
     let more = before ++ first ∷ [] in
     let hm = All-append (Holds d.trees) before (first ∷ []) hb (All-cons (Holds d.trees) first [] hf (All-nil (Holds d.trees))) in
     tree_later d d1 x right hr ∙ e ∙ sym (listed_later d d1 x k more list hk hm hl) ∙ ap (λ (z : List Tree). applied d1.trees k (listed z (tree_at d1.trees list))) (map-append (tree_at d1.trees) before (first ∷ []))

@@ -20,7 +20,7 @@ use Rattle.congruence.proofs.tasks.typed_trees.instances.Typed.{present}
 use Rattle.images.specs.Open.{IsEnvironment, IsOpenUnder, IsAt}
 use Rattle.images.proofs.Environments.{closed_for}
 use Rattle.images.proofs.Images.{expression_sort, expression_type}
-use Rattle.images.proofs.Slices.{slice_front, slice_behind}
+use Rattle.images.proofs.Slices.{slice_front, slice_after}
 use Rattle.walking.specs.Places.{types_for, some_type}
 use Rattle.walking.proofs.PatternShapes.{pattern_same}
 
@@ -37,7 +37,7 @@ for_joined v tys types us env a b = record { as_many = omega (arith, length_join
     by_case i k ty e q n (inr l) =
         let m = length_joined env us in
         let p : get_or (env ++ us) k e ≡ get_or env k e = left_at env us k e (omega (arith, m, n, l, a.as_many, b.as_many)) in
-        subst (IsTermOf v ty) (sym p) (b.each (i - length tys) k ty e (sym (slice_behind tys types i (i - length tys) (omega (arith, l))) ∙ q) (omega (arith, m, n, l, a.as_many)))
+        subst (IsTermOf v ty) (sym p) (b.each (i - length tys) k ty e (sym (slice_after tys types i (i - length tys) (omega (arith, l))) ∙ q) (omega (arith, m, n, l, a.as_many)))
 
     by : (i k : ℕ) (ty e : Tree) → slice_get (tys ++ types) i ≡ Some ty → i + k + 1 ≡ length (env ++ us) → IsTermOf v ty (get_or (env ++ us) k e)
     by i k ty e q n = by_case i k ty e q n (cases_lt i (length tys))
@@ -60,7 +60,7 @@ types_length (t ∷ ts) = omega (arith, length_joined (types_for ts) (some_type 
 
 slice_types : (us : List Tree) (i k : ℕ) (e : Tree) → i + k + 1 ≡ length us → slice_get (types_for us) i ≡ Some (some_type (type_of (get_or us k e)))
 slice_types [] i k e n = absurd (omega (arith, n))
-slice_types (t ∷ ts) i zero e n = slice_behind (types_for ts) (some_type (type_of t) ∷ []) i 0 (omega (arith, n, types_length ts))
+slice_types (t ∷ ts) i zero e n = slice_after (types_for ts) (some_type (type_of t) ∷ []) i 0 (omega (arith, n, types_length ts))
 slice_types (t ∷ ts) i (suc k) e n = slice_front (types_for ts) (some_type (type_of t) ∷ []) i (omega (arith, n, types_length ts)) ∙ slice_types ts i k e (omega (arith, n))
 
 same_slices : (xs ys : List Tree) → length xs ≡ length ys → ((i : ℕ) → i < length ys → slice_get xs i ≡ slice_get ys i) → xs ≡ ys

@@ -14,7 +14,7 @@ use Rattle.checks.proofs.match_cover.Fields.{pattern_fits}
 use Rattle.checks.proofs.match_cover.Splitting.{counted, are_unknown, specialized_fits, covers_split, misses_split, PlainColumn, covers_plain, misses_plain, tails_fit, plain_unbuilt}
 use Rattle.checks.proofs.match_cover.Told.{column_is, column_plain}
 use Rattle.checks.proofs.match_cover.Effort.{tails_effort, split_effort}
-use Rattle.checks.proofs.match_cover.Shapes.{front_behind, count_front}
+use Rattle.checks.proofs.match_cover.Shapes.{front_after, count_front}
 
 -- no row is left
 pub answered_empty : (symbols : List SymbolTree) (w : ℕ) (rows : List (List Tree)) (us : Shapes) → rows ≡ [] → us ≡ unknowns w → Answered symbols w rows (Some us)
@@ -146,7 +146,7 @@ answered_missed symbols w rows ks k us l s c h (t ∷ ts) long fits =
     let m : Misses symbols (field_types symbols t k ++ ts) (specialized k (length (field_types symbols t k)) rows) us = part_here symbols w rows t ts k (Some us) l long fits b h in
     let same = fields_long symbols t k in
     let many : n ≤ number_of_shapes us = omega (arith, counted symbols us (field_types symbols t k ++ ts) m.are, length-append (field_types symbols t k) ts, same) in
-    let j : Misses symbols (field_types symbols t k ++ ts) (specialized k (length (field_types symbols t k)) rows) (append_shapes (first_shapes n us) (shapes_after n us)) = subst (Misses symbols (field_types symbols t k ++ ts) (specialized k (length (field_types symbols t k)) rows)) (sym (front_behind n us)) m in
+    let j : Misses symbols (field_types symbols t k ++ ts) (specialized k (length (field_types symbols t k)) rows) (append_shapes (first_shapes n us) (shapes_after n us)) = subst (Misses symbols (field_types symbols t k ++ ts) (specialized k (length (field_types symbols t k)) rows)) (sym (front_after n us)) m in
     misses_split symbols t ts rows fits k b (first_shapes n us) (shapes_after n us) (count_front n us many ∙ sym same) j
 
 -- ---- what the code asks of its parts

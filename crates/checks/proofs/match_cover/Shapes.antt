@@ -35,10 +35,10 @@ pub count_shapes : (xs : List StoredShape) → number_of_shapes (shapes_of xs) �
 count_shapes [] = refl
 count_shapes (x ∷ xs) = omega (arith, count_shapes xs)
 
-pub front_behind : (n : ℕ) (ss : Shapes) → append_shapes (first_shapes n ss) (shapes_after n ss) ≡ ss
-front_behind zero ss = refl
-front_behind (suc n) no_shapes = refl
-front_behind (suc n) (more_shapes s ss) = ap (λ y. more_shapes s y) (front_behind n ss)
+pub front_after : (n : ℕ) (ss : Shapes) → append_shapes (first_shapes n ss) (shapes_after n ss) ≡ ss
+front_after zero ss = refl
+front_after (suc n) no_shapes = refl
+front_after (suc n) (more_shapes s ss) = ap (λ y. more_shapes s y) (front_after n ss)
 
 pub count_front : (n : ℕ) (ss : Shapes) → n ≤ number_of_shapes ss → number_of_shapes (first_shapes n ss) ≡ n
 count_front zero ss l = refl

@@ -46,8 +46,8 @@ alone_held s [] h = All-nil (RowHeld s)
 alone_held s (p ∷ ps) h =
     All-cons (RowHeld s) (p ∷ []) (map single_pattern ps) (record { each = All-cons (Holds s) p [] (All-head (Holds s) p ps h) (All-nil (Holds s)) }) (alone_held s ps (All-tail (Holds s) p ps h))
 
-pub held_behind : (s : List Tree) (at : ℕ) (row : List TermId) → RowHeld s row → All (Holds s) (drop at row)
-held_behind s at row h = All-drop (Holds s) at row h.each
+pub held_after : (s : List Tree) (at : ℕ) (row : List TermId) → RowHeld s row → All (Holds s) (drop at row)
+held_after s at row h = All-drop (Holds s) at row h.each
 
 -- ---- a list of type variables
 pub none_variables : (from count : ℕ) (e : Tree) → count ≡ 0 → (e ≡ Leaf HEnd) ↔ (e ≡ cells (type_variables from count))

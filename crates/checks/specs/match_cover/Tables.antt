@@ -93,9 +93,9 @@ abbrev pub opened : ℕ → ℕ → Tree → List Tree → List (List Tree)
 opened k n p row = opened_by k n (apart p) p row
 
 -- a row after the parts of its first pattern, if they are there
-abbrev pub behind_parts : Option (List Tree) → List Tree → List (List Tree)
-behind_parts None row = []
-behind_parts (Some parts) row = (parts ++ row) ∷ []
+abbrev pub parts_with_row : Option (List Tree) → List Tree → List (List Tree)
+parts_with_row None row = []
+parts_with_row (Some parts) row = (parts ++ row) ∷ []
 
 abbrev pub opened_row : ℕ → ℕ → List Tree → List (List Tree)
 opened_row k n [] = []

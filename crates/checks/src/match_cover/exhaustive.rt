@@ -12,7 +12,7 @@ ghost use Rattle.checks.specs.match_cover.Meaning.{shape_of, shapes_of, table_at
 use crate::match_cover::ValueShape;
 use crate::match_cover::constructors::constructors_of;
 use crate::match_cover::patterns::{column_told, some_irrefutable, specialize_rows};
-use crate::match_cover::shape::{behind_unknown, unknown_shape, unknowns, with_built};
+use crate::match_cover::shape::{after_unknown, unknown_shape, unknowns, with_built};
 use std::alloc::{AllocError, Global};
 use tasks::{Seq, Signature};
 use trees::TermId;
@@ -79,7 +79,7 @@ fn missed_shapes(
     let found = cons.as_slice();
     if found.is_empty() {
         let rest = missed_shapes(alloc, store, sig, rows, at + 1, columns - 1)?;
-        let whole = behind_unknown(alloc, rest)?;
+        let whole = after_unknown(alloc, rest)?;
         return Ok(whole);
     }
     for con in found {

@@ -7,7 +7,7 @@ ghost use Rattle.trees.specs.Node.{tree_at, Holds};
 ghost use Rattle.tasks.specs.Typing.{members};
 ghost use Rattle.tasks.specs.Meaning.{trees_at};
 ghost use Rattle.checks.specs.match_cover.Shapes.{without_aliases};
-ghost use Rattle.checks.specs.match_cover.Tables.{apart, opened, behind_parts, opened_row, specialized, symbol_of_type, told, row_told, column_told, is_irrefutable, are_irrefutable, some_irrefutable};
+ghost use Rattle.checks.specs.match_cover.Tables.{apart, opened, parts_with_row, opened_row, specialized, symbol_of_type, told, row_told, column_told, is_irrefutable, are_irrefutable, some_irrefutable};
 ghost use Rattle.checks.specs.match_cover.Meaning.{table_at, RowHeld, TableHeld};
 
 use std::alloc::{AllocError, Global};
@@ -68,7 +68,7 @@ fn parts(
 ) -> Result<Option<Vec<TermId>>, AllocError>
     requires { Holds store.now pattern }
     ensures tree { IfOk result (λ o. (row : List Tree)
-        → behind_parts (option_map (λ v. trees_at store.now v.items) o) row
+        → parts_with_row (option_map (λ v. trees_at store.now v.items) o) row
         ≡ opened con arity (without_aliases (tree_at store.now pattern)) row) }
     ensures held { IfOk result (λ o. IfSome o (λ v. All (Holds store.now) v.items)) }
 {
@@ -87,7 +87,7 @@ fn parts(
 }
 
 // A row from a column on.
-#[tactic(auto, using(crate::proofs::match_cover::Tables::held_behind))]
+#[tactic(auto, using(crate::proofs::match_cover::Tables::held_after))]
 fn from_column<'a>(store: &Store, row: &'a Seq<TermId>, at: usize) -> &'a [TermId]
     requires { RowHeld store.now row.now }
     ensures value { result.now ≡ drop at row.now }

@@ -55,7 +55,7 @@ fn with_first(
 }
 
 // Shapes after an unspecified one, if they are there.
-pub(crate) fn behind_unknown(
+pub(crate) fn after_unknown(
     alloc: Global,
     shapes: Option<Vec<ValueShape>>,
 ) -> Result<Option<Vec<ValueShape>>, AllocError>

@@ -15,7 +15,7 @@ use Rattle.rules.specs.Trees.{RuleTree, RCut}
 use Rattle.evidence.specs.Drafts.{DraftTree, Extends, AreFormulas, IsFormulaAt}
 use Rattle.evidence.specs.Rules.{holding_rule, failing_rule}
 use Rattle.evidence.proofs.Rules.{holding_row, failing_row, cut_row}
-use Rattle.evidence.proofs.Formulas.{behind, holding_names, failing_names, cut_names, formula_later, one_formula, two_formulas}
+use Rattle.evidence.proofs.Formulas.{following, holding_names, failing_names, cut_names, formula_later, one_formula, two_formulas}
 use Rattle.evidence.specs.declared.proof_scripts.line.Word.{Word}
 use Rattle.evidence.specs.declared.proof_scripts.line.Word.TheVariants as word
 use Rattle.evidence.specs.declared.proof_scripts.line.Formulas.{Formulas}
@@ -25,12 +25,12 @@ use Rattle.evidence.specs.declared.proof_scripts.line.Line.TheVariants as line
 use Rattle.evidence.specs.declared.proof_scripts.line.Sides.{Sides}
 use Rattle.evidence.specs.declared.proof_scripts.line.Opened.{Opened}
 use Rattle.evidence.specs.proof_scripts.Scripts.{LineTree, HoldingLine, FailingLine, CutLine, TailLine, MadeLine, word_rule, WordHeld, IsMaker, added_ids, added_at, script_line_at, LineHeld, sequents_under, adds, IsByRule, IsOfTail, Follows}
-use Rattle.evidence.specs.proof_scripts.Words.{rule_behind, HasNoPlace}
+use Rattle.evidence.specs.proof_scripts.Words.{rule_past, HasNoPlace}
 use Rattle.evidence.specs.proof_scripts.Derived.{CanOpen, IsLineOpened}
 use Rattle.evidence.specs.proof_scripts.Sided.{AreSides}
 use Rattle.evidence.specs.proof_scripts.Added.{IsAdded}
 use Rattle.evidence.proofs.proof_scripts.Following.{word_later, word_same}
-use Rattle.evidence.proofs.proof_scripts.Placed.{holding_behind, failing_behind, word_fits, tail_rule}
+use Rattle.evidence.proofs.proof_scripts.Placed.{holding_after, failing_after, word_fits, tail_rule}
 
 -- ---- places
 some_at : (o : Option Tree) (op : Op) (x y : Tree) (P : Op × Tree × Tree → Type 0) → o ≡ Some (Two (HJoin op) x y) → IsSomeAnd (connected o) P → P (op, x, y)
@@ -63,7 +63,7 @@ not_formula d id a f e l =
 -- ---- rules
 module _ (t : TaskTree) (F T : List Tree) (n i : ℕ) (len : length F ≡ n) where
   place : (a : Tree) → slice_get T i ≡ Some a → slice_get (F ++ T) (n + i) ≡ Some a
-  place a e = subst (λ (m : ℕ). slice_get (F ++ T) (m + i) ≡ Some a) len (behind F T i ∙ e)
+  place a e = subst (λ (m : ℕ). slice_get (F ++ T) (m + i) ≡ Some a) len (following F T i ∙ e)
 
   pub holding_by : (op : Op) (x y : Tree) → slice_get T i ≡ Some (join op x y) → IsByRule t (F ++ T) (holding_rule op (n + i)) (where_true op x y)
   holding_by op x y e = record { names = holding_names t op (n + i); row = holding_row t (F ++ T) op (n + i) (Some (join op x y)) (sequents_under (F ++ T) (where_true op x y)) (place (join op x y) e) (refl, refl) }
@@ -100,7 +100,7 @@ module _ (d0 d : DraftTree) (F T : List Tree) (n i : ℕ) (len : length F ≡ n)
         first = a.first;
         second = a.second;
         fits = fits;
-        rule = subst (λ (r : RuleTree). IsByRule d.task (F ++ T) r (added_at d.trees s.first ++ added_at d.trees s.second)) (sym (holding_behind n i op)) (subst (IsByRule d.task (F ++ T) (holding_rule op (n + i))) (sym a.are) (holding_by d.task F T n i len op x y here));
+        rule = subst (λ (r : RuleTree). IsByRule d.task (F ++ T) r (added_at d.trees s.first ++ added_at d.trees s.second)) (sym (holding_after n i op)) (subst (IsByRule d.task (F ++ T) (holding_rule op (n + i))) (sym a.are) (holding_by d.task F T n i len op x y here));
         opens = λ g ls r q. subst (λ (z : List (List Tree)). Follows g F ls (z ++ r)) (sym under) (holding_left F T ls i op op' x y g r at q).1;
       }
 
@@ -114,7 +114,7 @@ module _ (d0 d : DraftTree) (F T : List Tree) (n i : ℕ) (len : length F ≡ n)
         first = a.first;
         second = a.second;
         fits = fits;
-        rule = subst (λ (r : RuleTree). IsByRule d.task (F ++ T) r (added_at d.trees s.first ++ added_at d.trees s.second)) (sym (failing_behind n i op)) (subst (IsByRule d.task (F ++ T) (failing_rule op (n + i))) (sym a.are) (failing_by d.task F T n i len op x y here));
+        rule = subst (λ (r : RuleTree). IsByRule d.task (F ++ T) r (added_at d.trees s.first ++ added_at d.trees s.second)) (sym (failing_after n i op)) (subst (IsByRule d.task (F ++ T) (failing_rule op (n + i))) (sym a.are) (failing_by d.task F T n i len op x y here));
         opens = λ g ls r q. subst (λ (z : List (List Tree)). Follows g F ls (z ++ r)) (sym under) (failing_left F T ls i op op' x y g r at q).1;
       }
 
@@ -157,14 +157,14 @@ module _ (d : DraftTree) (F T : List Tree) (l : Line) (w : Word) (e : l ≡ line
   tail_opened d1 x n m s len many small a =
       let r = word_rule d.trees w in
       let q : word_rule d1.trees w ≡ r = word_same d d1 x w tail_held.0 in
-      let rule : IsByRule d1.task (F ++ T) (rule_behind n r) (adds T r) = subst (λ (u : TaskTree). IsByRule u (F ++ T) (rule_behind n r) (adds T r)) (sym x.task) (tail_rule d.task F T n len d.trees w tail_held.1 tail_row tail_follows.1) in
+      let rule : IsByRule d1.task (F ++ T) (rule_past n r) (adds T r) = subst (λ (u : TaskTree). IsByRule u (F ++ T) (rule_past n r) (adds T r)) (sym x.task) (tail_rule d.task F T n len d.trees w tail_held.1 tail_row tail_follows.1) in
       let under = under_both T (added_at d1.trees s.first) (added_at d1.trees s.second) (adds T r) a.are in
       record {
         word = word_later d d1 x w tail_held.0;
         fits = word_fits T d.task d.trees w _ n m tail_row.row many small;
         first = a.first;
         second = a.second;
-        rule = subst (λ (z : RuleTree). IsByRule d1.task (F ++ T) (rule_behind n z) (added_at d1.trees s.first ++ added_at d1.trees s.second)) (sym q) (subst (IsByRule d1.task (F ++ T) (rule_behind n r)) (sym a.are) rule);
+        rule = subst (λ (z : RuleTree). IsByRule d1.task (F ++ T) (rule_past n z) (added_at d1.trees s.first ++ added_at d1.trees s.second)) (sym q) (subst (IsByRule d1.task (F ++ T) (rule_past n r)) (sym a.are) rule);
         opens = λ g ls k h.
             let z : Follows g F (TailLine r ∷ ls) (T ∷ k) = subst (λ (z : Line). Follows g F (script_line_at d.trees z ∷ ls) (T ∷ k)) e h in
             subst (λ (z : List (List Tree)). Follows g F ls (z ++ k)) (sym under) z.2;

@@ -15,7 +15,7 @@ use Rattle.rules.specs.Rows.{IsRuleRow, where_true, where_false}
 use Rattle.evidence.specs.Drafts.{DraftTree, Extends, Refutes, RefuteAll, AreFormulas, RefutesAt}
 use Rattle.evidence.specs.Rules.{RefuteAdded}
 use Rattle.evidence.proofs.Rules.{refutes_later, some_map}
-use Rattle.evidence.proofs.Formulas.{same, formulas_later, formula_later, both_formulas, behind_ids}
+use Rattle.evidence.proofs.Formulas.{same, formulas_later, formula_later, both_formulas, after_ids}
 use Rattle.evidence.specs.declared.proof_scripts.line.Word.{Word}
 use Rattle.evidence.specs.declared.proof_scripts.line.Word.TheVariants as word
 use Rattle.evidence.specs.declared.proof_scripts.line.Formulas.{Formulas}
@@ -87,8 +87,8 @@ take_drop zero xs = refl
 take_drop (suc n) [] = refl
 take_drop (suc n) (x ∷ xs) = ap (λ z. x ∷ z) (take_drop n xs)
 
-lines_dropped : (s : List Tree) (ls behind : List Line) (m : ℕ) → behind ≡ drop m ls → drop m (lines_at s ls) ≡ lines_at s behind
-lines_dropped s ls behind m q = sym (map_drop (script_line_at s) m ls) ∙ ap (lines_at s) (sym q)
+lines_dropped : (s : List Tree) (ls following : List Line) (m : ℕ) → following ≡ drop m ls → drop m (lines_at s ls) ≡ lines_at s following
+lines_dropped s ls following m q = sym (map_drop (script_line_at s) m ls) ∙ ap (lines_at s) (sym q)
 
 -- ---- over a draft that has grown
 module _ (d d1 : DraftTree) (x : Extends d d1) where
@@ -281,13 +281,13 @@ module _ (d : DraftTree) (fs rest : List Formulas) (f : Formulas) (q : fs ≡ f 
   sequents_are t = ap (λ (z : List Formulas). sequents_under t (all_added d.trees z)) q
 
 -- one and then the other
-pub consumes_both : (f : List Tree) (s : List Tree) (ls behind : List Line) (ts us : List (List Tree)) (m n : ℕ) → behind ≡ drop m ls → Consumes f (lines_at s ls) ts m
-    → Consumes f (lines_at s behind) us n → Consumes f (lines_at s ls) (ts ++ us) (m + n)
-consumes_both f s ls behind ts us m n q a b = record {
+pub consumes_both : (f : List Tree) (s : List Tree) (ls following : List Line) (ts us : List (List Tree)) (m n : ℕ) → following ≡ drop m ls → Consumes f (lines_at s ls) ts m
+    → Consumes f (lines_at s following) us n → Consumes f (lines_at s ls) (ts ++ us) (m + n)
+consumes_both f s ls following ts us m n q a b = record {
   left = λ d r h.
       let first : Follows d f (drop m (lines_at s ls)) (us ++ r) = a.left d (us ++ r) (subst (Follows d f (lines_at s ls)) (append_assoc ts us r) h) in
-      let moved : drop m (lines_at s ls) ≡ lines_at s behind = lines_dropped s ls behind m q in
-      let second : Follows d f (drop n (lines_at s behind)) r = b.left d r (subst (λ (z : List LineTree). Follows d f z (us ++ r)) moved first) in
+      let moved : drop m (lines_at s ls) ≡ lines_at s following = lines_dropped s ls following m q in
+      let second : Follows d f (drop n (lines_at s following)) r = b.left d r (subst (λ (z : List LineTree). Follows d f z (us ++ r)) moved first) in
       subst (λ (z : List LineTree). Follows d f z r) (ap (drop n) (sym moved) ∙ drop_drop n m (lines_at s ls)) second;
 }
 
@@ -295,13 +295,13 @@ consumes_both f s ls behind ts us m n q a b = record {
 pub first_follows : (d : DraftTree) (f : List Tree) (ls : List LineTree) (ts us : List (List Tree)) → CanFollow d f ls (ts ++ us) → CanFollow d f ls ts
 first_follows d f ls ts us c = record { rest = us ++ c.rest; follows = subst (Follows d f ls) (append_assoc ts us c.rest) c.follows }
 
-pub second_follows : (d : DraftTree) (f : List Tree) (s : List Tree) (ls behind : List Line) (ts us : List (List Tree)) (m : ℕ) → behind ≡ drop m ls → Consumes f (lines_at s ls) ts m
-    → (c : CanFollow d f (lines_at s ls) (ts ++ us)) → Follows d f (lines_at s behind) (us ++ c.rest)
-second_follows d f s ls behind ts us m q a c =
-    subst (λ (z : List LineTree). Follows d f z (us ++ c.rest)) (lines_dropped s ls behind m q) (a.left d (us ++ c.rest) (subst (Follows d f (lines_at s ls)) (append_assoc ts us c.rest) c.follows))
+pub second_follows : (d : DraftTree) (f : List Tree) (s : List Tree) (ls following : List Line) (ts us : List (List Tree)) (m : ℕ) → following ≡ drop m ls → Consumes f (lines_at s ls) ts m
+    → (c : CanFollow d f (lines_at s ls) (ts ++ us)) → Follows d f (lines_at s following) (us ++ c.rest)
+second_follows d f s ls following ts us m q a c =
+    subst (λ (z : List LineTree). Follows d f z (us ++ c.rest)) (lines_dropped s ls following m q) (a.left d (us ++ c.rest) (subst (Follows d f (lines_at s ls)) (append_assoc ts us c.rest) c.follows))
 
-pub behind_held : (d : DraftTree) (ls behind : List Line) (m : ℕ) → behind ≡ drop m ls → LinesHeld d ls → LinesHeld d behind
-behind_held d ls behind m q h = subst (LinesHeld d) (sym q) (All-right (LineHeld d) (take m ls) (drop m ls) (subst (LinesHeld d) (sym (take_drop m ls)) h))
+pub after_held : (d : DraftTree) (ls following : List Line) (m : ℕ) → following ≡ drop m ls → LinesHeld d ls → LinesHeld d following
+after_held d ls following m q h = subst (LinesHeld d) (sym q) (All-right (LineHeld d) (take m ls) (drop m ls) (subst (LinesHeld d) (sym (take_drop m ls)) h))
 
 -- ---- the tail with what a premise adds
 module _ (d : DraftTree) (front tail w ids : List TermId) (e : w ≡ tail ++ ids) where
@@ -318,15 +318,15 @@ module _ (d : DraftTree) (front tail w ids : List TermId) (e : w ≡ tail ++ ids
   wider_consumes f ls n c = subst (λ (t : List Tree). Consumes f ls (t ∷ []) n) wider_trees c
 
 -- ---- what a rule needs
-behind_front : (f t : List Tree) (added : List (List Tree)) → map (λ x. f ++ x) (sequents_under t added) ≡ sequents_under (f ++ t) added
-behind_front f t [] = refl
-behind_front f t (a ∷ added) = let e : f ++ (t ++ a) ≡ (f ++ t) ++ a = sym (append_assoc f t a) in cc (e, behind_front f t added)
+after_front : (f t : List Tree) (added : List (List Tree)) → map (λ x. f ++ x) (sequents_under t added) ≡ sequents_under (f ++ t) added
+after_front f t [] = refl
+after_front f t (a ∷ added) = let e : f ++ (t ++ a) ≡ (f ++ t) ++ a = sym (append_assoc f t a) in cc (e, after_front f t added)
 
 pub rule_added : (d d1 : DraftTree) (f t : List Tree) (r : RuleTree) (added : List (List Tree)) (none steps : List ℕ) → d1.task ≡ d.task → none ≡ [] → IsByRule d.task (f ++ t) r added
     → RefuteUnder d1 none steps f (sequents_under t added) → RefuteAdded d1 (f ++ t) r steps
 rule_added d d1 f t r added none steps k n g u =
     let all : steps ≡ u.more = u.is ∙ ap (λ z. z ++ u.more) n in
-    let refuted : RefuteAll d1 u.more (sequents_under (f ++ t) added) = subst (RefuteAll d1 u.more) (behind_front f t added) u.refute in
+    let refuted : RefuteAll d1 u.more (sequents_under (f ++ t) added) = subst (RefuteAll d1 u.more) (after_front f t added) u.refute in
     record {
       sequents = sequents_under (f ++ t) added;
       refuted = subst (λ (ks : List ℕ). RefuteAll d1 ks (sequents_under (f ++ t) added)) (sym all) refuted;
@@ -373,15 +373,15 @@ kept_fits n m t (places.Three i j k) (a ∷ b ∷ []) q l e = absurd (cc)
 kept_fits n m t (places.Three i j k) (a ∷ b ∷ c ∷ d ∷ r) q l e = absurd (cc)
 
 -- the formulas at places of the tail are those at the later places of the sequent
-places_behind : (d : DraftTree) (front : List TermId) (t : List Tree) (ps : List ℕ) → map (slice_get (trees_at d.trees front ++ t)) (map (λ i. length front + i) ps) ≡ map (slice_get t) ps
-places_behind d front t [] = refl
-places_behind d front t (i ∷ ps) = cc (behind_ids d front t i, places_behind d front t ps)
+places_following : (d : DraftTree) (front : List TermId) (t : List Tree) (ps : List ℕ) → map (slice_get (trees_at d.trees front ++ t)) (map (λ i. length front + i) ps) ≡ map (slice_get t) ps
+places_following d front t [] = refl
+places_following d front t (i ∷ ps) = cc (after_ids d front t i, places_following d front t ps)
 
-pub kept_behind : (d : DraftTree) (front tail ids : List TermId) (ps qs : List ℕ) (k : ℕ) → ids ≡ front ++ tail → qs ≡ map (λ i. length front + i) ps → RefutesAt d (trees_at d.trees tail) ps k → RefutesAt d (trees_at d.trees ids) qs k
-kept_behind d front tail ids ps qs k e q g =
+pub kept_after : (d : DraftTree) (front tail ids : List TermId) (ps qs : List ℕ) (k : ℕ) → ids ≡ front ++ tail → qs ≡ map (λ i. length front + i) ps → RefutesAt d (trees_at d.trees tail) ps k → RefutesAt d (trees_at d.trees ids) qs k
+kept_after d front tail ids ps qs k e q g =
     let T = trees_at d.trees tail in
     let s : trees_at d.trees ids ≡ trees_at d.trees front ++ T = ap (trees_at d.trees) e ∙ map-append (tree_at d.trees) front tail in
-    rw (s, q) (record { kept = g.kept; are = g.are ∙ sym (places_behind d front T ps); refutes = g.refutes })
+    rw (s, q) (record { kept = g.kept; are = g.are ∙ sym (places_following d front T ps); refutes = g.refutes })
 
 -- ---- the end of the tail
 module _ (d : DraftTree) (f : List Tree) (tail before last : List TermId) (k n at : ℕ) (g : IsGiven d f (trees_at d.trees tail) k n) where

@@ -17,29 +17,29 @@ use Rattle.rules.specs.Forms.{negated, connected, universal, existential, equati
 use Rattle.rules.specs.Rows.{IsRuleRow, Adds, AtTerm, AtNew, Constructors, IsNew, IsTemplate}
 use Rattle.evidence.specs.Rules.{NamesOwn, holding_rule, failing_rule}
 use Rattle.evidence.proofs.Rules.{some_map}
-use Rattle.evidence.proofs.Formulas.{behind}
+use Rattle.evidence.proofs.Formulas.{following}
 use Rattle.evidence.proofs.Lifted.{some_of}
 use Rattle.evidence.specs.declared.proof_scripts.line.Word.{Word}
 use Rattle.evidence.specs.declared.proof_scripts.line.Word.TheVariants as word
 use Rattle.evidence.specs.proof_scripts.Scripts.{word_rule, IsMaker, one_added, adds, sequents_under, IsByRule, IsOfTail, IsNewTo}
-use Rattle.evidence.specs.proof_scripts.Words.{rule_behind, WordFits}
+use Rattle.evidence.specs.proof_scripts.Words.{rule_past, WordFits}
 
 -- ---- places
-pub holding_behind : (n i : ℕ) (op : Op) → rule_behind n (holding_rule op i) ≡ holding_rule op (n + i)
-holding_behind n i And = refl
-holding_behind n i AndThen = refl
-holding_behind n i Or = refl
-holding_behind n i OrElse = refl
-holding_behind n i Imp = refl
-holding_behind n i Iff = refl
+pub holding_after : (n i : ℕ) (op : Op) → rule_past n (holding_rule op i) ≡ holding_rule op (n + i)
+holding_after n i And = refl
+holding_after n i AndThen = refl
+holding_after n i Or = refl
+holding_after n i OrElse = refl
+holding_after n i Imp = refl
+holding_after n i Iff = refl
 
-pub failing_behind : (n i : ℕ) (op : Op) → rule_behind n (failing_rule op i) ≡ failing_rule op (n + i)
-failing_behind n i And = refl
-failing_behind n i AndThen = refl
-failing_behind n i Or = refl
-failing_behind n i OrElse = refl
-failing_behind n i Imp = refl
-failing_behind n i Iff = refl
+pub failing_after : (n i : ℕ) (op : Op) → rule_past n (failing_rule op i) ≡ failing_rule op (n + i)
+failing_after n i And = refl
+failing_after n i AndThen = refl
+failing_after n i Or = refl
+failing_after n i OrElse = refl
+failing_after n i Imp = refl
+failing_after n i Iff = refl
 
 -- ---- what is found at a place is within
 module _ (xs : List Tree) where
@@ -143,74 +143,74 @@ constructors_kept : (t : TaskTree) (S : List Tree) (ps qs : List (List Tree)) (a
 constructors_kept t S ps qs a b h = some_map (application_parts a) _ _ (λ p y. some_map (application_parts b) _ _ (λ q z. (z.0, z.1, z.2, refl)) y) h
 
 -- the trees and the types of a rule are the same, wherever its places are counted
-trees_behind : (n : ℕ) (s : List Tree) (w : Word) → rule_trees (rule_behind n (word_rule s w)) ≡ rule_trees (word_rule s w)
-trees_behind n s (word.NotTrue i) = refl
-trees_behind n s (word.Clash i j) = refl
-trees_behind n s (word.Holding And i) = refl
-trees_behind n s (word.Holding AndThen i) = refl
-trees_behind n s (word.Holding Or i) = refl
-trees_behind n s (word.Holding OrElse i) = refl
-trees_behind n s (word.Holding Imp i) = refl
-trees_behind n s (word.Holding Iff i) = refl
-trees_behind n s (word.Failing And i) = refl
-trees_behind n s (word.Failing AndThen i) = refl
-trees_behind n s (word.Failing Or i) = refl
-trees_behind n s (word.Failing OrElse i) = refl
-trees_behind n s (word.Failing Imp i) = refl
-trees_behind n s (word.Failing Iff i) = refl
-trees_behind n s (word.Cut a) = refl
-trees_behind n s (word.Forall i u) = refl
-trees_behind n s (word.NotForall i m) = refl
-trees_behind n s (word.LetDef e) = refl
-trees_behind n s (word.IfDef e) = refl
-trees_behind n s (word.MatchDef e) = refl
-trees_behind n s (word.NotNot i) = refl
-trees_behind n s (word.Irrefl i) = refl
-trees_behind n s (word.Exists i m) = refl
-trees_behind n s (word.NotExists i u) = refl
-trees_behind n s (word.Replace i j e) = refl
-trees_behind n s (word.False i) = refl
-trees_behind n s (word.Refl e) = refl
-trees_behind n s (word.Distinct i) = refl
-trees_behind n s (word.Project e) = refl
+trees_after : (n : ℕ) (s : List Tree) (w : Word) → rule_trees (rule_past n (word_rule s w)) ≡ rule_trees (word_rule s w)
+trees_after n s (word.NotTrue i) = refl
+trees_after n s (word.Clash i j) = refl
+trees_after n s (word.Holding And i) = refl
+trees_after n s (word.Holding AndThen i) = refl
+trees_after n s (word.Holding Or i) = refl
+trees_after n s (word.Holding OrElse i) = refl
+trees_after n s (word.Holding Imp i) = refl
+trees_after n s (word.Holding Iff i) = refl
+trees_after n s (word.Failing And i) = refl
+trees_after n s (word.Failing AndThen i) = refl
+trees_after n s (word.Failing Or i) = refl
+trees_after n s (word.Failing OrElse i) = refl
+trees_after n s (word.Failing Imp i) = refl
+trees_after n s (word.Failing Iff i) = refl
+trees_after n s (word.Cut a) = refl
+trees_after n s (word.Forall i u) = refl
+trees_after n s (word.NotForall i m) = refl
+trees_after n s (word.LetDef e) = refl
+trees_after n s (word.IfDef e) = refl
+trees_after n s (word.MatchDef e) = refl
+trees_after n s (word.NotNot i) = refl
+trees_after n s (word.Irrefl i) = refl
+trees_after n s (word.Exists i m) = refl
+trees_after n s (word.NotExists i u) = refl
+trees_after n s (word.Replace i j e) = refl
+trees_after n s (word.False i) = refl
+trees_after n s (word.Refl e) = refl
+trees_after n s (word.Distinct i) = refl
+trees_after n s (word.Project e) = refl
 
-types_behind : (n : ℕ) (s : List Tree) (w : Word) → rule_types (rule_behind n (word_rule s w)) ≡ rule_types (word_rule s w)
-types_behind n s (word.NotTrue i) = refl
-types_behind n s (word.Clash i j) = refl
-types_behind n s (word.Holding And i) = refl
-types_behind n s (word.Holding AndThen i) = refl
-types_behind n s (word.Holding Or i) = refl
-types_behind n s (word.Holding OrElse i) = refl
-types_behind n s (word.Holding Imp i) = refl
-types_behind n s (word.Holding Iff i) = refl
-types_behind n s (word.Failing And i) = refl
-types_behind n s (word.Failing AndThen i) = refl
-types_behind n s (word.Failing Or i) = refl
-types_behind n s (word.Failing OrElse i) = refl
-types_behind n s (word.Failing Imp i) = refl
-types_behind n s (word.Failing Iff i) = refl
-types_behind n s (word.Cut a) = refl
-types_behind n s (word.Forall i u) = refl
-types_behind n s (word.NotForall i m) = refl
-types_behind n s (word.LetDef e) = refl
-types_behind n s (word.IfDef e) = refl
-types_behind n s (word.MatchDef e) = refl
-types_behind n s (word.NotNot i) = refl
-types_behind n s (word.Irrefl i) = refl
-types_behind n s (word.Exists i m) = refl
-types_behind n s (word.NotExists i u) = refl
-types_behind n s (word.Replace i j e) = refl
-types_behind n s (word.False i) = refl
-types_behind n s (word.Refl e) = refl
-types_behind n s (word.Distinct i) = refl
-types_behind n s (word.Project e) = refl
+types_after : (n : ℕ) (s : List Tree) (w : Word) → rule_types (rule_past n (word_rule s w)) ≡ rule_types (word_rule s w)
+types_after n s (word.NotTrue i) = refl
+types_after n s (word.Clash i j) = refl
+types_after n s (word.Holding And i) = refl
+types_after n s (word.Holding AndThen i) = refl
+types_after n s (word.Holding Or i) = refl
+types_after n s (word.Holding OrElse i) = refl
+types_after n s (word.Holding Imp i) = refl
+types_after n s (word.Holding Iff i) = refl
+types_after n s (word.Failing And i) = refl
+types_after n s (word.Failing AndThen i) = refl
+types_after n s (word.Failing Or i) = refl
+types_after n s (word.Failing OrElse i) = refl
+types_after n s (word.Failing Imp i) = refl
+types_after n s (word.Failing Iff i) = refl
+types_after n s (word.Cut a) = refl
+types_after n s (word.Forall i u) = refl
+types_after n s (word.NotForall i m) = refl
+types_after n s (word.LetDef e) = refl
+types_after n s (word.IfDef e) = refl
+types_after n s (word.MatchDef e) = refl
+types_after n s (word.NotNot i) = refl
+types_after n s (word.Irrefl i) = refl
+types_after n s (word.Exists i m) = refl
+types_after n s (word.NotExists i u) = refl
+types_after n s (word.Replace i j e) = refl
+types_after n s (word.False i) = refl
+types_after n s (word.Refl e) = refl
+types_after n s (word.Distinct i) = refl
+types_after n s (word.Project e) = refl
 
 module _ (t : TaskTree) (F T : List Tree) (n : ℕ) (len : length F ≡ n) where
   abbrev S : List Tree
   S = F ++ T
 
   at : (i : ℕ) → slice_get S (n + i) ≡ slice_get T i
-  at i = subst (λ (m : ℕ). slice_get S (m + i) ≡ slice_get T i) len (behind F T i)
+  at i = subst (λ (m : ℕ). slice_get S (m + i) ≡ slice_get T i) len (following F T i)
 
   replace_adds : (o : Option (Tree × Tree)) (P : Tree × Tree → Type 0) (i j : ℕ) (e : Tree)
       → IsSomeAnd o (λ p. IsSomeAnd (type_of p.0) (λ ty. IsTemplate t ty e) × (slice_get T j ≡ Some (inst e p.0)) × P p)
@@ -218,49 +218,49 @@ module _ (t : TaskTree) (F T : List Tree) (n : ℕ) (len : length F ≡ n) where
   replace_adds None P i j e h = absurd h
   replace_adds (Some p) P i j e h = (h.0, at j ∙ h.1, refl)
 
-  pub row_behind : (s : List Tree) (w : Word) → IsMaker w → IsOfTail t T (word_rule s w) → IsNewTo F (word_rule s w) → IsRuleRow t S (rule_behind n (word_rule s w)) (sequents_under S (adds T (word_rule s w)))
-  row_behind s (word.NotTrue i) o h new = (at i ∙ h.row.0, refl)
-  row_behind s (word.Clash i j) o h new =
+  pub row_after : (s : List Tree) (w : Word) → IsMaker w → IsOfTail t T (word_rule s w) → IsNewTo F (word_rule s w) → IsRuleRow t S (rule_past n (word_rule s w)) (sequents_under S (adds T (word_rule s w)))
+  row_after s (word.NotTrue i) o h new = (at i ∙ h.row.0, refl)
+  row_after s (word.Clash i j) o h new =
       let r = some_map (negated (slice_get T j)) _ (λ a. (slice_get S (n + i) ≡ Some a) × Adds S [] []) (λ a z. (at i ∙ z.0, refl)) h.row in
       subst (λ (z : Option Tree). IsSomeAnd (negated z) (λ a. (slice_get S (n + i) ≡ Some a) × Adds S [] [])) (sym (at j)) r
-  row_behind s (word.Holding op i) o h new = absurd o
-  row_behind s (word.Failing op i) o h new = absurd o
-  row_behind s (word.Cut a) o h new = absurd o
-  row_behind s (word.Forall i u) o h new =
+  row_after s (word.Holding op i) o h new = absurd o
+  row_after s (word.Failing op i) o h new = absurd o
+  row_after s (word.Cut a) o h new = absurd o
+  row_after s (word.Forall i u) o h new =
       let r = found_adds (universal (slice_get T i)) _ (λ p. type_of (tree_at s u) ≡ Some p.0) (λ p. inst p.1 (tree_at s u)) S (λ p z. z.0) h.row in
       subst (λ (z : Option Tree). AtTerm (universal z) S (tree_at s u) true (sequents_under S (adds T (RForall i (tree_at s u))))) (sym (at i)) r
-  row_behind s (word.NotForall i m) o h new =
+  row_after s (word.NotForall i m) o h new =
       let r = found_adds (universal (negated (slice_get T i))) _ (λ p. IsNew m S) (λ p. neg (inst p.1 (Param m p.0))) S (λ p z. All-append (λ a. has_param a m ≡ false) F T new z.0) h.row in
       subst (λ (z : Option Tree). AtNew (universal (negated z)) S m false (sequents_under S (adds T (RNotForall i m)))) (sym (at i)) r
-  row_behind s (word.LetDef e) o h new = alone_adds (let_of (tree_at s e)) _ (λ p. alike (tree_at s e) (inst p.1 p.0)) S h.row
-  row_behind s (word.IfDef e) o h new = alone_adds (if_of (tree_at s e)) _ (λ p. by_cases p.0 (tree_at s e) p.1 p.2) S h.row
-  row_behind s (word.MatchDef e) o h new = absurd o
-  row_behind s (word.NotNot i) o h new =
+  row_after s (word.LetDef e) o h new = alone_adds (let_of (tree_at s e)) _ (λ p. alike (tree_at s e) (inst p.1 p.0)) S h.row
+  row_after s (word.IfDef e) o h new = alone_adds (if_of (tree_at s e)) _ (λ p. by_cases p.0 (tree_at s e) p.1 p.2) S h.row
+  row_after s (word.MatchDef e) o h new = absurd o
+  row_after s (word.NotNot i) o h new =
       let r = alone_adds (negated (negated (slice_get T i))) _ (λ a. a) S h.row in
       subst (λ (z : Option Tree). IsSomeAnd (negated (negated z)) (λ a. Adds S (sequents_under S (adds T (RNotNot i))) ((a ∷ []) ∷ []))) (sym (at i)) r
-  row_behind s (word.Irrefl i) o h new =
+  row_after s (word.Irrefl i) o h new =
       let r = some_map (equation_sides (negated (slice_get T i))) _ (λ e. (e.0 ≡ e.1) × Adds S [] []) (λ e z. (z.0, refl)) h.row in
       subst (λ (z : Option Tree). IsSomeAnd (equation_sides (negated z)) (λ e. (e.0 ≡ e.1) × Adds S [] [])) (sym (at i)) r
-  row_behind s (word.Exists i m) o h new =
+  row_after s (word.Exists i m) o h new =
       let r = found_adds (existential (slice_get T i)) _ (λ p. IsNew m S) (λ p. inst p.1 (Param m p.0)) S (λ p z. All-append (λ a. has_param a m ≡ false) F T new z.0) h.row in
       subst (λ (z : Option Tree). AtNew (existential z) S m true (sequents_under S (adds T (RExists i m)))) (sym (at i)) r
-  row_behind s (word.NotExists i u) o h new =
+  row_after s (word.NotExists i u) o h new =
       let r = found_adds (existential (negated (slice_get T i))) _ (λ p. type_of (tree_at s u) ≡ Some p.0) (λ p. neg (inst p.1 (tree_at s u))) S (λ p z. z.0) h.row in
       subst (λ (z : Option Tree). AtTerm (existential (negated z)) S (tree_at s u) false (sequents_under S (adds T (RNotExists i (tree_at s u))))) (sym (at i)) r
-  row_behind s (word.Replace i j e) o h new =
+  row_after s (word.Replace i j e) o h new =
       let E = tree_at s e in
       let r = replace_adds (equation_sides (slice_get T i)) _ i j E h.row in
       subst (λ (z : Option Tree). IsSomeAnd (equation_sides z) (λ p. IsSomeAnd (type_of p.0) (λ ty. IsTemplate t ty E) × (slice_get S (n + j) ≡ Some (inst E p.0)) × Adds S (sequents_under S (adds T (RReplace i j E))) ((inst E p.1 ∷ []) ∷ []))) (sym (at i)) r
-  row_behind s (word.False i) o h new = (at i ∙ h.row.0, refl)
-  row_behind s (word.Refl e) o h new = (h.row.0, refl)
-  row_behind s (word.Distinct i) o h new =
+  row_after s (word.False i) o h new = (at i ∙ h.row.0, refl)
+  row_after s (word.Refl e) o h new = (h.row.0, refl)
+  row_after s (word.Distinct i) o h new =
       let r = some_map (equation_sides (slice_get T i)) _ (λ e. Constructors t (λ c d. c ≢ d) e.0 e.1 (λ as' bs. Adds S [] [])) (λ e z. constructors_kept t S _ _ e.0 e.1 z) h.row in
       subst (λ (z : Option Tree). IsSomeAnd (equation_sides z) (λ e. Constructors t (λ c d. c ≢ d) e.0 e.1 (λ as' bs. Adds S [] []))) (sym (at i)) r
-  row_behind s (word.Project e) o h new = absurd o
+  row_after s (word.Project e) o h new = absurd o
 
   -- the rule's terms are named the same
-  pub names_behind : (s : List Tree) (w : Word) → NamesOwn t (word_rule s w) → NamesOwn t (rule_behind n (word_rule s w))
-  names_behind s w h = record { trees = subst (Each (IsGroundExpression t)) (sym (trees_behind n s w)) h.trees; types = subst (All (IsTypeOver t 0)) (sym (types_behind n s w)) h.types }
+  pub names_after : (s : List Tree) (w : Word) → NamesOwn t (word_rule s w) → NamesOwn t (rule_past n (word_rule s w))
+  names_after s w h = record { trees = subst (Each (IsGroundExpression t)) (sym (trees_after n s w)) h.trees; types = subst (All (IsTypeOver t 0)) (sym (types_after n s w)) h.types }
 
-  pub tail_rule : (s : List Tree) (w : Word) → IsMaker w → IsOfTail t T (word_rule s w) → IsNewTo F (word_rule s w) → IsByRule t S (rule_behind n (word_rule s w)) (adds T (word_rule s w))
-  tail_rule s w o h new = record { names = names_behind s w h.names; row = row_behind s w o h new }
+  pub tail_rule : (s : List Tree) (w : Word) → IsMaker w → IsOfTail t T (word_rule s w) → IsNewTo F (word_rule s w) → IsByRule t S (rule_past n (word_rule s w)) (adds T (word_rule s w))
+  tail_rule s w o h new = record { names = names_after s w h.names; row = row_after s w o h new }

@@ -7,7 +7,7 @@ use Rattle.evidence.specs.declared.proof_scripts.line.Formulas.{Formulas}
 use Rattle.evidence.specs.declared.proof_scripts.line.Opened.{Opened}
 use Rattle.evidence.specs.declared.proof_scripts.script.Derived.{Derived}
 use Rattle.evidence.specs.proof_scripts.Scripts.{LineTree, GivenLine, KeptLine, word_rule, WordHeld, ids_of, added_ids, added_at, sequents_under, IsByRule, Follows}
-use Rattle.evidence.specs.proof_scripts.Words.{rule_behind, WordFits}
+use Rattle.evidence.specs.proof_scripts.Words.{rule_past, WordFits}
 
 -- the formulas that each premise adds
 abbrev pub AreAdded : DraftTree → List Formulas → Type 0
@@ -49,10 +49,10 @@ pub record AreByLines (d : DraftTree) (f : List Tree) (ts : List (List Tree)) (l
 pub record IsByRuleAndLines (d : DraftTree) (f t : List Tree) (ls : List LineTree)
     (added : List (List Tree)) (r : Derived) : Type 0 where
   pub refutes : Refutes d r.step (f ++ t)
-  pub behind : ℕ
-  pub is : r.used ≡ suc behind
-  pub consumes : Consumes f ls (sequents_under t added) behind
-  pub within : behind ≤ length ls
+  pub following : ℕ
+  pub is : r.used ≡ suc following
+  pub consumes : Consumes f ls (sequents_under t added) following
+  pub within : following ≤ length ls
 
 -- the line has a rule
 abbrev pub HasRule : LineTree → Type 0
@@ -72,7 +72,7 @@ pub record IsLineOpened (d : DraftTree) (f t : List Tree) (l : LineTree) (o : Op
   pub fits : WordFits o.before o.word
   pub first : All (AreFormulas d) (added_ids o.sides.first)
   pub second : All (AreFormulas d) (added_ids o.sides.second)
-  pub rule : IsByRule d.task (f ++ t) (rule_behind o.before (word_rule d.trees o.word))
+  pub rule : IsByRule d.task (f ++ t) (rule_past o.before (word_rule d.trees o.word))
       (added_at d.trees o.sides.first ++ added_at d.trees o.sides.second)
   pub opens : (g : DraftTree) (ls : List LineTree) (r : List (List Tree))
       → Follows g f (l ∷ ls) (t ∷ r)

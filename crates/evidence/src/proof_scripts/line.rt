@@ -3,7 +3,7 @@ ghost use Rattle.std.specs.Prelude.{◌≡◌, ◌++◌, List, map, IfOk};
 ghost use Rattle.trees.specs.Tree.{Tree};
 ghost use Rattle.rules.specs.Meaning.{rule_at, RuleHeld};
 ghost use Rattle.evidence.specs.proof_scripts.Scripts.{word_rule, WordHeld, ids_of, added_ids};
-ghost use Rattle.evidence.specs.proof_scripts.Words.{rule_behind, WordFits};
+ghost use Rattle.evidence.specs.proof_scripts.Words.{rule_past, WordFits};
 
 use crate::{failing_rule, holding_rule, join_lists};
 use rules::Rule;
@@ -86,7 +86,7 @@ pub(crate) struct Opened {
 // The rule of a word, with so many formulas before those in which its places are counted.
 pub(crate) fn rule_of(before: usize, word: Word) -> Rule
     requires fits { WordFits before word }
-    ensures tree { (s : List Tree) → rule_at s result ≡ rule_behind before (word_rule s word) }
+    ensures tree { (s : List Tree) → rule_at s result ≡ rule_past before (word_rule s word) }
     ensures held { (s : List Tree) → WordHeld s word → RuleHeld s result }
 {
     match word {

@@ -3,7 +3,7 @@ ghost use Rattle.std.specs.Prelude.{◌≡◌, ◌+◌, ◌++◌, [], ◌∷◌,
 ghost use Rattle.tasks.specs.Meaning.{trees_at};
 ghost use Rattle.evidence.specs.Drafts.{Extends, Refutes, AreFormulas, RefutesAt};
 ghost use Rattle.evidence.specs.proof_scripts.Scripts.{word_rule, WordHeld, sequents_under, lines_at, LinesHeld, IsByRule, IsGiven, places_of, PlacesFit, Follows, CanFollow};
-ghost use Rattle.evidence.specs.proof_scripts.Words.{rule_behind, WordFits};
+ghost use Rattle.evidence.specs.proof_scripts.Words.{rule_past, WordFits};
 ghost use Rattle.evidence.specs.proof_scripts.Derived.{AreAdded, all_added, IsByLines, IsByRuleAndLines, AreByLines};
 
 use crate::proof_scripts::line::{Formulas, Line, Places, Word, premises_of, rule_of, tail_with};
@@ -135,7 +135,7 @@ fn by_word(
     requires lines { LinesHeld draft.old lines.now }
     requires rule { IsByRule draft.old.task
         (trees_at draft.old.trees front.now ++ trees_at draft.old.trees tail.now)
-        (rule_behind before (word_rule draft.old.trees word))
+        (rule_past before (word_rule draft.old.trees word))
         (all_added draft.old.trees added.now) }
     requires follow { CanFollow draft.old (trees_at draft.old.trees front.now)
         (lines_at draft.old.trees lines.now)
@@ -185,8 +185,8 @@ fn premises(
             let all = tail_with(draft.allocator(), tail, *first)?;
             let made = walk(draft, front, &all, lines)?;
             steps.push(made.step)?;
-            let (_, behind) = lines.split_at(made.used);
-            let more = premises(draft, front, tail, rest, behind, steps)?;
+            let (_, following) = lines.split_at(made.used);
+            let more = premises(draft, front, tail, rest, following, steps)?;
             Ok(made.used + more)
         }
     }

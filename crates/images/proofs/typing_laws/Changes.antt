@@ -19,7 +19,7 @@ use Rattle.tasks.specs.Typing.{members, entry, IsTypeSymbol, IsUse, HasResult, o
 use Rattle.tasks.specs.Valid.{VariablesBelow, ParametersOf}
 use Rattle.tasks.proofs.typed_trees.instances.Typed.{present}
 use Rattle.tasks.proofs.TypeInstances.{some_kept}
-use Rattle.images.proofs.Slices.{slice_front, slice_behind}
+use Rattle.images.proofs.Slices.{slice_front, slice_after}
 use Rattle.images.proofs.Images.{expression_type, expression_members, expression_branches, expression_variables, branches_alike}
 use Rattle.images.proofs.Changes.{variables_varied, above_varied}
 use Rattle.images.specs.typing_laws.HasTyping.{HasSorts, HasTyping, AreTermsFor}
@@ -208,10 +208,10 @@ shift_put v more types bs d i a n x = by (cases_lt i d)
         subst (λ (j : ℕ). IsPut v (bs ++ (more ++ types)) a (Bound j a)) (sym (shift_below (length more) 0 d i (omega arith)))
         (bound_is v (bs ++ types) (bs ++ (more ++ types)) i a x.0.0 x.2 (slice_front bs (more ++ types) i (omega arith) ∙ sym (slice_front bs types i (omega arith)) ∙ x.1))
     by (inr l) =
-        let h : slice_get types (i - d) ≡ Some a = sym (slice_behind bs types i (i - d) (omega arith)) ∙ x.1 in
-        let m : slice_get (more ++ types) (length more + (i - d)) ≡ Some a = slice_behind more types (length more + (i - d)) (i - d) refl ∙ h in
+        let h : slice_get types (i - d) ≡ Some a = sym (slice_after bs types i (i - d) (omega arith)) ∙ x.1 in
+        let m : slice_get (more ++ types) (length more + (i - d)) ≡ Some a = slice_after more types (length more + (i - d)) (i - d) refl ∙ h in
         subst (λ (j : ℕ). IsPut v (bs ++ (more ++ types)) a (Bound j a)) (sym (shift_above (length more) 0 d i (omega arith)))
-        (bound_is v (bs ++ types) (bs ++ (more ++ types)) (i + length more) a x.0.0 x.2 (slice_behind bs (more ++ types) (i + length more) (length more + (i - d)) (omega arith) ∙ m))
+        (bound_is v (bs ++ types) (bs ++ (more ++ types)) (i + length more) a x.0.0 x.2 (slice_after bs (more ++ types) (i + length more) (length more + (i - d)) (omega arith) ∙ m))
 
 module _ (v : Vocabulary) (more types : List Tree) (e : Tree) (x : HasTyping v types e) where
   pub shift_has : HasTyping v (more ++ types) (shift e (length more) 0)
@@ -242,7 +242,7 @@ module _ (v : Vocabulary) (types tys ts : List Tree) (o : AreTermsFor v types ty
           (bound_is v (bs ++ (tys ++ types)) (bs ++ types) i a x.0.0 x.2 (slice_front bs types i (omega arith) ∙ sym (slice_front bs (tys ++ types) i (omega arith)) ∙ x.1))
       by (inr (inl k)) =
           let q : length ts ≡ length tys = o.as_many in
-          let h : slice_get (tys ++ types) (i - d) ≡ Some a = sym (slice_behind bs (tys ++ types) i (i - d) (omega (arith, k.1.0))) ∙ x.1 in
+          let h : slice_get (tys ++ types) (i - d) ≡ Some a = sym (slice_after bs (tys ++ types) i (i - d) (omega (arith, k.1.0))) ∙ x.1 in
           let g : slice_get tys (i - d) ≡ Some a = sym (slice_front tys types (i - d) (omega (arith, k.1.0, k.1.1))) ∙ h in
           let w = o.each (i - d) k.0 a a g (omega (arith, k.1.0, k.1.1)) in
           let t = get_or ts k.0 a in
@@ -253,10 +253,10 @@ module _ (v : Vocabulary) (types tys ts : List Tree) (o : AreTermsFor v types ty
           })
       by (inr (inr l)) =
           let q : length ts ≡ length tys = o.as_many in
-          let h : slice_get (tys ++ types) (i - d) ≡ Some a = sym (slice_behind bs (tys ++ types) i (i - d) (omega arith)) ∙ x.1 in
-          let g : slice_get types (i - d - length tys) ≡ Some a = sym (slice_behind tys types (i - d) (i - d - length tys) (omega arith)) ∙ h in
+          let h : slice_get (tys ++ types) (i - d) ≡ Some a = sym (slice_after bs (tys ++ types) i (i - d) (omega arith)) ∙ x.1 in
+          let g : slice_get types (i - d - length tys) ≡ Some a = sym (slice_after tys types (i - d) (i - d - length tys) (omega arith)) ∙ h in
           subst (IsPut v (bs ++ types) a) (sym (many_above ts d i a l))
-          (bound_is v (bs ++ (tys ++ types)) (bs ++ types) (i - length ts) a x.0.0 x.2 (slice_behind bs types (i - length ts) (i - d - length tys) (omega arith) ∙ g))
+          (bound_is v (bs ++ (tys ++ types)) (bs ++ types) (i - length ts) a x.0.0 x.2 (slice_after bs types (i - length ts) (i - d - length tys) (omega arith) ∙ g))
 
   module _ (b : Tree) (x : HasTyping v (tys ++ types) b) where
     pub many_has : HasTyping v types (inst_many b ts)

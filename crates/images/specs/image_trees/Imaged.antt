@@ -41,7 +41,7 @@ pub record IsImaged {S : Type 0} (r : RuleOver) (e : Tree) (s : List Tree) (m : 
   pub is : tree_at s id ≡ image r.rule e
   pub known : AreImages r s m
 
--- the same of the node over the images of its parts
+-- what the node over the images of its parts gives: its number; and what is remembered stays right
 pub record IsOverParts {S : Type 0} (r : RuleOver) (e : Tree) (s : List Tree)
     (m : IndexMap ℕ TermId S) (id : TermId) : Type 0 where
   pub held : Holds s id

@@ -17,7 +17,7 @@ use Rattle.printed_problems.specs.drivers.driver_items.Templates.{template_piece
 use Rattle.printed_problems.specs.drivers.declared.driver_parts.driver.Driver.{Driver}
 use Rattle.printed_problems.specs.drivers.driver_parts.Items.{DriverItem, prelude, printer, block, end_of_block, template, removal_of_all, silent, item_of}
 use Rattle.printed_problems.specs.drivers.driver_parts.Parts.{with_template, with_all_removed}
-use Rattle.printed_problems.specs.drivers.driver_parts.Steps.{targeted, templated, block_step, block_behind}
+use Rattle.printed_problems.specs.drivers.driver_parts.Steps.{targeted, templated, block_step, block_after}
 use Rattle.printed_problems.specs.drivers.declared.driver_files.reading.Progress.{Progress}
 use Rattle.printed_problems.specs.drivers.driver_files.Reading.{DriverOutcome, ◌then◌, or_syntax, if_file_there, if_file_short, short_file, with_parts, finished, ReadingPlace, reading_place, one_file_more, Importer, no_progress, driver_with_printer, take_item, take_lines, take_bytes, read_from, driver_named}
 use Rattle.part_texts.specs.smt_law.Shipped.{HasShippedTemplates, pieces_of, shipped_text, first_entries, IsIntName, KnowsInts, ShippedAreRead}
@@ -85,11 +85,11 @@ then_same (Err e) f g h = refl
 module _ (symbols : List SymbolInfo) (theories : NamedTheories) (read : Importer) (place : ReadingPlace) where
   abbrev take_items : Option (List ℕ) → List DriverItem → Progress → DriverOutcome Progress
   take_items path [] p = Ok p
-  take_items path (i ∷ is) p = take_item symbols theories read place path i p then take_items (block_behind path i) is
+  take_items path (i ∷ is) p = take_item symbols theories read place path i p then take_items (block_after path i) is
 
   by_items : (path : Option (List ℕ)) (ls : List (List DriverLexeme)) (p : Progress) → take_lines symbols theories read place path ls p ≡ take_items path (map item_of ls) p
   by_items path [] p = refl
-  by_items path (l ∷ ls) p = then_same (take_item symbols theories read place path (item_of l) p) (take_lines symbols theories read place (block_behind path (item_of l)) ls) (take_items (block_behind path (item_of l)) (map item_of ls)) (by_items (block_behind path (item_of l)) ls)
+  by_items path (l ∷ ls) p = then_same (take_item symbols theories read place path (item_of l) p) (take_lines symbols theories read place (block_after path (item_of l)) ls) (take_items (block_after path (item_of l)) (map item_of ls)) (by_items (block_after path (item_of l)) ls)
 
   abbrev int_path : List ℕ
   int_path = codes "int.Int"

@@ -12,7 +12,7 @@ use Rattle.printed_problems.specs.Templates.{template_of, has_template}
 use Rattle.printed_problems.specs.declared.printed_terms.words.Form.TheVariants.{Negation, Connected, Equality, Conditional}
 use Rattle.printed_problems.specs.declared.printed_terms.words.Binder.{Binder}
 use Rattle.printed_problems.specs.declared.printed_terms.words.Binder.TheVariants.{ForAll, ThereIs, LetIn}
-use Rattle.printed_problems.specs.printed_terms.Texts.{Printed, printed_name, each_behind, joined, form_text, application_text, by_template, symbol_text, equality_text, bound_text}
+use Rattle.printed_problems.specs.printed_terms.Texts.{Printed, printed_name, each_after, joined, form_text, application_text, by_template, symbol_text, equality_text, bound_text}
 use Rattle.name_tables.specs.Occurrences.{Occurrence}
 use Rattle.part_texts.specs.smt_law.s_expressions.Sexps.{Sexp, SexpWord, Group, Nothing, Then, written_sexp, write_sexp}
 use Rattle.part_texts.specs.smt_law.Plain.{arity, EqualityIsPlain}
@@ -26,7 +26,7 @@ texts_of (Group s) = []
 texts_of Nothing = []
 texts_of (Then a rest) = write_sexp a ∷ texts_of rest
 
-later_is : (s : Sexp) → (written_sexp s).later ≡ each_behind (codes " ") (texts_of s)
+later_is : (s : Sexp) → (written_sexp s).later ≡ each_after (codes " ") (texts_of s)
 later_is (SexpWord w) = refl
 later_is (Group s) = refl
 later_is Nothing = refl

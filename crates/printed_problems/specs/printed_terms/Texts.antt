@@ -43,13 +43,13 @@ abbrev pub printed_name : Printing → Occurrence → List ℕ
 printed_name p o = name_at p (occurrence_place p.things o)
 
 -- texts one after another, each after a text
-abbrev pub each_behind : List ℕ → List (List ℕ) → List ℕ
-each_behind separator texts = flat_map (λ x. separator ++ x) texts
+abbrev pub each_after : List ℕ → List (List ℕ) → List ℕ
+each_after separator texts = flat_map (λ x. separator ++ x) texts
 
 -- texts one after another, with a text between any two
 abbrev pub joined : List ℕ → List (List ℕ) → List ℕ
 joined separator [] = []
-joined separator (a ∷ more) = a ++ each_behind separator more
+joined separator (a ∷ more) = a ++ each_after separator more
 
 -- a form with its parts
 abbrev pub form_text : Syntax → Form → List (List ℕ) → List ℕ

@@ -4,7 +4,7 @@ ghost use Rattle.std.specs.Option.{option_map};
 ghost use Rattle.std.specs.List.{flat_map};
 ghost use Rattle.trees.specs.Node.{tree_at, Holds};
 ghost use Rattle.tasks.specs.Meaning.{trees_at, symbols_at, SymbolHeld};
-ghost use Rattle.printed_problems.specs.printed_terms.Texts.{each_behind, joined};
+ghost use Rattle.printed_problems.specs.printed_terms.Texts.{each_after, joined};
 ghost use Rattle.printed_problems.specs.printed_terms.Ranks.{entry_number, is_for, place_for, type_places, rank_by, rank_of, sorts_at};
 ghost use Rattle.printed_problems.specs.printed_terms.Meaning.{printing, CanPrint, Appends};
 
@@ -198,7 +198,7 @@ fn push_each_sort(
     places: &[usize],
 ) -> Result<(), AllocError>
     requires { CanPrint c.now }
-    ensures { OnOk result (Appends out.old.items (each_behind separator.now (sorts_at
+    ensures { OnOk result (Appends out.old.items (each_after separator.now (sorts_at
         (printing c.now) places.now)) out.new.items) }
 {
     for place in places {

@@ -5,7 +5,7 @@ ghost use Rattle.trees.specs.Node.{tree_at, Holds};
 ghost use Rattle.tasks.specs.Meaning.{trees_at};
 ghost use Rattle.name_tables.specs.Occurrences.{occurrence};
 ghost use Rattle.printed_problems.specs.Templates.{by_pieces};
-ghost use Rattle.printed_problems.specs.printed_terms.Texts.{printing_syntax, each_behind, joined, form_text, application_text, printed_name, symbol_text, equality_text, bound_text, sort_text, printed, term_text, formula_text};
+ghost use Rattle.printed_problems.specs.printed_terms.Texts.{printing_syntax, each_after, joined, form_text, application_text, printed_name, symbol_text, equality_text, bound_text, sort_text, printed, term_text, formula_text};
 ghost use Rattle.printed_problems.specs.declared.printed_terms.words.Binder.TheVariants.{LetIn};
 ghost use Rattle.printed_problems.specs.printed_terms.Meaning.{printing, CanPrint, Appends};
 
@@ -15,8 +15,8 @@ use crate::printed_terms::printer::{
 };
 use crate::printed_terms::sorts::push_sort;
 use crate::printed_terms::words::{
-    Binder, Form, before_body, before_bound, before_name, behind_name, between_arguments,
-    binder_opening, opening, separator, truth,
+    Binder, Form, before_body, before_bound, before_name, between_arguments, binder_opening,
+    name_after, opening, separator, truth,
 };
 use drivers::driver_items::{Piece, syntax_of};
 use std::alloc::AllocError;
@@ -77,7 +77,7 @@ fn push_each(
     requires held { Holds c.now.store.now below }
     requires deep { depth + below.0 ≤ usize.MAX }
     requires below { All (λ (id : TermId). id.0 < below.0) args.now }
-    ensures { OnOk result (Appends out.old.items (each_behind separator.now (map (term_text
+    ensures { OnOk result (Appends out.old.items (each_after separator.now (map (term_text
         (printing c.now) depth) (trees_at c.now.store.now args.now))) out.new.items) }
 {
     for arg in args {
@@ -217,7 +217,7 @@ fn push_applied(
     let syntax = syntax_of(c.driver.printer);
     out.extend_from_slice(before_name(syntax))?;
     push_name(c, out, symbol, types)?;
-    out.extend_from_slice(behind_name(syntax))?;
+    out.extend_from_slice(name_after(syntax))?;
     push_joined(c, out, between_arguments(syntax), args, below, depth)?;
     out.extend_from_slice(b")")
 }

@@ -153,7 +153,7 @@ pub(crate) fn before_name(syntax: Syntax) -> &'static [u8]
 }
 
 /// What is between a name and its arguments.
-pub(crate) fn behind_name(syntax: Syntax) -> &'static [u8]
+pub(crate) fn name_after(syntax: Syntax) -> &'static [u8]
     ensures { result.now ≡ after_name syntax }
 {
     match syntax {

@@ -16,7 +16,7 @@ use Rattle.drivers.specs.declared.driver_items.symbols.Target.TheVariants.{Entry
 use Rattle.drivers.specs.driver_items.Symbols.{NamedTheories, NamedTheory, is_builtin, is_path, theory_with_path, is_known, is_named_kind, is_symbol_named, by_kind, target_or_later, entry_from, builtin_of, target_of, among, among_those, has_proposition}
 use Rattle.drivers.specs.declared.driver_parts.parts.DriverParts.{DriverParts}
 use Rattle.drivers.specs.driver_parts.Items.{DriverItem, prelude, printer, transformation, file_import, block, end_of_block, template, removal, removal_of_all, silent, item_of}
-use Rattle.drivers.specs.driver_parts.Steps.{targeted, removed, block_step, item_in_block, item_step, block_behind}
+use Rattle.drivers.specs.driver_parts.Steps.{targeted, removed, block_step, item_in_block, item_step, block_after}
 use Rattle.drivers.specs.declared.driver_files.reading.Progress.{Progress}
 use Rattle.drivers.specs.driver_files.Reading.{DriverOutcome, ◌then◌, Importer, ReadingPlace, reading_place, import, with_parts, one_file_more, no_import, no_progress, driver_with_printer, short_file, or_syntax, take_item, take_lines, take_bytes, take_file, read_from, driver_named, name_from}
 
@@ -97,8 +97,8 @@ module _ (ss rs : List SymbolInfo) (ts us : NamedTheories) (k : TellSame ss rs t
     lines_same : (at : ReadingPlace) (path : Option (List ℕ)) (lines : List (List DriverLexeme)) (p : Progress) → take_lines ss ts f at path lines p ≡ take_lines rs us g at path lines p
     lines_same at path [] p = refl
     lines_same at path (l ∷ ls) p =
-        then_same (take_item ss ts f at path (item_of l) p) (take_item rs us g at path (item_of l) p) (take_lines ss ts f at (block_behind path (item_of l)) ls) (take_lines rs us g at (block_behind path (item_of l)) ls)
-        (item_same at path (item_of l) p) (λ q. lines_same at (block_behind path (item_of l)) ls q)
+        then_same (take_item ss ts f at path (item_of l) p) (take_item rs us g at path (item_of l) p) (take_lines ss ts f at (block_after path (item_of l)) ls) (take_lines rs us g at (block_after path (item_of l)) ls)
+        (item_same at path (item_of l) p) (λ q. lines_same at (block_after path (item_of l)) ls q)
 
     bytes_same : (at : ReadingPlace) (bytes : List ℕ) (p : Progress) → take_bytes ss ts f at bytes p ≡ take_bytes rs us g at bytes p
     bytes_same at bytes p =

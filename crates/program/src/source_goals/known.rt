@@ -50,7 +50,7 @@ fn push_own(
     }
 }
 
-// The same of the declaration with a place, if there is one.
+// Puts the name of the proposition with a place after others, where there is one and the theory with this path declares it.
 fn push_placed(
     alloc: Global,
     names: &mut Vec<String>,

@@ -114,8 +114,8 @@ binds_closed t (Two h p q) ss w a =
 binds_closed t (Three h a p c) ss w l = three_closed h (pattern_terms t p (parts t h a ss)) (binds_closed t p (parts t h a ss) w.2 (parts_closed t h a p c ss w.0 w.1 l))
 
 -- ---- told from the last one
-last_behind : (xs ys : List Tree) (back : ℕ) → back < length ys → from_last (xs ++ ys) back ≡ from_last ys back
-last_behind xs ys back l =
+last_after : (xs ys : List Tree) (back : ℕ) → back < length ys → from_last (xs ++ ys) back ≡ from_last ys back
+last_after xs ys back l =
     right_at xs ys (length (xs ++ ys) - 1 - back) (length ys - 1 - back) (Leaf HEnd) (omega (arith, l, length_joined xs ys))
 
 last_before : (xs ys : List Tree) (back : ℕ) → length ys ≤ back → back < length xs + length ys → from_last (xs ++ ys) back ≡ from_last xs (back - length ys)
@@ -131,7 +131,7 @@ module _ (t : TaskTree) (p : Tree) (ss : List Tree) where
       rw (e, z) refl
 
   pub of_alias : (a : Tree) → p ≡ One HPatAlias a → from_last (pattern_terms t p ss) 0 ≡ top ss
-  of_alias a e = rw e (last_behind (pattern_terms t a ss) (top ss ∷ []) 0 (omega arith))
+  of_alias a e = rw e (last_after (pattern_terms t a ss) (top ss ∷ []) 0 (omega arith))
 
   pub in_alias : (a : Tree) (back : ℕ) → p ≡ One HPatAlias a → 0 < back → back < pat_vars p → from_last (pattern_terms t p ss) back ≡ from_last (pattern_terms t a ss) (back - 1)
   in_alias a back e z l =
@@ -139,7 +139,7 @@ module _ (t : TaskTree) (p : Tree) (ss : List Tree) where
       rw e (last_before (pattern_terms t a ss) (top ss ∷ []) back (omega (arith, z)) (omega (arith, m, binds_count t a ss)))
 
   pub in_rest : (a b : Tree) (back : ℕ) → p ≡ Two HCell a b → back < pat_vars b → from_last (pattern_terms t p ss) back ≡ from_last (pattern_terms t b (other_terms ss)) back
-  in_rest a b back e l = rw e (last_behind (pattern_terms t a (top ss ∷ [])) (pattern_terms t b (other_terms ss)) back (omega (arith, l, binds_count t b (other_terms ss))))
+  in_rest a b back e l = rw e (last_after (pattern_terms t a (top ss ∷ [])) (pattern_terms t b (other_terms ss)) back (omega (arith, l, binds_count t b (other_terms ss))))
 
   pub in_first : (a b : Tree) (back : ℕ) → p ≡ Two HCell a b → pat_vars b ≤ back → back < pat_vars p → from_last (pattern_terms t p ss) back ≡ from_last (pattern_terms t a (top ss ∷ [])) (back - pat_vars b)
   in_first a b back e l m =

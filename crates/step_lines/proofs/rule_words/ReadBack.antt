@@ -159,7 +159,7 @@ are-held s (Project e) h = (h, tt)
 are-held s (Trichotomy a b) h = (h.0, (h.1, tt))
 are-held s (Bound e n) h = (h, (tt, tt))
 
--- the same of a name and arguments that are those of a rule
+-- a name and arguments that are those of a rule are read back as the rule
 pub written-back : (r : Rule) (n : RuleName) (args : List Argument) → n ≡ (name_and_arguments r).name → args ≡ (name_and_arguments r).arguments → (s : List Tree) → rule_from n (arguments_at s args) ≡ Some (rule_at s r)
 written-back r n args e f s = rw (e, f) (reads-back s r)
 

@@ -77,7 +77,7 @@ cells_refused s0 s s' g ids i d list some le held tree o none m e is w =
     let n : IsTreeMade s' (Some (Two HCell (tree_at s (get_or ids (i - 1) d)) (tree_at s list))) None = subst (IsTreeMade s' (Some (Two HCell (tree_at s (get_or ids (i - 1) d)) (tree_at s list)))) none m in
     n (Two HCell (tree_at s (get_or ids (i - 1) d)) (tree_at s list)) refl (subst WellSorted (sym cut) part)
 
--- the same of lists of branches
+-- where a list of branches can't be made longer, the whole list doesn't fit
 module _ (s0 s : List Tree) (g : Grows s0 s) (ps : List (TermId × TermId)) (i : ℕ) (d : TermId × TermId) (list : TermId) (some : 0 < i) (le : i ≤ length ps) (held : PairsHeld s0 ps)
     (tree : tree_at s list ≡ cells (map (branch_at s0) (drop i ps))) where
   branches_dropped : drop (i - 1) ps ≡ get_or ps (i - 1) d ∷ drop i ps

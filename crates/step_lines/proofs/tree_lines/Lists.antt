@@ -34,7 +34,7 @@ pub each_map : {A B C : Type 0} (f : B → Option C) (g : A → B) (xs : List A)
 each_map f g [] = refl
 each_map f g (x ∷ xs) = ap (λ o. option_and_then (λ y. option_map (λ ys. y ∷ ys) o) (f (g x))) (each_map f g xs)
 
--- the same of words
+-- a list made of what each word of a line is, word by word
 module _ {B : Type 0} (f : LineWord → Option B) (ws : List (Bor LineWord)) (i : ℕ) (d : Bor LineWord) (acc : List B) (all : Option (List B)) where
   pub each_word_more : (y : B) → i < length ws → Some y ≡ f (get_or ws i d).now → option_map (λ ys. acc ++ ys) (each f (texts (drop i ws))) ≡ all
       → option_map (λ ys. (acc ++ y ∷ []) ++ ys) (each f (texts (drop (i + 1) ws))) ≡ all

@@ -188,7 +188,7 @@ fn replaced(
     Ok(Some(adds_signed(store, place, made, true)))
 }
 
-// The same of what places of the sequent have.
+// Whether the formula at a place has one side of an equation in the place of the other, and the premise has what comes of it.
 fn replace(
     alloc: Global,
     store: &mut Store,

@@ -134,7 +134,7 @@ fn variables_have(
     Ok(have)
 }
 
-// The same of a tree that is open, by its node.
+// Whether the variables of an open tree from so many binders up have their types, by its node.
 #[cycle(visiting)]
 fn variables_have_inside(
     store: &Store,

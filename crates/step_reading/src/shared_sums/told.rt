@@ -105,7 +105,7 @@ fn add_part(
     Ok(())
 }
 
-// The same of a formula that may be none.
+// Adds a formula's share of the sum, and nothing where there is none.
 fn add_bounded(
     x: &Leaf<'_>,
     table: &mut Table,

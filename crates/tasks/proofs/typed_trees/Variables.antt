@@ -59,10 +59,10 @@ front d (x ∷ xs) ys e v =
     let rest = front (d + 1) xs ys e v.1 in
     ((v.0, rest.0), subst (λ (n : ℕ). VariablesHave n ys e) (let q : (d + 1) + length xs ≡ d + length (x ∷ xs) = omega arith in q) rest.1)
 
-behind : (d : ℕ) (xs ys : List Tree) (e : Tree) → VariablesHave d xs e → VariablesHave (d + length xs) ys e → VariablesHave d (xs ++ ys) e
-behind d [] ys e v w = subst (λ (n : ℕ). VariablesHave n ys e) (let q : d + 0 ≡ d = omega arith in q) w
-behind d (x ∷ xs) ys e v w =
-    (v.0, behind (d + 1) xs ys e v.1 (subst (λ (n : ℕ). VariablesHave n ys e) (let q : d + length (x ∷ xs) ≡ (d + 1) + length xs = omega arith in q) w))
+following : (d : ℕ) (xs ys : List Tree) (e : Tree) → VariablesHave d xs e → VariablesHave (d + length xs) ys e → VariablesHave d (xs ++ ys) e
+following d [] ys e v w = subst (λ (n : ℕ). VariablesHave n ys e) (let q : d + 0 ≡ d = omega arith in q) w
+following d (x ∷ xs) ys e v w =
+    (v.0, following (d + 1) xs ys e v.1 (subst (λ (n : ℕ). VariablesHave n ys e) (let q : d + length (x ∷ xs) ≡ (d + 1) + length xs = omega arith in q) w))
 
 module _ (depth under : ℕ) (a p ty e : Tree) (q : p ≡ One HPatAlias a) (t : type_of a ≡ Some ty) (u : under ≡ min (depth + 1) 18446744073709551615) where
   types_are : pattern_types p ≡ ty ∷ pattern_types a
@@ -81,7 +81,7 @@ module _ (depth count under : ℕ) (a b p e : Tree) (q : p ≡ Two HCell a b) (w
   counted = let s : WellSorted (Two HCell a b) = rw q at w in pattern_count b s.2
 
   pub cell_at : HaveAt depth (pattern_types b) e → HaveAt under (pattern_types a) e → HaveAt depth (pattern_types p) e
-  cell_at x y = record { is = λ d k. subst (λ (z : List Tree). VariablesHave d z e) (sym cell_types) (behind d (pattern_types b) (pattern_types a) e (x.is d k) (y.is (d + length (pattern_types b)) (omega (arith, counted, n, u, k)))) }
+  cell_at x y = record { is = λ d k. subst (λ (z : List Tree). VariablesHave d z e) (sym cell_types) (following d (pattern_types b) (pattern_types a) e (x.is d k) (y.is (d + length (pattern_types b)) (omega (arith, counted, n, u, k)))) }
 
   pub cell_can : CanHaveAll depth (pattern_types p) e → CanHaveAll depth (pattern_types b) e × CanHaveAll under (pattern_types a) e
   cell_can c =

@@ -15,7 +15,7 @@ pub record CanHave (depth : ℕ) (ty e : Tree) : Type 0 where
   pub is_depth : IsDepth depth d
   pub is : VariableHas d ty e
 
--- the same of a list of variables
+-- variables have these types wherever so many binders are crossed
 pub record HaveAt (depth : ℕ) (types : List Tree) (e : Tree) : Type 0 where
   pub is : (d : ℕ) → IsDepth depth d → VariablesHave d types e
 

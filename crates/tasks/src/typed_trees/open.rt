@@ -77,8 +77,8 @@ fn variables_have(store: &Store, pattern: TermId, depth: usize, e: TermId) -> bo
             None => variables_have(store, a, depth, e),
         },
         Node::Cell(a, b) => {
-            let behind = depth.saturating_add(store.pattern_variables(b));
-            variables_have(store, b, depth, e) && variables_have(store, a, behind, e)
+            let following = depth.saturating_add(store.pattern_variables(b));
+            variables_have(store, b, depth, e) && variables_have(store, a, following, e)
         },
         Node::PatCon(_, _, b, _) => variables_have(store, b, depth, e),
         _ => true,

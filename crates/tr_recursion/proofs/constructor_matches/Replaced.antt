@@ -49,14 +49,14 @@ pub terms_later : (d d1 : DraftTree) → Extends d d1 → (ids : List TermId) �
 terms_later d d1 x ids a = All-weaker (IsHeldTerm d) (IsHeldTerm d1) (λ id h. record { closed = closed_later d d1 x id h.closed; term = ap sort_of (tree_later d d1 x id h.closed.held) ∙ h.term }) ids a
 
 -- ---- the hole
-module _ (d d1 d2 : DraftTree) (x : Extends d d1) (y : Extends d1 d2) (xy : Extends d d2) (valid : IsValid d.task) (e : TermId) (before behind : List TermId) (left a variable hole : TermId) (o : IsOpenTree d e (trees_at d.trees before ++ tree_at d.trees a ∷ trees_at d.trees behind)) (cb : AreClosedTerms d before)
-    (ch : AreClosedTerms d behind) (cl : IsClosedAt d left) (ca : IsClosedAt d a) (s : sort_of (tree_at d.trees a) ≡ Term) (ql : tree_at d.trees left ≡ inst_many (tree_at d.trees e) (trees_at d.trees before ++ tree_at d.trees a ∷ trees_at d.trees behind))
-    (ev : (ty : Tree) → type_of (tree_at d.trees a) ≡ Some ty → tree_at d1.trees variable ≡ Bound 0 ty) (terms : List TermId) (are : terms ≡ before ++ variable ∷ behind) (hh : Holds d2.trees hole) (qh : tree_at d2.trees hole ≡ inst_many (tree_at d1.trees e) (trees_at d1.trees terms)) (sorted : WellSorted (tree_at d2.trees hole)) where
+module _ (d d1 d2 : DraftTree) (x : Extends d d1) (y : Extends d1 d2) (xy : Extends d d2) (valid : IsValid d.task) (e : TermId) (before following : List TermId) (left a variable hole : TermId) (o : IsOpenTree d e (trees_at d.trees before ++ tree_at d.trees a ∷ trees_at d.trees following)) (cb : AreClosedTerms d before)
+    (ch : AreClosedTerms d following) (cl : IsClosedAt d left) (ca : IsClosedAt d a) (s : sort_of (tree_at d.trees a) ≡ Term) (ql : tree_at d.trees left ≡ inst_many (tree_at d.trees e) (trees_at d.trees before ++ tree_at d.trees a ∷ trees_at d.trees following))
+    (ev : (ty : Tree) → type_of (tree_at d.trees a) ≡ Some ty → tree_at d1.trees variable ≡ Bound 0 ty) (terms : List TermId) (are : terms ≡ before ++ variable ∷ following) (hh : Holds d2.trees hole) (qh : tree_at d2.trees hole ≡ inst_many (tree_at d1.trees e) (trees_at d1.trees terms)) (sorted : WellSorted (tree_at d2.trees hole)) where
   abbrev B : List Tree
   B = trees_at d.trees before
 
   abbrev H : List Tree
-  H = trees_at d.trees behind
+  H = trees_at d.trees following
 
   abbrev A : Tree
   A = tree_at d.trees a
@@ -69,16 +69,16 @@ module _ (d d1 d2 : DraftTree) (x : Extends d d1) (y : Extends d1 d2) (xy : Exte
 
   terms_are : trees_at d1.trees terms ≡ B ++ Bound 0 typed.0 ∷ H
   terms_are =
-      ap (trees_at d1.trees) are ∙ map-append (tree_at d1.trees) before (variable ∷ behind)
-      ∙ ap (λ (z : List Tree). z ++ trees_at d1.trees (variable ∷ behind)) (trees_later d.trees d1.trees x.trees before (terms_held d before cb))
-      ∙ ap (λ (z : List Tree). B ++ tree_at d1.trees variable ∷ z) (trees_later d.trees d1.trees x.trees behind (terms_held d behind ch))
+      ap (trees_at d1.trees) are ∙ map-append (tree_at d1.trees) before (variable ∷ following)
+      ∙ ap (λ (z : List Tree). z ++ trees_at d1.trees (variable ∷ following)) (trees_later d.trees d1.trees x.trees before (terms_held d before cb))
+      ∙ ap (λ (z : List Tree). B ++ tree_at d1.trees variable ∷ z) (trees_later d.trees d1.trees x.trees following (terms_held d following ch))
       ∙ ap (λ (z : Tree). B ++ z ∷ H) (ev typed.0 typed.1)
 
   hole_is : tree_at d2.trees hole ≡ inst_many E (B ++ Bound 0 typed.0 ∷ H)
   hole_is = qh ∙ ap (λ (z : Tree). inst_many z (trees_at d1.trees terms)) (tree_later d d1 x e o.held) ∙ ap (inst_many E) terms_are
 
   all_ground : All IsGround (B ++ A ∷ H)
-  all_ground = All-append IsGround B (A ∷ H) (terms_ground d before cb) (All-cons IsGround A H ca.ground.ground (terms_ground d behind ch))
+  all_ground = All-append IsGround B (A ∷ H) (terms_ground d before cb) (All-cons IsGround A H ca.ground.ground (terms_ground d following ch))
 
   kind_ground : IsGround typed.0
   kind_ground = type_ground A typed.0 (inl s) ca.ground.ground typed.1
@@ -108,18 +108,18 @@ module _ (d d1 d2 : DraftTree) (x : Extends d d1) (y : Extends d1 d2) (xy : Exte
       )
 
 -- ---- the list with the variable
-pub list_is : (before : List TermId) (variable : TermId) (behind one two three : List TermId) → one ≡ before → two ≡ one ++ variable ∷ [] → three ≡ two ++ behind → three ≡ before ++ variable ∷ behind
-list_is before variable behind one two three a b c = c ∙ ap (λ (z : List TermId). z ++ behind) (b ∙ ap (λ (z : List TermId). z ++ variable ∷ []) a) ∙ append_assoc before (variable ∷ []) behind
+pub list_is : (before : List TermId) (variable : TermId) (following one two three : List TermId) → one ≡ before → two ≡ one ++ variable ∷ [] → three ≡ two ++ following → three ≡ before ++ variable ∷ following
+list_is before variable following one two three a b c = c ∙ ap (λ (z : List TermId). z ++ following) (b ∙ ap (λ (z : List TermId). z ++ variable ∷ []) a) ∙ append_assoc before (variable ∷ []) following
 
 hold_joined : (s : List Tree) (xs ys : List TermId) → HoldTerms s xs → HoldTerms s ys → HoldTerms s (xs ++ ys)
 hold_joined s [] ys a b = b
 hold_joined s (x ∷ xs) ys a b = (a.0, hold_joined s xs ys a.1 b)
 
-pub hold_all : (d d1 : DraftTree) → Extends d d1 → (before behind : List TermId) (a variable : TermId) → AreClosedTerms d before → AreClosedTerms d behind → IsClosedAt d a → sort_of (tree_at d.trees a) ≡ Term → Holds d1.trees variable
-    → ((ty : Tree) → type_of (tree_at d.trees a) ≡ Some ty → tree_at d1.trees variable ≡ Bound 0 ty) → HoldTerms d1.trees (before ++ variable ∷ behind)
-hold_all d d1 x before behind a variable cb ch ca s hv ev =
+pub hold_all : (d d1 : DraftTree) → Extends d d1 → (before following : List TermId) (a variable : TermId) → AreClosedTerms d before → AreClosedTerms d following → IsClosedAt d a → sort_of (tree_at d.trees a) ≡ Term → Holds d1.trees variable
+    → ((ty : Tree) → type_of (tree_at d.trees a) ≡ Some ty → tree_at d1.trees variable ≡ Bound 0 ty) → HoldTerms d1.trees (before ++ variable ∷ following)
+hold_all d d1 x before following a variable cb ch ca s hv ev =
     let t = term_has_type (of_task d.task) [] (tree_at d.trees a) s ca.ground.typed in
-    hold_joined d1.trees before (variable ∷ behind) (hold_terms d1 before (terms_later d d1 x before cb)) ((hv, ap sort_of (ev t.0 t.1)), hold_terms d1 behind (terms_later d d1 x behind ch))
+    hold_joined d1.trees before (variable ∷ following) (hold_terms d1 before (terms_later d d1 x before cb)) ((hv, ap sort_of (ev t.0 t.1)), hold_terms d1 following (terms_later d d1 x following ch))
 
 -- ---- arguments
 pub listed_cells : (xs ys : List Tree) → listed xs (cells ys) ≡ cells (xs ++ ys)
@@ -132,17 +132,17 @@ terms_sorted d ids a = All-weaker (IsHeldTerm d) (λ id. sort_of (tree_at d.tree
 pub end_list : (e : Tree) → e ≡ Leaf HEnd → IsList Term e
 end_list e q = subst (IsList Term) (sym q) (refl, inl refl)
 
-pub behind_listed : (d d1 : DraftTree) → Extends d d1 → (behind : List TermId) → AreClosedTerms d behind → (end : Tree) → end ≡ Leaf HEnd → (r : Tree) → r ≡ listed (trees_at d1.trees behind) end → r ≡ cells (trees_at d.trees behind)
-behind_listed d d1 x behind cb end q r e =
-    e ∙ ap (listed (trees_at d1.trees behind)) q ∙ ap (λ (z : List Tree). listed z (Leaf HEnd)) (trees_later d.trees d1.trees x.trees behind (terms_held d behind cb)) ∙ listed_cells (trees_at d.trees behind) [] ∙ ap cells (append-nil (trees_at d.trees behind))
+pub after_listed : (d d1 : DraftTree) → Extends d d1 → (following : List TermId) → AreClosedTerms d following → (end : Tree) → end ≡ Leaf HEnd → (r : Tree) → r ≡ listed (trees_at d1.trees following) end → r ≡ cells (trees_at d.trees following)
+after_listed d d1 x following cb end q r e =
+    e ∙ ap (listed (trees_at d1.trees following)) q ∙ ap (λ (z : List Tree). listed z (Leaf HEnd)) (trees_later d.trees d1.trees x.trees following (terms_held d following cb)) ∙ listed_cells (trees_at d.trees following) [] ∙ ap cells (append-nil (trees_at d.trees following))
 
-pub application_is : (d d2 : DraftTree) (x : Extends d d2) (f : ℕ) (types ty : TermId) → IsSymbolHeld d.trees (symbol.Function f types ty) → (before : List TermId) → AreClosedTerms d before → (behind : List TermId) (a2 a : Tree) → a2 ≡ a → (rest : Tree) → rest ≡ cells (trees_at d.trees behind)
-    → applied d2.trees (symbol.Function f types ty) (listed (trees_at d2.trees before) (Two HCell a2 rest)) ≡ applied_to d.trees f types ty (trees_at d.trees before ++ a ∷ trees_at d.trees behind)
-application_is d d2 x f types ty h before cb behind a2 a q rest r =
+pub application_is : (d d2 : DraftTree) (x : Extends d d2) (f : ℕ) (types ty : TermId) → IsSymbolHeld d.trees (symbol.Function f types ty) → (before : List TermId) → AreClosedTerms d before → (following : List TermId) (a2 a : Tree) → a2 ≡ a → (rest : Tree) → rest ≡ cells (trees_at d.trees following)
+    → applied d2.trees (symbol.Function f types ty) (listed (trees_at d2.trees before) (Two HCell a2 rest)) ≡ applied_to d.trees f types ty (trees_at d.trees before ++ a ∷ trees_at d.trees following)
+application_is d d2 x f types ty h before cb following a2 a q rest r =
     applied_later d d2 x (symbol.Function f types ty) h (listed (trees_at d2.trees before) (Two HCell a2 rest))
     ∙ ap (λ (z : Tree). applied d.trees (symbol.Function f types ty) z)
     (ap (λ (z : List Tree). listed z (Two HCell a2 rest)) (trees_later d.trees d2.trees x.trees before (terms_held d before cb)) ∙ ap (λ (z : Tree). listed (trees_at d.trees before) (Two HCell z rest)) q
-    ∙ ap (λ (z : Tree). listed (trees_at d.trees before) (Two HCell a z)) r ∙ listed_cells (trees_at d.trees before) (a ∷ trees_at d.trees behind))
+    ∙ ap (λ (z : Tree). listed (trees_at d.trees before) (Two HCell a z)) r ∙ listed_cells (trees_at d.trees before) (a ∷ trees_at d.trees following))
 
 -- ---- projections with their fields, by numbers
 pub field_pair : (d : DraftTree) (a b : TermId) → IsFieldPair d a b → ArePair d a b
@@ -235,7 +235,7 @@ module _ (d : DraftTree) (k : Around) (before : List TermId) (left : TermId) (a 
       one_can = record {
         around_held = subst (IsAround d1 k) (sym all_same) (around_later d d1 x k _ here);
         before_terms = terms_later d d1 x before can.before_terms;
-        behind_terms = terms_later d d1 x as' others_closed;
+        after_terms = terms_later d d1 x as' others_closed;
         whole = closed_later d d1 x left can.whole;
         pair = pair_later d d1 x a b (field_pair d a b first_pair);
         term = ap sort_of (tree_later d d1 x a first_pair.projected) ∙ first_pair.field.term;

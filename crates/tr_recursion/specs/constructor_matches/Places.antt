@@ -49,17 +49,17 @@ IsAround d (Open e) us = IsOpenTree d e us
 
 -- terms there, one of which is of the sort and type of another term
 pub record CanReplaceOne (d : DraftTree) (around : Around) (before : List TermId)
-    (left a b : TermId) (behind : List TermId) : Type 0 where
+    (left a b : TermId) (following : List TermId) : Type 0 where
   pub around_held : IsAround d around
-      (trees_at d.trees before ++ tree_at d.trees a ∷ trees_at d.trees behind)
+      (trees_at d.trees before ++ tree_at d.trees a ∷ trees_at d.trees following)
   pub before_terms : AreClosedTerms d before
-  pub behind_terms : AreClosedTerms d behind
+  pub after_terms : AreClosedTerms d following
   pub whole : IsClosedAt d left
   pub pair : ArePair d a b
   pub term : sort_of (tree_at d.trees a) ≡ Term
   pub is : tree_at d.trees left
       ≡ with_terms d.trees around
-      (trees_at d.trees before ++ tree_at d.trees a ∷ trees_at d.trees behind)
+      (trees_at d.trees before ++ tree_at d.trees a ∷ trees_at d.trees following)
 
 -- terms there, the last of which are projections of a constructor's application
 pub record CanReplaceProjections (d : DraftTree) (around : Around) (before : List TermId)

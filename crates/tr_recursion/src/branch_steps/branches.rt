@@ -16,7 +16,7 @@ use std::alloc::AllocError;
 use tasks::{Def, Grow, TermId};
 use trees::Node;
 
-// The same of a formula that is a branch's equation at closed terms, once its quantifiers are opened.
+// A step that refutes the negation of a formula that is a branch's equation at closed terms, once its quantifiers are opened.
 fn opened_step(draft: &mut Draft, def: Def, formula: TermId) -> Result<usize, AllocError>
     requires defined { IsDefinedIn draft.old def }
     requires formula { IsFormulaAt draft.old formula }

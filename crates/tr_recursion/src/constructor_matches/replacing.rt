@@ -58,22 +58,22 @@ fn hole_in(
     before: &[TermId],
     left: TermId,
     a: TermId,
-    behind: &[TermId],
+    following: &[TermId],
 ) -> Result<TermId, AllocError>
     requires open { IsOpenTree draft.old e (trees_at draft.old.trees before.now
-        ++ tree_at draft.old.trees a ∷ trees_at draft.old.trees behind.now) }
+        ++ tree_at draft.old.trees a ∷ trees_at draft.old.trees following.now) }
     requires before { AreClosedTerms draft.old before.now }
-    requires behind { AreClosedTerms draft.old behind.now }
+    requires following { AreClosedTerms draft.old following.now }
     requires left { IsClosedAt draft.old left }
     requires a { IsClosedAt draft.old a }
     requires term { sort_of (tree_at draft.old.trees a) ≡ Sort.Term }
     requires left_is { tree_at draft.old.trees left ≡ inst_many (tree_at draft.old.trees e)
         (trees_at draft.old.trees before.now
-        ++ tree_at draft.old.trees a ∷ trees_at draft.old.trees behind.now) }
+        ++ tree_at draft.old.trees a ∷ trees_at draft.old.trees following.now) }
     ensures hole { IfOk result (λ id. HoleAt draft.new id left left a a) }
     ensures fills { IfOk result (λ id. (x : Tree) → loose x ≡ 0 → pat_vars x ≡ 0
         → inst (tree_at draft.new.trees id) x ≡ inst_many (tree_at draft.old.trees e)
-        (trees_at draft.old.trees before.now ++ x ∷ trees_at draft.old.trees behind.now)) }
+        (trees_at draft.old.trees before.now ++ x ∷ trees_at draft.old.trees following.now)) }
     ensures grows { AddsTrees draft.old draft.new }
 {
     let _ = left;
@@ -82,7 +82,7 @@ fn hole_in(
     let variable = open_hole(draft, a, a)?;
     let mut terms = Vec::from_slice(alloc, before)?;
     terms.push(variable)?;
-    terms.extend_from_slice(behind)?;
+    terms.extend_from_slice(following)?;
     let made = put_terms(alloc, draft, e, &terms)?;
     Ok(made)
 }
@@ -95,30 +95,30 @@ fn replace_variable(
     left: TermId,
     a: TermId,
     b: TermId,
-    behind: &[TermId],
+    following: &[TermId],
     alike: AlikeBy,
 ) -> Result<Replaced, AllocError>
     requires open { IsOpenTree draft.old e (trees_at draft.old.trees before.now
-        ++ tree_at draft.old.trees a ∷ trees_at draft.old.trees behind.now) }
+        ++ tree_at draft.old.trees a ∷ trees_at draft.old.trees following.now) }
     requires before { AreClosedTerms draft.old before.now }
-    requires behind { AreClosedTerms draft.old behind.now }
+    requires following { AreClosedTerms draft.old following.now }
     requires left { IsClosedAt draft.old left }
     requires pair { ArePair draft.old a b }
     requires term { sort_of (tree_at draft.old.trees a) ≡ Sort.Term }
     requires left_is { tree_at draft.old.trees left ≡ inst_many (tree_at draft.old.trees e)
         (trees_at draft.old.trees before.now
-        ++ tree_at draft.old.trees a ∷ trees_at draft.old.trees behind.now) }
+        ++ tree_at draft.old.trees a ∷ trees_at draft.old.trees following.now) }
     requires shows { Shows draft.old alike (tree_at draft.old.trees a) (tree_at draft.old.trees b) }
     ensures pair { IfOk result (λ m. ArePair draft.new left m.right) }
     ensures right_is { IfOk result (λ m. tree_at draft.new.trees m.right
         ≡ inst_many (tree_at draft.old.trees e) (trees_at draft.old.trees before.now
-        ++ tree_at draft.old.trees b ∷ trees_at draft.old.trees behind.now)) }
+        ++ tree_at draft.old.trees b ∷ trees_at draft.old.trees following.now)) }
     ensures shows { IfOk result (λ m. Shows draft.new m.alike (tree_at draft.old.trees left)
         (tree_at draft.new.trees m.right)) }
     ensures grows { Extends draft.old draft.new }
 {
     let alloc = draft.allocator();
-    let hole = hole_in(draft, e, before, left, a, behind)?;
+    let hole = hole_in(draft, e, before, left, a, following)?;
     let right = instance(alloc, draft, hole, b)?;
     let alike = alike_replaced(draft, hole, left, right, a, b, alike)?;
     Ok(Replaced { right, alike })
@@ -134,29 +134,29 @@ fn replace_in_application(
     left: TermId,
     a: TermId,
     b: TermId,
-    behind: &[TermId],
+    following: &[TermId],
     alike: AlikeBy,
 ) -> Result<Replaced, AllocError>
     requires function { IsSymbolHeld draft.old.trees (symbol.Function function types ty) }
     requires before { AreClosedTerms draft.old before.now }
-    requires behind { AreClosedTerms draft.old behind.now }
+    requires following { AreClosedTerms draft.old following.now }
     requires left { IsClosedAt draft.old left }
     requires pair { ArePair draft.old a b }
     requires term { sort_of (tree_at draft.old.trees a) ≡ Sort.Term }
     requires left_is { tree_at draft.old.trees left ≡ applied_to draft.old.trees function types ty
         (trees_at draft.old.trees before.now
-        ++ tree_at draft.old.trees a ∷ trees_at draft.old.trees behind.now) }
+        ++ tree_at draft.old.trees a ∷ trees_at draft.old.trees following.now) }
     requires shows { Shows draft.old alike (tree_at draft.old.trees a) (tree_at draft.old.trees b) }
     ensures pair { IfOk result (λ m. ArePair draft.new left m.right) }
     ensures right_is { IfOk result (λ m. tree_at draft.new.trees m.right
         ≡ applied_to draft.old.trees function types ty (trees_at draft.old.trees before.now
-        ++ tree_at draft.old.trees b ∷ trees_at draft.old.trees behind.now)) }
+        ++ tree_at draft.old.trees b ∷ trees_at draft.old.trees following.now)) }
     ensures shows { IfOk result (λ m. Shows draft.new m.alike (tree_at draft.old.trees left)
         (tree_at draft.new.trees m.right)) }
     ensures grows { Extends draft.old draft.new }
 {
     let end = draft.add(Node::End)?;
-    let rest = list_after(draft, behind, end)?;
+    let rest = list_after(draft, following, end)?;
     let symbol = SymbolAt::Function(function, types, ty);
     let made = replace_argument(draft, symbol, before, left, a, b, rest, alike)?;
     Ok(made)
@@ -170,15 +170,15 @@ fn replace_one(
     left: TermId,
     a: TermId,
     b: TermId,
-    behind: &[TermId],
+    following: &[TermId],
     alike: AlikeBy,
 ) -> Result<Replaced, AllocError>
-    requires can { CanReplaceOne draft.old around before.now left a b behind.now }
+    requires can { CanReplaceOne draft.old around before.now left a b following.now }
     requires shows { Shows draft.old alike (tree_at draft.old.trees a) (tree_at draft.old.trees b) }
     ensures pair { IfOk result (λ m. ArePair draft.new left m.right) }
     ensures right_is { IfOk result (λ m. tree_at draft.new.trees m.right
         ≡ with_terms draft.old.trees around (trees_at draft.old.trees before.now
-        ++ tree_at draft.old.trees b ∷ trees_at draft.old.trees behind.now)) }
+        ++ tree_at draft.old.trees b ∷ trees_at draft.old.trees following.now)) }
     ensures shows { IfOk result (λ m. Shows draft.new m.alike (tree_at draft.old.trees left)
         (tree_at draft.new.trees m.right)) }
     ensures grows { Extends draft.old draft.new }
@@ -186,12 +186,12 @@ fn replace_one(
     match around {
         Around::Application(function, types, ty) => {
             let made = replace_in_application(
-                draft, function, types, ty, before, left, a, b, behind, alike,
+                draft, function, types, ty, before, left, a, b, following, alike,
             )?;
             Ok(made)
         }
         Around::Open(e) => {
-            let made = replace_variable(draft, e, before, left, a, b, behind, alike)?;
+            let made = replace_variable(draft, e, before, left, a, b, following, alike)?;
             Ok(made)
         }
     }

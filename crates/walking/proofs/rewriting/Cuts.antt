@@ -13,7 +13,7 @@ use Rattle.evidence.specs.Drafts.{DraftTree, Extends, Refutes, IsFormulaAt, AreF
 use Rattle.evidence.specs.Stages.{IsOwnTask}
 use Rattle.evidence.specs.Laws.{Extends_trans}
 use Rattle.evidence.proofs.Rules.{refutes_later}
-use Rattle.evidence.proofs.Formulas.{same, formula_later, formulas_later, behind_ids}
+use Rattle.evidence.proofs.Formulas.{same, formula_later, formulas_later, after_ids}
 use Rattle.evidence.proofs.Owned.{own_locals}
 use Rattle.evidence.proofs.Lifted.{own_later}
 use Rattle.evidence.proofs.Ends.{wider_formulas}
@@ -36,7 +36,7 @@ module _ (d d1 : DraftTree) (x : Extends d d1) (sequent all : List TermId) (s : 
   last_there : slice_get (trees_at d.trees sequent ++ neg (tree_at d.trees h.image) ∷ []) (length sequent) ≡ Some (neg (tree_at d.trees h.image))
   last_there =
       let q : length sequent ≡ length sequent + 0 = omega arith in
-      ap (slice_get (trees_at d.trees sequent ++ neg (tree_at d.trees h.image) ∷ [])) q ∙ behind_ids d sequent (neg (tree_at d.trees h.image) ∷ []) 0
+      ap (slice_get (trees_at d.trees sequent ++ neg (tree_at d.trees h.image) ∷ [])) q ∙ after_ids d sequent (neg (tree_at d.trees h.image) ∷ []) 0
 
   both_there : map Some (k.old ∷ neg (tree_at d.trees h.image) ∷ []) ≡ map (slice_get (trees_at d.trees sequent ++ neg (tree_at d.trees h.image) ∷ [])) (place ∷ length sequent ∷ [])
   both_there = let p = further (trees_at d.trees sequent) (neg (tree_at d.trees h.image) ∷ []) place k.old k.there in let q = last_there in cc

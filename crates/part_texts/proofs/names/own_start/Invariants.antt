@@ -1,6 +1,6 @@
 use Rattle.std.proofs.Common.{◌≡◌, ◌≤◌, drop}
-use Rattle.name_tables.specs.Spelling.{behind_dots, own_name}
+use Rattle.name_tables.specs.Spelling.{after_dots, own_name}
 use Rattle.part_texts.proofs.names.own_start.Given as goal
 
 abbrev pub invariant-loop-place : goal.invariant-loop-place
-invariant-loop-place l = (l.start ≤ l.place) × (behind_dots (drop l.start l.name) (drop l.place l.name) ≡ own_name l.name)
+invariant-loop-place l = (l.start ≤ l.place) × (after_dots (drop l.start l.name) (drop l.place l.name) ≡ own_name l.name)

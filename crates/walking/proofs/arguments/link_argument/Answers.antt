@@ -7,7 +7,7 @@ use Rattle.congruence.specs.Alike.{Shows}
 use Rattle.congruence.proofs.Later.{held_later, tree_later, closed_later, pair_later, shows_at}
 use Rattle.walking.proofs.PlacesLater.{all_later}
 use Rattle.congruence.proofs.ApplicationHoles.{symbol_later}
-use Rattle.walking.proofs.ArgumentPlaces.{argument_link, behind_tree, one_pair}
+use Rattle.walking.proofs.ArgumentPlaces.{argument_link, after_tree, one_pair}
 use Rattle.walking.proofs.arguments.link_argument.Goals as goal
 
 pub replace_argument-requires-clause-left : goal.replace_argument-requires-clause-left
@@ -39,7 +39,7 @@ pub replace_argument-requires-clause-left_is : goal.replace_argument-requires-cl
 replace_argument-requires-clause-left_is c =
     let d = c.args.draft.now in
     let w = c.requires.after in
-    behind_tree d c.argument_lists.new.draft (AddsTrees_extends d c.argument_lists.new.draft c.in_ok-lists.ensures.grows) c.args.symbol c.args.before.now c.args.after.right c.args.first c.args.after.list c.requires.symbol_held c.requires.before_held c.requires.first.held w.places.left_held w.pair.right.held w.right
+    after_tree d c.argument_lists.new.draft (AddsTrees_extends d c.argument_lists.new.draft c.in_ok-lists.ensures.grows) c.args.symbol c.args.before.now c.args.after.right c.args.first c.args.after.list c.requires.symbol_held c.requires.before_held c.requires.first.held w.places.left_held w.pair.right.held w.right
 
 pub replace_argument-requires-clause-shows : goal.replace_argument-requires-clause-shows
 replace_argument-requires-clause-shows c =

@@ -7,9 +7,9 @@ use Rattle.evidence.specs.Drafts.{Refutes}
 use Rattle.evidence.specs.Laws.{Extends_trans, AddsTrees_refl, AddsTrees_extends}
 use Rattle.evidence.proofs.Formulas.{same, formulas_later, back}
 use Rattle.evidence.specs.proof_scripts.Scripts.{word_rule, ids_of, script_line_at, lines_at, sequents_under, Follows, CanFollow}
-use Rattle.evidence.specs.proof_scripts.Words.{rule_behind}
+use Rattle.evidence.specs.proof_scripts.Words.{rule_past}
 use Rattle.evidence.specs.proof_scripts.Derived.{all_added, Consumes}
-use Rattle.evidence.proofs.proof_scripts.Following.{follows_later, word_later, word_same, all_later, all_same, lines_later, lines_same, opened, given_here, kept_here, first_held, rest_held, consumes_more, consumes_none, consumes_both, first_follows, second_follows, behind_held, one_line_more, listed_held, listed_same, under_listed, first_added, rest_added, sequents_are, wider_trees, wider_formulas, wider_follows, wider_consumes, none_derived, rule_added, one_more, some_line}
+use Rattle.evidence.proofs.proof_scripts.Following.{follows_later, word_later, word_same, all_later, all_same, lines_later, lines_same, opened, given_here, kept_here, first_held, rest_held, consumes_more, consumes_none, consumes_both, first_follows, second_follows, after_held, one_line_more, listed_held, listed_same, under_listed, first_added, rest_added, sequents_are, wider_trees, wider_formulas, wider_follows, wider_consumes, none_derived, rule_added, one_more, some_line}
 use Rattle.evidence.proofs.proof_scripts.script.+walk.Goals as goal
 use Rattle.tasks.proofs.outside.Passed.{no_value}
 
@@ -169,7 +169,7 @@ walk-returns-in_ok-added-in_default-clause-derived t c =
     record {
       refutes = z.refutes;
       consumes = subst (Consumes F (lines_at s c.args.lines.now) (T ∷ [])) (sym z.is)
-          (consumes_more F T s c.args.lines.now rest c.in-Some.line.now q z.behind _ (λ g k h. subst (λ (y : List (List Tree)). Follows g F (lines_at s rest) (y ++ k)) under (o.opens g (lines_at s rest) k (opened g F T k s c.args.lines.now rest c.in-Some.line.now q h))) z.consumes);
+          (consumes_more F T s c.args.lines.now rest c.in-Some.line.now q z.following _ (λ g k h. subst (λ (y : List (List Tree)). Follows g F (lines_at s rest) (y ++ k)) under (o.opens g (lines_at s rest) k (opened g F T k s c.args.lines.now rest c.in-Some.line.now q h))) z.consumes);
       some = omega (arith, z.is);
       within = omega (arith, z.is, z.within, n);
     }) c.by_word.ensures.derived
@@ -207,7 +207,7 @@ by_word-by_rule-requires-clause-added t c =
     let s = d.trees in
     let F = c.args.front.now in
     let T = c.args.tail.now in
-    let r = rule_added d d1 (trees_at s F) (trees_at s T) (rule_behind c.args.before (word_rule s c.args.word)) (all_added s c.args.added.now) _ c.premises.new.steps.items x.task c.new-steps.ensures.items c.requires.rule c.in_ok-used.ensures.derived.refute in
+    let r = rule_added d d1 (trees_at s F) (trees_at s T) (rule_past c.args.before (word_rule s c.args.word)) (all_added s c.args.added.now) _ c.premises.new.steps.items x.task c.new-steps.ensures.items c.requires.rule c.in_ok-used.ensures.derived.refute in
     rw (same d d1 x F c.requires.front, same d d1 x T c.requires.tail, c.rule_of.ensures.tree d1.trees, word_same d d1 x c.args.word c.requires.word, c.deref.ensures.value) r
 
 pub by_word-returns-in_err-used-clause-derived : goal.by_word-returns-in_err-used-clause-derived
@@ -225,7 +225,7 @@ by_word-returns-in_err-step-clause-grows t c = Extends_trans _ _ _ c.in_ok-used.
 pub by_word-returns-clause-derived : goal.by_word-returns-clause-derived
 by_word-returns-clause-derived t c = record {
   refutes = back c.args.draft.now c.premises.new.draft c.in_ok-used.ensures.grows c.args.front.now c.args.tail.now c.requires.front c.requires.tail c.by_rule.new.draft c.in_ok-step.step c.in_ok-step.ensures.refutes;
-  behind = c.in_ok-used.used;
+  following = c.in_ok-used.used;
   is = omega arith;
   consumes = c.in_ok-used.ensures.derived.consumes;
   within = c.in_ok-used.ensures.derived.within;
@@ -271,7 +271,7 @@ premises-premises-requires t c =
     let o = subst (CanFollow d F (lines_at s c.args.lines.now)) (sequents_are d c.args.added.now rest fs q T) c.requires.follow in
     let used = wider_consumes d [] c.args.tail.now w (ids_of fs) e F (lines_at s c.args.lines.now) c.in_ok-made-in-Some.made.used r.consumes in
     let g = follows_later d d1 x F (lines_at s b) _ (second_follows d F s c.args.lines.now b ((T ++ trees_at s (ids_of fs)) ∷ []) (sequents_under T (all_added s rest)) c.in_ok-made-in-Some.made.used c.split_at.ensures.back used o) in
-    let held = behind_held d c.args.lines.now b c.in_ok-made-in-Some.made.used c.split_at.ensures.back c.requires.lines in
+    let held = after_held d c.args.lines.now b c.in_ok-made-in-Some.made.used c.split_at.ensures.back c.requires.lines in
     let added = rest_added d c.args.added.now rest fs q c.requires.added in (
       omega (arith, c.split_at.ensures.back_len, r.some, r.within, length-map c.args.lines.now (script_line_at s)),
       (
@@ -338,7 +338,7 @@ premises-returns-in_ok-more-in-Some-clause-derived t c =
     let e : w ≡ c.args.tail.now ++ ids_of fs = c.deref.ensures.value ∙ c.in_ok-all-in-Some.ensures in
     let m = wider_trees d [] c.args.tail.now w (ids_of fs) e in
     let used = wider_consumes d [] c.args.tail.now w (ids_of fs) e F (lines_at s c.args.lines.now) c.in_ok-made-in-Some.made.used r.consumes in
-    let held = behind_held d c.args.lines.now b c.in_ok-made-in-Some.made.used c.split_at.ensures.back c.requires.lines in
+    let held = after_held d c.args.lines.now b c.in_ok-made-in-Some.made.used c.split_at.ensures.back c.requires.lines in
     let added = rest_added d c.args.added.now rest fs q c.requires.added in
     let v = rw (same d d1 x c.args.front.now c.requires.front, same d d1 x c.args.tail.now c.requires.tail, all_same d d1 x rest added, lines_same d d1 x b held) at c.in_ok-more-in-Some.ensures.derived in
     let n : length (lines_at s b) ≡ length b = length-map b (script_line_at s) in

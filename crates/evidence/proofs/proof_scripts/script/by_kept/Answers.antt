@@ -7,7 +7,7 @@ use Rattle.tasks.specs.Meaning.{trees_at}
 use Rattle.evidence.specs.Drafts.{Refutes}
 use Rattle.evidence.proofs.Formulas.{both_formulas}
 use Rattle.evidence.specs.proof_scripts.Scripts.{places_of}
-use Rattle.evidence.proofs.proof_scripts.Following.{kept_fits, kept_behind}
+use Rattle.evidence.proofs.proof_scripts.Following.{kept_fits, kept_after}
 use Rattle.evidence.proofs.proof_scripts.script.by_kept.Goals as goal
 
 pub places_after-requires : goal.places_after-requires
@@ -22,7 +22,7 @@ keep-requires-clause-sequent c = both_formulas c.args.draft.now c.args.front.now
 pub keep-requires-clause-kept : goal.keep-requires-clause-kept
 keep-requires-clause-kept c =
     let n = c.deref-2.ensures.value ∙ c.in_ok-places.ensures in
-    kept_behind c.args.draft.now c.args.front.now c.args.tail.now c.deref.result.now (places_of c.args.places) c.deref-2.result.now c.args.step (c.deref.ensures.value ∙ c.in_ok-sequent.ensures) n c.requires.kept
+    kept_after c.args.draft.now c.args.front.now c.args.tail.now c.deref.result.now (places_of c.args.places) c.deref-2.result.now c.args.step (c.deref.ensures.value ∙ c.in_ok-sequent.ensures) n c.requires.kept
 
 pub returns-clause-refutes : goal.returns-clause-refutes
 returns-clause-refutes c =

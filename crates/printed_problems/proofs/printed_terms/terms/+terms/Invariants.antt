@@ -1,7 +1,7 @@
 use Rattle.std.proofs.Common.{◌≡◌, ◌+◌, ◌*◌, ◌++◌, map, drop, max}
 use Rattle.tasks.specs.Meaning.{trees_at}
 use Rattle.printed_problems.specs.Templates.{by_pieces}
-use Rattle.printed_problems.specs.printed_terms.Texts.{each_behind, term_text}
+use Rattle.printed_problems.specs.printed_terms.Texts.{each_after, term_text}
 use Rattle.printed_problems.specs.printed_terms.Meaning.{printing}
 use Rattle.printed_problems.proofs.printed_terms.terms.+terms.Given as goal
 
@@ -40,7 +40,7 @@ decreases-push_let l = 8 * max l.value.0 l.body.0 + 8
 
 abbrev pub invariant-push_each-loop-arg : goal.invariant-push_each-loop-arg
 invariant-push_each-loop-arg l =
-    l.out.items ++ each_behind l.separator (map (term_text (printing l.c) l.depth) (trees_at l.c.store.now (drop l.arg-index l.args))) ≡ l.fn.out.items ++ each_behind l.separator (map (term_text (printing l.c) l.depth) (trees_at l.c.store.now l.args))
+    l.out.items ++ each_after l.separator (map (term_text (printing l.c) l.depth) (trees_at l.c.store.now (drop l.arg-index l.args))) ≡ l.fn.out.items ++ each_after l.separator (map (term_text (printing l.c) l.depth) (trees_at l.c.store.now l.args))
 
 abbrev pub invariant-push_pieces-loop-piece : goal.invariant-push_pieces-loop-piece
 invariant-push_pieces-loop-piece l =

@@ -24,7 +24,7 @@ returns-in-Some-after_equation-clause-is t c =
     c.after_tests-in-Some-after_equation.ensures.is
 
 pub returns-in-Some-after_equation-clause-can : goal.returns-in-Some-after_equation-clause-can
-returns-in-Some-after_equation-clause-can t c behind h =
+returns-in-Some-after_equation-clause-can t c following h =
     let x = c.args.x.now in
     let s = x.store.now in
     let g = task_of x in
@@ -32,14 +32,14 @@ returns-in-Some-after_equation-clause-can t c behind h =
     let a = asked.asked_at g s c.first_asked-asked-in-Some-made.result in
     let made = ap (option_map (tree_at s)) c.in-Some-made.is in
     let rest = inner g q.constructor (tree_at s q.types) (tree_at s q.parts) (tree_at s q.field-3) (tree_at s c.args.pattern) a (list_at g s c.args.list) c.projections.result.now
-    q.ensures.tree c.first_asked-asked-in-Some-made.ensures.tree c.projections.ensures behind in
+    q.ensures.tree c.first_asked-asked-in-Some-made.ensures.tree c.projections.ensures following in
     let there = from_here g q.constructor (tree_at s q.types) (tree_at s q.parts) (tree_at s q.field-3) (tree_at s c.args.pattern) a (list_at g s c.args.list) c.projections.result.now
-    q.ensures.tree c.first_asked-asked-in-Some-made.ensures.tree c.projections.ensures _ behind h in
+    q.ensures.tree c.first_asked-asked-in-Some-made.ensures.tree c.projections.ensures _ following h in
     let found : Some (option_map (tree_at s) c.in-Some-after_equation.inner) ≡ Some rest = c.in-Some-after_equation.ensures.can rest (sym made ∙ there) in
-    c.after_tests-in-Some-after_equation.ensures.can behind (un_some _ _ found)
+    c.after_tests-in-Some-after_equation.ensures.can following (un_some _ _ found)
 
 pub returns-in-None-after_equation-clause-can : goal.returns-in-None-after_equation-clause-can
-returns-in-None-after_equation-clause-can t c behind h =
+returns-in-None-after_equation-clause-can t c following h =
     let x = c.args.x.now in
     let s = x.store.now in
     let g = task_of x in
@@ -47,9 +47,9 @@ returns-in-None-after_equation-clause-can t c behind h =
     let a = asked.asked_at g s c.first_asked-asked-in-Some-made.result in
     let made = ap (option_map (tree_at s)) c.in-Some-made.is in
     let rest = inner g q.constructor (tree_at s q.types) (tree_at s q.parts) (tree_at s q.field-3) (tree_at s c.args.pattern) a (list_at g s c.args.list) (constructor_projections g q.constructor)
-    q.ensures.tree c.first_asked-asked-in-Some-made.ensures.tree refl behind in
+    q.ensures.tree c.first_asked-asked-in-Some-made.ensures.tree refl following in
     let there = from_here g q.constructor (tree_at s q.types) (tree_at s q.parts) (tree_at s q.field-3) (tree_at s c.args.pattern) a (list_at g s c.args.list) (constructor_projections g q.constructor)
-    q.ensures.tree c.first_asked-asked-in-Some-made.ensures.tree refl _ behind h in
+    q.ensures.tree c.first_asked-asked-in-Some-made.ensures.tree refl _ following h in
     let found : None ≡ Some rest = c.in-None-after_equation.ensures.can rest (sym made ∙ there) in
     absurd (cc found)
 

@@ -11,15 +11,15 @@ returns-then-variable_has-clause-can t c k =
 pub returns-then-variables_have-clause-is : goal.returns-then-variables_have-clause-is
 returns-then-variables_have-clause-is t c v =
     let s = c.args.store.now in
-    cell_at c.args.depth c.pattern_variables.result c.saturating_add-behind.result (tree_at s c.in-Cell.a) (tree_at s c.in-Cell.b) (tree_at s c.args.pattern) (tree_at s c.args.e) c.in-Cell.ensures.tree c.in-Cell.ensures.sorted c.pattern_variables.ensures c.saturating_add-behind.ensures
+    cell_at c.args.depth c.pattern_variables.result c.saturating_add-following.result (tree_at s c.in-Cell.a) (tree_at s c.in-Cell.b) (tree_at s c.args.pattern) (tree_at s c.args.e) c.in-Cell.ensures.tree c.in-Cell.ensures.sorted c.pattern_variables.ensures c.saturating_add-following.ensures
     (c.variables_have-in-Cell.ensures.is c.if-variables_have.true) (c.variables_have-then-variables_have.ensures.is v)
 
 pub returns-then-variables_have-clause-can : goal.returns-then-variables_have-clause-can
 returns-then-variables_have-clause-can t c k =
     let s = c.args.store.now in
-    c.variables_have-then-variables_have.ensures.can (cell_can c.args.depth c.pattern_variables.result c.saturating_add-behind.result (tree_at s c.in-Cell.a) (tree_at s c.in-Cell.b) (tree_at s c.args.pattern) (tree_at s c.args.e) c.in-Cell.ensures.tree c.in-Cell.ensures.sorted c.pattern_variables.ensures c.saturating_add-behind.ensures k).1
+    c.variables_have-then-variables_have.ensures.can (cell_can c.args.depth c.pattern_variables.result c.saturating_add-following.result (tree_at s c.in-Cell.a) (tree_at s c.in-Cell.b) (tree_at s c.args.pattern) (tree_at s c.args.e) c.in-Cell.ensures.tree c.in-Cell.ensures.sorted c.pattern_variables.ensures c.saturating_add-following.ensures k).1
 
 pub returns-else-variables_have-clause-can : goal.returns-else-variables_have-clause-can
 returns-else-variables_have-clause-can t c k =
     let s = c.args.store.now in
-    c.variables_have-in-Cell.ensures.can (cell_can c.args.depth c.pattern_variables.result c.saturating_add-behind.result (tree_at s c.in-Cell.a) (tree_at s c.in-Cell.b) (tree_at s c.args.pattern) (tree_at s c.args.e) c.in-Cell.ensures.tree c.in-Cell.ensures.sorted c.pattern_variables.ensures c.saturating_add-behind.ensures k).0
+    c.variables_have-in-Cell.ensures.can (cell_can c.args.depth c.pattern_variables.result c.saturating_add-following.result (tree_at s c.in-Cell.a) (tree_at s c.in-Cell.b) (tree_at s c.args.pattern) (tree_at s c.args.e) c.in-Cell.ensures.tree c.in-Cell.ensures.sorted c.pattern_variables.ensures c.saturating_add-following.ensures k).0

@@ -7,14 +7,14 @@ use Rattle.congruence.specs.Alike.{Shows}
 use Rattle.congruence.specs.declared.applications.SymbolAt.TheVariants as symbol
 use Rattle.congruence.proofs.Later.{tree_later, closed_later, pair_later, shows_at}
 use Rattle.congruence.proofs.ApplicationHoles.{symbol_later}
-use Rattle.tr_recursion.proofs.constructor_matches.Replaced.{terms_held, terms_later, terms_sorted, end_list, behind_listed, application_is}
+use Rattle.tr_recursion.proofs.constructor_matches.Replaced.{terms_held, terms_later, terms_sorted, end_list, after_listed, application_is}
 use Rattle.tr_recursion.proofs.constructor_matches.replacing.replace_in_application.Goals as goal
 
 pub list_after-requires-clause-before_held : goal.list_after-requires-clause-before_held
-list_after-requires-clause-before_held c = terms_held c.add.new.self c.args.behind.now (terms_later c.args.draft.now c.add.new.self (AddsTrees_extends _ _ c.in_ok-end.ensures.grows) c.args.behind.now c.requires.behind)
+list_after-requires-clause-before_held c = terms_held c.add.new.self c.args.following.now (terms_later c.args.draft.now c.add.new.self (AddsTrees_extends _ _ c.in_ok-end.ensures.grows) c.args.following.now c.requires.following)
 
 pub list_after-requires-clause-before_terms : goal.list_after-requires-clause-before_terms
-list_after-requires-clause-before_terms c = terms_sorted c.add.new.self c.args.behind.now (terms_later c.args.draft.now c.add.new.self (AddsTrees_extends _ _ c.in_ok-end.ensures.grows) c.args.behind.now c.requires.behind)
+list_after-requires-clause-before_terms c = terms_sorted c.add.new.self c.args.following.now (terms_later c.args.draft.now c.add.new.self (AddsTrees_extends _ _ c.in_ok-end.ensures.grows) c.args.following.now c.requires.following)
 
 pub list_after-requires-clause-terms : goal.list_after-requires-clause-terms
 list_after-requires-clause-terms c = end_list (tree_at c.add.new.self.trees c.in_ok-end.end) c.in_ok-end.ensures.tree
@@ -43,8 +43,8 @@ replace_argument-requires-clause-left_is c =
     let d1 = c.add.new.self in
     let d2 = c.list_after.new.draft in
     let x = AddsTrees_extends d d2 (AddsTrees_trans _ _ _ c.in_ok-end.ensures.grows c.in_ok-rest.ensures.grows) in
-    let r = behind_listed d d1 (AddsTrees_extends _ _ c.in_ok-end.ensures.grows) c.args.behind.now c.requires.behind (tree_at d1.trees c.in_ok-end.end) c.in_ok-end.ensures.tree (tree_at d2.trees c.in_ok-rest.rest) c.in_ok-rest.ensures.tree in
-    tree_later d d2 x c.args.left c.requires.left.held ∙ c.requires.left_is ∙ sym (application_is d d2 x c.args.function c.args.types c.args.ty c.requires.function c.args.before.now c.requires.before c.args.behind.now (tree_at d2.trees c.args.a) (tree_at d.trees c.args.a) (tree_later d d2 x c.args.a c.requires.pair.left.held) (tree_at d2.trees c.in_ok-rest.rest) r)
+    let r = after_listed d d1 (AddsTrees_extends _ _ c.in_ok-end.ensures.grows) c.args.following.now c.requires.following (tree_at d1.trees c.in_ok-end.end) c.in_ok-end.ensures.tree (tree_at d2.trees c.in_ok-rest.rest) c.in_ok-rest.ensures.tree in
+    tree_later d d2 x c.args.left c.requires.left.held ∙ c.requires.left_is ∙ sym (application_is d d2 x c.args.function c.args.types c.args.ty c.requires.function c.args.before.now c.requires.before c.args.following.now (tree_at d2.trees c.args.a) (tree_at d.trees c.args.a) (tree_later d d2 x c.args.a c.requires.pair.left.held) (tree_at d2.trees c.in_ok-rest.rest) r)
 
 pub replace_argument-requires-clause-shows : goal.replace_argument-requires-clause-shows
 replace_argument-requires-clause-shows c =
@@ -56,9 +56,9 @@ returns-clause-right_is c =
     let d1 = c.add.new.self in
     let d2 = c.list_after.new.draft in
     let x = AddsTrees_extends d d2 (AddsTrees_trans _ _ _ c.in_ok-end.ensures.grows c.in_ok-rest.ensures.grows) in
-    let r = behind_listed d d1 (AddsTrees_extends _ _ c.in_ok-end.ensures.grows) c.args.behind.now c.requires.behind (tree_at d1.trees c.in_ok-end.end) c.in_ok-end.ensures.tree (tree_at d2.trees c.in_ok-rest.rest) c.in_ok-rest.ensures.tree in
+    let r = after_listed d d1 (AddsTrees_extends _ _ c.in_ok-end.ensures.grows) c.args.following.now c.requires.following (tree_at d1.trees c.in_ok-end.end) c.in_ok-end.ensures.tree (tree_at d2.trees c.in_ok-rest.rest) c.in_ok-rest.ensures.tree in
     c.in_ok-made.ensures.right_is
-    ∙ application_is d d2 x c.args.function c.args.types c.args.ty c.requires.function c.args.before.now c.requires.before c.args.behind.now (tree_at d2.trees c.args.b) (tree_at d.trees c.args.b) (tree_later d d2 x c.args.b c.requires.pair.right.held) (tree_at d2.trees c.in_ok-rest.rest) r
+    ∙ application_is d d2 x c.args.function c.args.types c.args.ty c.requires.function c.args.before.now c.requires.before c.args.following.now (tree_at d2.trees c.args.b) (tree_at d.trees c.args.b) (tree_later d d2 x c.args.b c.requires.pair.right.held) (tree_at d2.trees c.in_ok-rest.rest) r
 
 pub returns-clause-shows : goal.returns-clause-shows
 returns-clause-shows c =

@@ -1,7 +1,7 @@
 use Rattle.std.proofs.Common.{Some, ap, sym, ◌∙◌, option_map}
 use Rattle.checks.specs.match_cover.Meaning.{shapes_of}
 use Rattle.checks.specs.match_cover.Shapes.{unspecified, more_shapes}
-use Rattle.checks.proofs.match_cover.shape.behind_unknown.Goals as goal
+use Rattle.checks.proofs.match_cover.shape.after_unknown.Goals as goal
 
 pub returns-in_ok-all-in-Some : goal.returns-in_ok-all-in-Some
 returns-in_ok-all-in-Some c =
