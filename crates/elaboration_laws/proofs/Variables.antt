@@ -7,7 +7,7 @@ use Rattle.elab_groups.specs.tokens_why.declared.terminal.Terminal.TheVariants a
 use Rattle.elab_groups.specs.surface.Lexeme.{Word, Lexeme, mark, lx}
 use Rattle.elab_groups.specs.surface.Forms.{SyntaxForms, Called, write_called, semicolon_after, write_form, form_row, form_list, form_tail}
 use Rattle.elab_groups.specs.surface.Forms as surface
-use Rattle.elab_groups.specs.surface.Trees.{write, write_op, write_row, write_list, write_tail, tree_fields, tree_fields_tail, write_branches, write_others, write_trigger, write_terms, terms_tail, write_binder, binder_tail, binder_list, name_row, type_part, alternative_list, bar_before, separator, quantifier, AreNamedTrees, IsLevel, AreLevel, AreAtoms, AreBranches, IsTrigger, AreTerms}
+use Rattle.elab_groups.specs.surface.Trees.{write, write_op, write_row, write_list, write_tail, tree_fields, tree_fields_tail, write_branches, write_others, write_trigger, write_terms, terms_tail, write_binder, binder_tail, binder_list, name_row, type_part, alternative_list, bar_before, separator, quantifier}
 use Rattle.elab_groups.specs.surface.Trees as tree
 use Rattle.elab_groups.specs.name_resolution.Abstract.{OperatorMeaning, connective_operator, equality_operator, symbol_operator, operator_meaning, operated, Pattern, Patterns, Alternatives, Expression, wildcard_pattern, variable_pattern, constructor_pattern, tuple_pattern, alias_pattern, record_pattern, no_patterns, more_patterns, no_alternatives, more_alternatives, type_expression, type_expressions, grouped_forms, count_forms, count_expressions, expression, expressions, match_branches, triggers, grouped, let_name, let_by, binder, branch_alternatives, first_tree, first_form, side_by_side}
 use Rattle.elab_groups.specs.name_resolution.Where.{place_of}
@@ -133,128 +133,131 @@ module _ (P : Word → Type 0) where
   let_told (Some x) i ps a b s h k = k (seen s a) h
   let_told None i ps a b s h k = k (alternatives_seen (seen s a) (more_alternatives (first_form ps) (side_by_side ps) no_alternatives)) (alternatives_same (more_alternatives (first_form ps) (side_by_side ps) no_alternatives) (seen s a) h)
 
-  atoms_level : (ts : tree.SyntaxTrees) → AreAtoms ts → AreLevel ts
-  atoms_level tree.none v = v
-  atoms_level (tree.more e es) v = (v.1, atoms_level es v.2)
-
   mutual
-    tree_told : (e : tree.SyntaxTree) (s : SeenTree) → IsLevel e → Are (write e) → VQ s → VQ (seen s (expression e))
-    tree_told (tree.apply a c ts) s v q h = trees_told ts s (atoms_level ts v.1) (back_at (write_called c) (write_row ts) q) h
-    tree_told (tree.literal a w) s v q h = h
-    tree_told (tree.truth a) s v q h = h
-    tree_told (tree.falsity a) s v q h = h
-    tree_told (tree.group a ts) s v q h = grouped_told ts a.main s v (front_at (write_list ts) (mark t.RParen ∷ []) (tail_at (mark t.LParen) (write_list ts ++ (mark t.RParen ∷ [])) q)) h
-    tree_told (tree.cast a e f) s v q h =
+    tree_told : (e : tree.SyntaxTree) (s : SeenTree) → Are (write e) → VQ s → VQ (seen s (expression e))
+    tree_told (tree.apply a c ts) s q h = trees_told ts s (back_at (write_called c) (write_row ts) q) h
+    tree_told (tree.literal a w) s q h = h
+    tree_told (tree.truth a) s q h = h
+    tree_told (tree.falsity a) s q h = h
+    tree_told (tree.group a ts) s q h = grouped_told ts a.main s (front_at (write_list ts) (mark t.RParen ∷ []) (tail_at (mark t.LParen) (write_list ts ++ (mark t.RParen ∷ [])) q)) h
+    tree_told (tree.cast a e f) s q h =
         let end = mark t.RParen ∷ [] in
         let r = tail_at (mark t.LParen) (write e ++ (mark t.Colon ∷ (write_form f ++ end))) q in
         let u = tail_at (mark t.Colon) (write_form f ++ end) (back_at (write e) (mark t.Colon ∷ (write_form f ++ end)) r) in
-        form_told f (seen s (expression e)) (front_at (write_form f) end u) (tree_told e s v.0 (front_at (write e) (mark t.Colon ∷ (write_form f ++ end)) r) h)
-    tree_told (tree.prefixed a o e) s v q h = tree_told e s v.3 (tail_at (write_op o) (write e) q) h
-    tree_told (tree.negation a e) s v q h = tree_told e s v.1 (tail_at (mark t.NotWord) (write e) q) h
-    tree_told (tree.binary a e o f) s v q h =
+        form_told f (seen s (expression e)) (front_at (write_form f) end u) (tree_told e s (front_at (write e) (mark t.Colon ∷ (write_form f ++ end)) r) h)
+    tree_told (tree.prefixed a o e) s q h = tree_told e s (tail_at (write_op o) (write e) q) h
+    tree_told (tree.negation a e) s q h = tree_told e s (tail_at (mark t.NotWord) (write e) q) h
+    tree_told (tree.binary a e o f) s q h =
         let same = operated_seen (operator_meaning o.terminal o.text) a.main (expression e) (expression f) s in
         let r = tail_at (write_op o) (write f) (back_at (write e) (write_op o ∷ write f) q) in
-        subst VQ (sym same) (tree_told f (seen s (expression e)) v.6 r (tree_told e s v.5 (front_at (write e) (write_op o ∷ write f) q) h))
-    tree_told (tree.choice a c e f) s v q h =
+        subst VQ (sym same) (tree_told f (seen s (expression e)) r (tree_told e s (front_at (write e) (write_op o ∷ write f) q) h))
+    tree_told (tree.choice a c e f) s q h =
         let last = mark t.ElseWord ∷ write f in
         let mid = mark t.ThenWord ∷ (write e ++ last) in
         let r = tail_at (mark t.IfWord) (write c ++ mid) q in
         let u = tail_at (mark t.ThenWord) (write e ++ last) (back_at (write c) mid r) in
         let z = tail_at (mark t.ElseWord) (write f) (back_at (write e) last u) in
-        tree_told f (seen (seen s (expression c)) (expression e)) v.2 z (tree_told e (seen s (expression c)) v.1 (front_at (write e) last u) (tree_told c s v.0 (front_at (write c) mid r) h))
-    tree_told (tree.cases a es bar bs) s v q h =
+        tree_told f (seen (seen s (expression c)) (expression e)) z (tree_told e (seen s (expression c)) (front_at (write e) last u) (tree_told c s (front_at (write c) mid r) h))
+    tree_told (tree.cases a es bar bs) s q h =
         let end = mark t.EndWord ∷ [] in
         let inner = bar_before bar ++ (write_branches bs ++ end) in
         let r = tail_at (mark t.MatchWord) (write_list es ++ (mark t.WithWord ∷ inner)) q in
         let u = back_at (bar_before bar) (write_branches bs ++ end) (tail_at (mark t.WithWord) inner (back_at (write_list es) (mark t.WithWord ∷ inner) r)) in
-        branches_told bs (seen s (grouped (first_tree es) (expressions es))) v.3 (front_at (write_branches bs) end u) (grouped_told es (first_tree es) s v.1 (front_at (write_list es) (mark t.WithWord ∷ inner) r) h)
-    tree_told (tree.access a e c) s v q h = tree_told e s v.1 (front_at (write e) (mark t.Dot ∷ write_called c) q) h
-    tree_told (tree.fielded_tree a cs es semi) s v q h =
+        branches_told bs (seen s (grouped (first_tree es) (expressions es))) (front_at (write_branches bs) end u) (grouped_told es (first_tree es) s (front_at (write_list es) (mark t.WithWord ∷ inner) r) h)
+    tree_told (tree.access a e c) s q h = tree_told e s (front_at (write e) (mark t.Dot ∷ write_called c) q) h
+    tree_told (tree.fielded_tree a cs es semi) s q h =
         let end = semicolon_after semi ++ (mark t.RBrace ∷ []) in
-        fields_told cs es s v.1 v.2 (front_at (tree_fields cs es) end (tail_at (mark t.LBrace) (tree_fields cs es ++ end) q)) h
-    tree_told (tree.binding a ps e f) s v q h =
+        fields_told cs es s (front_at (tree_fields cs es) end (tail_at (mark t.LBrace) (tree_fields cs es ++ end) q)) h
+    tree_told (tree.binding a ps e f) s q h =
         let last = mark t.InWord ∷ write f in
         let mid = mark t.Equal ∷ (write e ++ last) in
         let r = tail_at (mark t.Equal) (write e ++ last) (back_at (form_list ps) mid (tail_at (mark t.LetWord) (form_list ps ++ mid) q)) in
         let u = tail_at (mark t.InWord) (write f) (back_at (write e) last r) in
-        let_told (let_name ps) a.main ps (expression e) (expression f) s (tree_told e s v.2 (front_at (write e) last r) h) (λ s' h'. tree_told f s' v.3 u h')
-    tree_told (tree.quantified a all bs g e) s v q h =
+        let_told (let_name ps) a.main ps (expression e) (expression f) s (tree_told e s (front_at (write e) last r) h) (λ s' h'. tree_told f s' u h')
+    tree_told (tree.quantified a all bs g e) s q h =
         let last = mark t.Dot ∷ write e in
         let r = tail_at (mark (quantifier all)) (binder_list bs ++ (write_trigger g ++ last)) q in
         let u = back_at (binder_list bs) (write_trigger g ++ last) r in
         let z = tail_at (mark t.Dot) (write e) (back_at (write_trigger g) last u) in
         let s1 = binders_seen s (map binder bs) in
-        tree_told e (all_seen s1 (triggers g)) v.3 z (trigger_told g s1 v.2 (front_at (write_trigger g) last u) (all_binders_told bs s (front_at (binder_list bs) (write_trigger g ++ last) r) h))
+        tree_told e (all_seen s1 (triggers g)) z (trigger_told g s1 (front_at (write_trigger g) last u) (all_binders_told bs s (front_at (binder_list bs) (write_trigger g ++ last) r) h))
 
-    trees_told : (es : tree.SyntaxTrees) (s : SeenTree) → AreLevel es → Are (write_row es) → VQ s → VQ (all_seen s (expressions es))
-    trees_told tree.none s v q h = h
-    trees_told (tree.more e es) s v q h = trees_told es (seen s (expression e)) v.1 (back_at (write e) (write_row es) q) (tree_told e s v.0 (front_at (write e) (write_row es) q) h)
+    trees_told : (es : tree.SyntaxTrees) (s : SeenTree) → Are (write_row es) → VQ s → VQ (all_seen s (expressions es))
+    trees_told tree.none s q h = h
+    trees_told (tree.more e es) s q h = trees_told es (seen s (expression e)) (back_at (write e) (write_row es) q) (tree_told e s (front_at (write e) (write_row es) q) h)
 
-    fields_told : (cs : List Called) (es : tree.SyntaxTrees) (s : SeenTree) → AreNamedTrees cs es → AreLevel es → Are (tree_fields cs es) → VQ s → VQ (all_seen s (expressions es))
-    fields_told [] tree.none s n v q h = h
-    fields_told [] (tree.more e es) s n v q h = absurd n
-    fields_told (c ∷ cs) tree.none s n v q h = h
-    fields_told (c ∷ cs) (tree.more e es) s n v q h =
+    fields_told : (cs : List Called) (es : tree.SyntaxTrees) (s : SeenTree) → Are (tree_fields cs es) → VQ s → VQ (all_seen s (expressions es))
+    fields_told [] tree.none s q h = h
+    fields_told (c ∷ cs) tree.none s q h = h
+    fields_told [] (tree.more e es) s q h =
+        let rest = tree_fields_tail [] es in
+        fields_tail_told [] es (seen s (expression e)) (back_at (write e) rest q) (tree_told e s (front_at (write e) rest q) h)
+    fields_told (c ∷ cs) (tree.more e es) s q h =
         let rest = tree_fields_tail cs es in
         let r = tail_at (mark t.Equal) (write e ++ rest) (back_at (write_called c) (mark t.Equal ∷ (write e ++ rest)) q) in
-        fields_tail_told cs es (seen s (expression e)) n.1 v.1 (back_at (write e) rest r) (tree_told e s v.0 (front_at (write e) rest r) h)
+        fields_tail_told cs es (seen s (expression e)) (back_at (write e) rest r) (tree_told e s (front_at (write e) rest r) h)
 
-    fields_tail_told : (cs : List Called) (es : tree.SyntaxTrees) (s : SeenTree) → AreNamedTrees cs es → AreLevel es → Are (tree_fields_tail cs es) → VQ s → VQ (all_seen s (expressions es))
-    fields_tail_told [] tree.none s n v q h = h
-    fields_tail_told [] (tree.more e es) s n v q h = absurd n
-    fields_tail_told (c ∷ cs) tree.none s n v q h = h
-    fields_tail_told (c ∷ cs) (tree.more e es) s n v q h =
+    fields_tail_told : (cs : List Called) (es : tree.SyntaxTrees) (s : SeenTree) → Are (tree_fields_tail cs es) → VQ s → VQ (all_seen s (expressions es))
+    fields_tail_told [] tree.none s q h = h
+    fields_tail_told (c ∷ cs) tree.none s q h = h
+    fields_tail_told [] (tree.more e es) s q h =
+        let rest = tree_fields_tail [] es in
+        let r = tail_at (mark t.Semi) (write e ++ rest) q in
+        fields_tail_told [] es (seen s (expression e)) (back_at (write e) rest r) (tree_told e s (front_at (write e) rest r) h)
+    fields_tail_told (c ∷ cs) (tree.more e es) s q h =
         let rest = tree_fields_tail cs es in
         let o = tail_at (mark t.Semi) (write_called c ++ (mark t.Equal ∷ (write e ++ rest))) q in
         let r = tail_at (mark t.Equal) (write e ++ rest) (back_at (write_called c) (mark t.Equal ∷ (write e ++ rest)) o) in
-        fields_tail_told cs es (seen s (expression e)) n.1 v.1 (back_at (write e) rest r) (tree_told e s v.0 (front_at (write e) rest r) h)
+        fields_tail_told cs es (seen s (expression e)) (back_at (write e) rest r) (tree_told e s (front_at (write e) rest r) h)
 
-    tail_told : (es : tree.SyntaxTrees) (s : SeenTree) → AreLevel es → Are (write_tail es) → VQ s → VQ (all_seen s (expressions es))
-    tail_told tree.none s v q h = h
-    tail_told (tree.more e es) s v q h =
+    tail_told : (es : tree.SyntaxTrees) (s : SeenTree) → Are (write_tail es) → VQ s → VQ (all_seen s (expressions es))
+    tail_told tree.none s q h = h
+    tail_told (tree.more e es) s q h =
         let r = tail_at (mark t.Comma) (write e ++ write_tail es) q in
-        tail_told es (seen s (expression e)) v.1 (back_at (write e) (write_tail es) r) (tree_told e s v.0 (front_at (write e) (write_tail es) r) h)
+        tail_told es (seen s (expression e)) (back_at (write e) (write_tail es) r) (tree_told e s (front_at (write e) (write_tail es) r) h)
 
-    grouped_told : (es : tree.SyntaxTrees) (i : ℕ) (s : SeenTree) → AreLevel es → Are (write_list es) → VQ s → VQ (seen s (grouped i (expressions es)))
-    grouped_told tree.none i s v q h = h
-    grouped_told (tree.more e tree.none) i s v q h = tree_told e s v.0 (front_at (write e) [] q) h
-    grouped_told (tree.more e (tree.more f es)) i s v q h =
+    grouped_told : (es : tree.SyntaxTrees) (i : ℕ) (s : SeenTree) → Are (write_list es) → VQ s → VQ (seen s (grouped i (expressions es)))
+    grouped_told tree.none i s q h = h
+    grouped_told (tree.more e tree.none) i s q h = tree_told e s (front_at (write e) [] q) h
+    grouped_told (tree.more e (tree.more f es)) i s q h =
         let rest = mark t.Comma ∷ (write f ++ write_tail es) in
         let s' = with_width (count_expressions (expressions (tree.more e (tree.more f es)))) s in
         let r = tail_at (mark t.Comma) (write f ++ write_tail es) (back_at (write e) rest q) in
-        tail_told es (seen (seen s' (expression e)) (expression f)) v.1.1 (back_at (write f) (write_tail es) r) (tree_told f (seen s' (expression e)) v.1.0 (front_at (write f) (write_tail es) r) (tree_told e s' v.0 (front_at (write e) rest q) h))
+        tail_told es (seen (seen s' (expression e)) (expression f)) (back_at (write f) (write_tail es) r) (tree_told f (seen s' (expression e)) (front_at (write f) (write_tail es) r) (tree_told e s' (front_at (write e) rest q) h))
 
-    branches_told : (bs : tree.Branches) (s : SeenTree) → AreBranches bs → Are (write_branches bs) → VQ s → VQ (branches_seen s (match_branches bs))
-    branches_told tree.no_branch s v q h = h
-    branches_told (tree.branch ps e bs) s v q h =
+    branches_told : (bs : tree.Branches) (s : SeenTree) → Are (write_branches bs) → VQ s → VQ (branches_seen s (match_branches bs))
+    branches_told tree.no_branch s q h = h
+    branches_told (tree.branch ps e bs) s q h =
         let r = tail_at (mark t.Arrow) (write e ++ write_others bs) (back_at (alternative_list ps) (mark t.Arrow ∷ (write e ++ write_others bs)) q) in
         let s1 = alternatives_seen s (branch_alternatives ps) in
-        others_told bs (seen s1 (expression e)) v.3 (back_at (write e) (write_others bs) r) (tree_told e s1 v.2 (front_at (write e) (write_others bs) r) (alternatives_same (branch_alternatives ps) s h))
+        others_told bs (seen s1 (expression e)) (back_at (write e) (write_others bs) r) (tree_told e s1 (front_at (write e) (write_others bs) r) (alternatives_same (branch_alternatives ps) s h))
 
-    others_told : (bs : tree.Branches) (s : SeenTree) → AreBranches bs → Are (write_others bs) → VQ s → VQ (branches_seen s (match_branches bs))
-    others_told tree.no_branch s v q h = h
-    others_told (tree.branch ps e bs) s v q h =
+    others_told : (bs : tree.Branches) (s : SeenTree) → Are (write_others bs) → VQ s → VQ (branches_seen s (match_branches bs))
+    others_told tree.no_branch s q h = h
+    others_told (tree.branch ps e bs) s q h =
         let inner = mark t.Arrow ∷ (write e ++ write_others bs) in
         let r = tail_at (mark t.Arrow) (write e ++ write_others bs) (back_at (alternative_list ps) inner (tail_at (mark t.Bar) (alternative_list ps ++ inner) q)) in
         let s1 = alternatives_seen s (branch_alternatives ps) in
-        others_told bs (seen s1 (expression e)) v.3 (back_at (write e) (write_others bs) r) (tree_told e s1 v.2 (front_at (write e) (write_others bs) r) (alternatives_same (branch_alternatives ps) s h))
+        others_told bs (seen s1 (expression e)) (back_at (write e) (write_others bs) r) (tree_told e s1 (front_at (write e) (write_others bs) r) (alternatives_same (branch_alternatives ps) s h))
 
-    trigger_told : (g : tree.SyntaxTrigger) (s : SeenTree) → IsTrigger g → Are (write_trigger g) → VQ s → VQ (all_seen s (triggers g))
-    trigger_told tree.untriggered s v q h = h
-    trigger_told (tree.triggered es bars) s v q h =
+    trigger_told : (g : tree.SyntaxTrigger) (s : SeenTree) → Are (write_trigger g) → VQ s → VQ (all_seen s (triggers g))
+    trigger_told tree.untriggered s q h = h
+    trigger_told (tree.triggered es bars) s q h =
         let end = mark t.RBrack ∷ [] in
-        terms_told es bars s v (front_at (write_terms es bars) end (tail_at (mark t.LBrack) (write_terms es bars ++ end) q)) h
+        terms_told es bars s (front_at (write_terms es bars) end (tail_at (mark t.LBrack) (write_terms es bars ++ end) q)) h
 
-    terms_told : (es : tree.SyntaxTrees) (bars : List Bool) (s : SeenTree) → IsTrigger (tree.triggered es bars) → Are (write_terms es bars) → VQ s → VQ (all_seen s (expressions es))
-    terms_told tree.none bars s v q h = h
-    terms_told (tree.more e es) bars s v q h = terms_tail_told es bars (seen s (expression e)) v.1 (back_at (write e) (terms_tail es bars) q) (tree_told e s v.0 (front_at (write e) (terms_tail es bars) q) h)
+    terms_told : (es : tree.SyntaxTrees) (bars : List Bool) (s : SeenTree) → Are (write_terms es bars) → VQ s → VQ (all_seen s (expressions es))
+    terms_told tree.none bars s q h = h
+    terms_told (tree.more e es) bars s q h = terms_tail_told es bars (seen s (expression e)) (back_at (write e) (terms_tail es bars) q) (tree_told e s (front_at (write e) (terms_tail es bars) q) h)
 
-    terms_tail_told : (es : tree.SyntaxTrees) (bars : List Bool) (s : SeenTree) → AreTerms es bars → Are (terms_tail es bars) → VQ s → VQ (all_seen s (expressions es))
-    terms_tail_told tree.none bars s v q h = h
-    terms_tail_told (tree.more e es) [] s v q h = absurd v
-    terms_tail_told (tree.more e es) (b ∷ bars) s v q h =
+    terms_tail_told : (es : tree.SyntaxTrees) (bars : List Bool) (s : SeenTree) → Are (terms_tail es bars) → VQ s → VQ (all_seen s (expressions es))
+    terms_tail_told tree.none bars s q h = h
+    terms_tail_told (tree.more e es) [] s q h =
+        let r = tail_at (mark t.Comma) (write e ++ terms_tail es []) q in
+        terms_tail_told es [] (seen s (expression e)) (back_at (write e) (terms_tail es []) r) (tree_told e s (front_at (write e) (terms_tail es []) r) h)
+    terms_tail_told (tree.more e es) (b ∷ bars) s q h =
         let r = tail_at (mark (separator b)) (write e ++ terms_tail es bars) q in
-        terms_tail_told es bars (seen s (expression e)) v.1 (back_at (write e) (terms_tail es bars) r) (tree_told e s v.0 (front_at (write e) (terms_tail es bars) r) h)
+        terms_tail_told es bars (seen s (expression e)) (back_at (write e) (terms_tail es bars) r) (tree_told e s (front_at (write e) (terms_tail es bars) r) h)
 
-  pub variables_told : (e : tree.SyntaxTree) → IsLevel e → Are (write e) → All P (seen unseen (expression e)).vars
-  variables_told e v q = tree_told e unseen v q (All-nil P)
+  pub variables_told : (e : tree.SyntaxTree) → Are (write e) → All P (seen unseen (expression e)).vars
+  variables_told e q = tree_told e unseen q (All-nil P)

@@ -133,8 +133,8 @@ pub fn joins_sound()
 pub fn tokens_fit()
     ensures wholes { (d : SyntaxDeclaration) → IsLevelDecl d → IsGroupWhole d }
     ensures names { (d : SyntaxDeclaration) (k : PropKind) (x : TokenName) (e : Expression)
-        → IsLevelDecl d → declaration d ≡ Some (proposition_declaration k x e)
-        → All IsQuotedLexeme (write_decl d) → All IsQuoted (proposition_seen e).vars }
+        → declaration d ≡ Some (proposition_declaration k x e) → All IsQuotedLexeme (write_decl d)
+        → All IsQuoted (proposition_seen e).vars }
     ensures quotes { (text : List ℕ) (ts : List Token) (i : ℕ) → AreTokens text ts
         → All IsQuotedLexeme (rest text ts i) }
 {}

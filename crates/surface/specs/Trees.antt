@@ -119,15 +119,18 @@ abbrev mutual
   write (quantified a all bs g e) =
       mark (quantifier all) ∷ (binder_list bs ++ (write_trigger g ++ (mark t.Dot ∷ write e)))
 
+  -- a value that no name is given for is written alone; a tree that is read has a name for each
   pub tree_fields : List Called → SyntaxTrees → List Lexeme
   tree_fields (c ∷ cs) (more e es) =
       write_called c ++ (mark t.Equal ∷ (write e ++ tree_fields_tail cs es))
-  tree_fields _ _ = []
+  tree_fields [] (more e es) = write e ++ tree_fields_tail [] es
+  tree_fields _ none = []
 
   pub tree_fields_tail : List Called → SyntaxTrees → List Lexeme
   tree_fields_tail (c ∷ cs) (more e es) =
       mark t.Semi ∷ (write_called c ++ (mark t.Equal ∷ (write e ++ tree_fields_tail cs es)))
-  tree_fields_tail _ _ = []
+  tree_fields_tail [] (more e es) = mark t.Semi ∷ (write e ++ tree_fields_tail [] es)
+  tree_fields_tail _ none = []
 
   pub write_row : SyntaxTrees → List Lexeme
   write_row none = []

@@ -6,7 +6,6 @@ use Rattle.tasks.specs.Task.{DeclarationTree}
 use Rattle.surface.specs.Lexeme.{Word}
 use Rattle.surface.specs.Declarations.{write_decl}
 use Rattle.surface.specs.Declarations as source
-use Rattle.surface.specs.DeclarationRules.{IsLevelDecl}
 use Rattle.surface.specs.declared.declarations.PropKind.{PropKind}
 use Rattle.surface.specs.declared.declarations.PropKind.TheVariants as kind
 use Rattle.elaboration_laws.specs.name_resolution.Abstract.{Expression}
@@ -62,9 +61,9 @@ proposition_words (source.clone_decl a l p n es) h = tt
 proposition_words (source.scope_decl a n ds) h = tt
 
 -- ---- a declaration
-pub declared_words : (d : source.SyntaxDeclaration) (c c' : StateTree) → IsLevelDecl d → AreWordLexemes (write_decl d) → IsDeclared d c c' → HasWordNames c → HasWordNames c'
-declared_words d c c' v q e h =
-    let names = names_written d v q in
+pub declared_words : (d : source.SyntaxDeclaration) (c c' : StateTree) → AreWordLexemes (write_decl d) → IsDeclared d c c' → HasWordNames c → HasWordNames c'
+declared_words d c c' q e h =
+    let names = names_written d q in
     let own : IsNamed e.parts = subst (λ (o : Option Declaration). IfSome o IsNamed) e.of names in
     let made = outcome_words (state_setting c) h.within e.parts e.outcome e.is own in
     let named : HasWordNames (with_named d e.outcome c) = record { symbols = All-append HasWord c.symbols e.outcome.symbols h.symbols made; within = h.within; axioms = h.axioms; known = h.known } in

@@ -17,6 +17,7 @@ use Rattle.elaboration_laws.specs.Lists.{after}
 use Rattle.elaboration_laws.specs.Moves.{IsTypedMove}
 use Rattle.elaboration_laws.proofs.MovedScopes.{opened_typed, left_typed}
 use Rattle.elaboration_laws.specs.Quoted.{IsQuotedLexeme}
+use Rattle.elaboration_laws.proofs.Quoted.{whole_in}
 use Rattle.elaboration_laws.specs.Placed.{ArePlaced}
 use Rattle.theory_states.specs.States.{OpenedTree, StateTree, visible_now}
 use Rattle.theory_states.specs.Uses.{IsTheoryUsed}
@@ -84,7 +85,7 @@ declared_good d c c' w q u h = record {
   typed = u.typed;
   placed = declared_placed d c c' h.typed.theory u.declared h.placed;
   plain = declared_plain d c c' u.declared h.plain;
-  sound = u.sound w q h.sound;
+  sound = u.sound (whole_in d w) q h.sound;
 }
 
 logical_good : (d : SyntaxDeclaration) (c c' : StateTree) → IsLevelDecl d → AreQuoted (write_decl d) → ThenStep (IsSoundlyDeclared d) IsPassed c c' → IsGood c → IsGood c'

@@ -7,7 +7,6 @@ use Rattle.surface.specs.Lexeme.{Word, Lexeme, mark, lx}
 use Rattle.surface.specs.declared.names.Name.{Name}
 use Rattle.surface.specs.declared.names.Path.{Path}
 use Rattle.surface.specs.declared.declarations.Link.{Link}
-use Rattle.surface.specs.DeclarationRules.{IsLevelDecl, AreLevelDecls}
 use Rattle.surface.specs.Declarations.{SyntaxDeclaration, SyntaxDeclarations, use_decl, clone_decl, scope_decl, no_decls, more_decls, link_words, path_from, write_path, renamed, substitution, write_decl, write_decls}
 use Rattle.theory_states.specs.States.{StateTree}
 use Rattle.theory_states.specs.Uses.{last_part, alias_text, IsTheoryUsed}
@@ -67,22 +66,22 @@ opened_words n c c' w o h = subst HasWordNames (sym o.is) (record {
 
 -- ---- declarations
 mutual
-  typed_words : (d : SyntaxDeclaration) (c c' : StateTree) → IsLevelDecl d → Are (write_decl d) → IsDeclarationTyped d c c' → HasWordNames c → HasWordNames c'
-  typed_words (use_decl a l p n) c c' v q s h = passed_words s.between c' s.second (used_words l p n c s.between s.first h)
-  typed_words (clone_decl a l p n es) c c' v q s h =
+  typed_words : (d : SyntaxDeclaration) (c c' : StateTree) → Are (write_decl d) → IsDeclarationTyped d c c' → HasWordNames c → HasWordNames c'
+  typed_words (use_decl a l p n) c c' q s h = passed_words s.between c' s.second (used_words l p n c s.between s.first h)
+  typed_words (clone_decl a l p n es) c c' q s h =
       let last = renamed n ++ substitution es in
       let r = back_at (link_words l) (write_path p.parts ++ last) (tail_at (mark t.CloneWord) (link_words l ++ (write_path p.parts ++ last)) q) in
       let path = last_word p.parts (front_at (write_path p.parts) last r) in
       let alias = alias_word n (front_at (renamed n) (substitution es) (back_at (write_path p.parts) last r)) in
       passed_words s.between c' s.second (cloned_words l p n es c s.between path alias s.first h)
-  typed_words (scope_decl a n ds) c c' v q s h =
+  typed_words (scope_decl a n ds) c c' q s h =
       let end = mark t.EndWord ∷ [] in
       let inner = front_at (write_decls ds) end (tail_at (lx t.Uident n.text) (write_decls ds ++ end) (tail_at (mark t.ScopeWord) (lx t.Uident n.text ∷ (write_decls ds ++ end)) q)) in
       let opened = opened_words n c s.between (q 1 (lx t.Uident n.text) (omega arith)) s.first h in
-      let m = all_typed_words ds s.between s.second.between v inner s.second.first opened in
+      let m = all_typed_words ds s.between s.second.between inner s.second.first opened in
       subst HasWordNames (sym s.second.second) (record { symbols = m.symbols; within = h.within; axioms = m.axioms; known = m.known })
-  typed_words d c c' v q s h = passed_words s.between c' s.second (declared_words d c s.between v q s.first h)
+  typed_words d c c' q s h = passed_words s.between c' s.second (declared_words d c s.between q s.first h)
 
-  pub all_typed_words : (ds : SyntaxDeclarations) (c c' : StateTree) → AreLevelDecls ds → Are (write_decls ds) → AreDeclarationsTyped ds c c' → HasWordNames c → HasWordNames c'
-  all_typed_words no_decls c c' v q s h = subst HasWordNames s h
-  all_typed_words (more_decls d ds) c c' v q s h = all_typed_words ds s.between c' v.1 (back_at (write_decl d) (write_decls ds) q) s.second (typed_words d c s.between v.0 (front_at (write_decl d) (write_decls ds) q) s.first h)
+  pub all_typed_words : (ds : SyntaxDeclarations) (c c' : StateTree) → Are (write_decls ds) → AreDeclarationsTyped ds c c' → HasWordNames c → HasWordNames c'
+  all_typed_words no_decls c c' q s h = subst HasWordNames s h
+  all_typed_words (more_decls d ds) c c' q s h = all_typed_words ds s.between c' (back_at (write_decl d) (write_decls ds) q) s.second (typed_words d c s.between (front_at (write_decl d) (write_decls ds) q) s.first h)

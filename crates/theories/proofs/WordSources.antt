@@ -6,7 +6,6 @@ use Rattle.surface.specs.tokens_why.declared.terminal.Terminal.TheVariants as t
 use Rattle.surface.specs.tokens_why.Tokens.{AreTokens}
 use Rattle.tasks.specs.Task.{SymbolTree, TaskTree, int_symbol}
 use Rattle.surface.specs.Lexeme.{Lexeme, mark, lx, rest}
-use Rattle.surface.specs.DeclarationRules.{AreLevelDecls, IsLevelFile}
 use Rattle.surface.specs.Declarations.{SyntaxDeclarations, SyntaxTheory, heading, write_decls, write_theory, write_file}
 use Rattle.surface.specs.declared.declarations.File.{File}
 use Rattle.surface.specs.SurfaceDeclarations.{file_of}
@@ -40,10 +39,10 @@ begun_words c path n h = record { symbols = h.symbols; within = written_name [] 
 ended_words : (c : StateTree) → HasWordNames c → HasWordNames (record c { known = c.known ++ known_as c.opened ∷ []; opened = opened_empty [] })
 ended_words c h = record { symbols = h.symbols; within = written_name [] refl; axioms = All-nil HasWordVariables; known = All-push HasAxiomWords c.known (known_as c.opened) h.known h.axioms }
 
-theory_words : (path : List ℕ) (ds : SyntaxDeclarations) (c c' : StateTree) → AreLevelDecls ds → Are (write_decls ds) → IsNewTheory path ds c c' → HasWordNames c → HasWordNames c'
-theory_words path ds c c' v q s h =
+theory_words : (path : List ℕ) (ds : SyntaxDeclarations) (c c' : StateTree) → Are (write_decls ds) → IsNewTheory path ds c c' → HasWordNames c → HasWordNames c'
+theory_words path ds c c' q s h =
     let begun = subst HasWordNames (sym s.typed.first) (begun_words c path (c.number + 1) h) in
-    let m = all_typed_words ds s.typed.between s.typed.second.between v q s.typed.second.first begun in
+    let m = all_typed_words ds s.typed.between s.typed.second.between q s.typed.second.first begun in
     subst HasWordNames (sym s.typed.second.second) (ended_words s.typed.second.between m)
 
 declarations_of : (t' : SyntaxTheory) (ls : List Lexeme) → Are (write_theory t' ++ ls) → Are (write_decls t'.decls) × Are ls
@@ -54,19 +53,19 @@ declarations_of t' ls q =
     (front_of IsWordLexeme (write_decls t'.decls) end inner, back_of IsWordLexeme (write_theory t') ls q)
 
 -- ---- the theories of a source, and of a file of the library
-source_words : (hs : List SyntaxTheory) (c c' : StateTree) → IsLevelFile hs → Are (write_file hs) → AreTypedIn hs c c' → HasWordNames c → HasWordNames c'
-source_words [] c c' v q s h = subst HasWordNames s h
-source_words (x ∷ hs) c c' v q s h =
+source_words : (hs : List SyntaxTheory) (c c' : StateTree) → Are (write_file hs) → AreTypedIn hs c c' → HasWordNames c → HasWordNames c'
+source_words [] c c' q s h = subst HasWordNames s h
+source_words (x ∷ hs) c c' q s h =
     let parts = declarations_of x (write_file hs) q in
-    source_words hs s.between c' v.1 parts.1 s.second (theory_words x.name.text x.decls c s.between v.0 parts.0 s.first h)
+    source_words hs s.between c' parts.1 s.second (theory_words x.name.text x.decls c s.between parts.0 s.first h)
 
-embedded_words : (path : List ℕ) (hs : List SyntaxTheory) (c c' : StateTree) → IsLevelFile hs → Are (write_file hs) → AreEmbeddedIn path hs c c' → HasWordNames c → HasWordNames c'
-embedded_words path [] c c' v q s h = subst HasWordNames s h
-embedded_words path (x ∷ hs) c c' v q s h =
+embedded_words : (path : List ℕ) (hs : List SyntaxTheory) (c c' : StateTree) → Are (write_file hs) → AreEmbeddedIn path hs c c' → HasWordNames c → HasWordNames c'
+embedded_words path [] c c' q s h = subst HasWordNames s h
+embedded_words path (x ∷ hs) c c' q s h =
     let parts = declarations_of x (write_file hs) q in
-    let m = theory_words path x.decls c s.first.between v.0 parts.0 s.first.first h in
+    let m = theory_words path x.decls c s.first.between parts.0 s.first.first h in
     let again : HasWordNames s.between = subst HasWordNames (sym s.first.second) (record { symbols = m.symbols; within = m.within; axioms = m.axioms; known = m.known }) in
-    embedded_words path hs s.between c' v.1 parts.1 s.second again
+    embedded_words path hs s.between c' parts.1 s.second again
 
 file_words : (text : List ℕ) (ts : List Token) (file : List SyntaxTheory) → AreTokens text ts → IsOnlyFile (rest text ts 0) file → Are (write_file file)
 file_words text ts file h only = subst Are (sym only.of.tokens) (tokens_words text ts 0 h)
@@ -77,7 +76,7 @@ library_words [] (f ∷ fs) c c' a s h = absurd a
 library_words (e ∷ es) [] c c' a s h = absurd a
 library_words (e ∷ es) (f ∷ fs) c c' a s h =
     let q = file_words e.1 a.1.tokens (file_of f.1) a.1.are a.1.only in
-    library_words es fs s.between c' a.2 s.second (embedded_words f.0 (file_of f.1) c s.between a.1.only.of.right q s.first h)
+    library_words es fs s.between c' a.2 s.second (embedded_words f.0 (file_of f.1) c s.between q s.first h)
 
 nothing_words : HasWordNames nothing_known
 nothing_words = record { symbols = All-cons HasWord int_symbol [] (written_name (codes "int") refl) (All-nil HasWord); within = written_name [] refl; axioms = All-nil HasWordVariables; known = All-nil HasAxiomWords }
@@ -85,7 +84,7 @@ nothing_words = record { symbols = All-cons HasWord int_symbol [] (written_name 
 theories_words : (text : List ℕ) (ts : List Token) (file : List SyntaxTheory) (all : TheoriesTree) → AreTokens text ts → IsOnlyFile (rest text ts 0) file → TheoriesOf file all → HaveWords all.symbols
 theories_words text ts file all h only of =
     let before = library_words library of.library.files nothing_known of.before of.library.are of.library.typed nothing_words in
-    let after = source_words file of.before of.after only.of.right (file_words text ts file h only) of.typed before in
+    let after = source_words file of.before of.after (file_words text ts file h only) of.typed before in
     subst HaveWords (sym (ap (λ (x : TheoriesTree). x.symbols) of.are)) after.symbols
 
 -- ---- the task of a goal

@@ -8,10 +8,9 @@ use Rattle.surface.specs.tokens_why.declared.terminal.Terminal.TheVariants as t
 use Rattle.surface.specs.Lexeme.{Word, Lexeme, mark, lx}
 use Rattle.surface.specs.Forms.{Own, lower, upper, infix_op, prefix_op, star, scoped, write_own, write_called, write_form}
 use Rattle.surface.specs.Forms as surface
-use Rattle.surface.specs.Trees.{SyntaxTree, IsLevel, write, name_row, bar_before, type_part}
+use Rattle.surface.specs.Trees.{SyntaxTree, write, name_row, bar_before, type_part}
 use Rattle.surface.specs.Declarations.{variable_row, param_row, definition, write_member, other_members, write_constructor, constructor_tail, constructor_list, write_algebraic, algebraic_tail, clause_list, write_inductive, inductive_tail, prop_word, write_decl}
 use Rattle.surface.specs.Declarations as source
-use Rattle.surface.specs.DeclarationRules.{IsLevelDecl}
 use Rattle.elaboration_laws.specs.name_resolution.Abstract.{expression, spelled, prefix_name, infix_name, text_of_own}
 use Rattle.elaboration_laws.specs.elab_groups.parts.Declarations.{GroupMember, AlgebraicConstructor, AlgebraicType, Declaration, abstract_type, alias, algebraic, member_group, inductive, proposition_declaration, declaration, symbol, word, words, parameter_of, group_member, constructor, type_constructors, algebraic_type, inductive_predicate}
 use Rattle.elaboration_laws.specs.elab_groups.members.Members.{parameter_words, words_of_parameters}
@@ -97,8 +96,8 @@ variable_from : (x : Terminal) (w : Word) → SaysWord x w → VariableAs IsScop
 variable_from t.TyVar w h = h
 variable_from _ w h = tt
 
-pub proposition_words : (e : SyntaxTree) → IsLevel e → Are (write e) → All IsScopedName (proposition_seen (expression e)).vars
-proposition_words e v q = variables_told IsScopedName e v (All-weaker IsWordLexeme (IsVariable IsScopedName) (λ l h. variable_from l.terminal l.text h) (write e) q)
+pub proposition_words : (e : SyntaxTree) → Are (write e) → All IsScopedName (proposition_seen (expression e)).vars
+proposition_words e q = variables_told IsScopedName e (All-weaker IsWordLexeme (IsVariable IsScopedName) (λ l h. variable_from l.terminal l.text h) (write e) q)
 
 -- ---- algebraic types
 both_named : (us vs : List Word) → AllByRecursion IsScopedName us → AllByRecursion IsScopedName vs → AllByRecursion IsScopedName (us ++ vs)
@@ -196,32 +195,32 @@ other_predicates_named (d ∷ ds) q =
     (predicate_named d (front_at (write_inductive d) (inductive_tail ds) r), other_predicates_named ds (back_at (write_inductive d) (inductive_tail ds) r))
 
 -- ---- declarations
-pub names_written : (d : source.SyntaxDeclaration) → IsLevelDecl d → Are (write_decl d) → IfSome (declaration d) IsNamed
-names_written (source.type_decl a n vs None) v q = q 1 (lx t.Lident n.text) (omega arith)
-names_written (source.type_decl a n vs (Some f)) v q = tt
-names_written (source.algebraic_decl a []) v q = tt
-names_written (source.algebraic_decl a (x ∷ xs)) v q =
+pub names_written : (d : source.SyntaxDeclaration) → Are (write_decl d) → IfSome (declaration d) IsNamed
+names_written (source.type_decl a n vs None) q = q 1 (lx t.Lident n.text) (omega arith)
+names_written (source.type_decl a n vs (Some f)) q = tt
+names_written (source.algebraic_decl a []) q = tt
+names_written (source.algebraic_decl a (x ∷ xs)) q =
     let r = tail_at (mark t.TypeWord) (write_algebraic x ++ algebraic_tail xs) q in
     (type_named x (front_at (write_algebraic x) (algebraic_tail xs) r), other_types_named xs (back_at (write_algebraic x) (algebraic_tail xs) r))
-names_written (source.function_decl a c ps f e ms) v q =
+names_written (source.function_decl a c ps f e ms) q =
     let last = definition e ++ other_members ms in
     let typed = mark t.Colon ∷ (write_form f ++ last) in
     let r = tail_at (mark t.FunctionWord) (write_called c ++ (param_row ps ++ typed)) q in
     let u = tail_at (mark t.Colon) (write_form f ++ last) (back_at (param_row ps) typed (back_at (write_called c) (param_row ps ++ typed) r)) in
     (called_word c (front_at (write_called c) (param_row ps ++ typed) r), other_members_named ms (back_at (definition e) (other_members ms) (back_at (write_form f) last u)))
-names_written (source.predicate_decl a c ps e ms) v q =
+names_written (source.predicate_decl a c ps e ms) q =
     let last = definition e ++ other_members ms in
     let r = tail_at (mark t.PredicateWord) (write_called c ++ (param_row ps ++ last)) q in
     let u = back_at (param_row ps) last (back_at (write_called c) (param_row ps ++ last) r) in
     (called_word c (front_at (write_called c) (param_row ps ++ last) r), other_members_named ms (back_at (definition e) (other_members ms) u))
-names_written (source.constant_decl a c f e) v q =
+names_written (source.constant_decl a c f e) q =
     let typed = mark t.Colon ∷ (write_form f ++ definition e) in
     (called_word c (front_at (write_called c) typed (tail_at (mark t.ConstantWord) (write_called c ++ typed) q)), tt)
-names_written (source.inductive_decl a []) v q = tt
-names_written (source.inductive_decl a (x ∷ xs)) v q =
+names_written (source.inductive_decl a []) q = tt
+names_written (source.inductive_decl a (x ∷ xs)) q =
     let r = tail_at (mark t.InductiveWord) (write_inductive x ++ inductive_tail xs) q in
     (predicate_named x (front_at (write_inductive x) (inductive_tail xs) r), other_predicates_named xs (back_at (write_inductive x) (inductive_tail xs) r))
-names_written (source.prop_decl a k c e) v q = proposition_words e v.1 (tail_at (mark t.Colon) (write e) (back_at (write_called c) (mark t.Colon ∷ write e) (tail_at (mark (prop_word k)) (write_called c ++ (mark t.Colon ∷ write e)) q)))
-names_written (source.use_decl a l p n) v q = tt
-names_written (source.clone_decl a l p n es) v q = tt
-names_written (source.scope_decl a n ds) v q = tt
+names_written (source.prop_decl a k c e) q = proposition_words e (tail_at (mark t.Colon) (write e) (back_at (write_called c) (mark t.Colon ∷ write e) (tail_at (mark (prop_word k)) (write_called c ++ (mark t.Colon ∷ write e)) q)))
+names_written (source.use_decl a l p n) q = tt
+names_written (source.clone_decl a l p n es) q = tt
+names_written (source.scope_decl a n ds) q = tt

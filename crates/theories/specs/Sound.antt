@@ -2,7 +2,7 @@
 -- one declaration what its typing ensures.
 use Rattle.std.specs.Prelude.{List, All}
 use Rattle.surface.specs.Declarations.{SyntaxDeclaration, SyntaxDeclarations, SyntaxTheory, write_decl}
-use Rattle.surface.specs.DeclarationRules.{IsLevelDecl}
+use Rattle.elaboration_laws.specs.Lists.{IsGroupWhole}
 use Rattle.elaboration_laws.specs.Quoted.{IsQuotedLexeme}
 use Rattle.elaboration_laws.specs.theory_states.goal_tasks.Theories.{TheoriesTree}
 use Rattle.theory_states.specs.States.{StateTree}
@@ -17,7 +17,7 @@ use Rattle.theories.specs.Files.{TheoriesBy}
 pub record IsSoundlyDeclared (d : SyntaxDeclaration) (c c' : StateTree) : Type 0 where
   pub declared : IsDeclared d c c'
   pub typed : IsTypedState c'
-  pub sound : IsLevelDecl d → All IsQuotedLexeme (write_decl d) → IsSoundState c → IsSoundState c'
+  pub sound : IsGroupWhole d → All IsQuotedLexeme (write_decl d) → IsSoundState c → IsSoundState c'
 
 abbrev pub IsSoundlyTyped : SyntaxDeclaration → StateTree → StateTree → Type 0
 IsSoundlyTyped = IsTypedBy IsSoundlyDeclared

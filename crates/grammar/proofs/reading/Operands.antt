@@ -177,8 +177,7 @@ terms_follow (more e es) (false ∷ bs) zs = record { args = refl; dots = refl; 
 pub fields_follow : (cs : List Called) (es : SyntaxTrees) (semi : Bool) (zs : List Lexeme) → Follow 0 ((tree_fields_tail cs es ++ close_fields semi) ++ zs)
 fields_follow [] none true zs = record { args = refl; dots = refl; ops = λ i. absurd (no_false i) }
 fields_follow [] none false zs = record { args = refl; dots = refl; ops = λ i. absurd (no_false i) }
-fields_follow [] (more e es) true zs = record { args = refl; dots = refl; ops = λ i. absurd (no_false i) }
-fields_follow [] (more e es) false zs = record { args = refl; dots = refl; ops = λ i. absurd (no_false i) }
+fields_follow [] (more e es) semi zs = record { args = refl; dots = refl; ops = λ i. absurd (no_false i) }
 fields_follow (c ∷ cs) none true zs = record { args = refl; dots = refl; ops = λ i. absurd (no_false i) }
 fields_follow (c ∷ cs) none false zs = record { args = refl; dots = refl; ops = λ i. absurd (no_false i) }
 fields_follow (c ∷ cs) (more e es) semi zs = record { args = refl; dots = refl; ops = λ i. absurd (no_false i) }

@@ -5,13 +5,13 @@ ghost use Rattle.tasks.specs.trees.Node.{Grows};
 ghost use Rattle.tasks.specs.Meaning.{symbols_at, declarations_at, SymbolHeld, DeclHeld};
 ghost use Rattle.surface.specs.SurfaceDeclarations.{decl_of};
 ghost use Rattle.surface.specs.Declarations.{write_decl};
-ghost use Rattle.surface.specs.DeclarationRules.{IsLevelDecl};
 ghost use Rattle.elaboration_laws.specs.checks.decl_checks.Checks.{HasNoFault};
 ghost use Rattle.elab_groups.specs.open_types.Drafts.{match_at};
 ghost use Rattle.elab_groups.specs.parts.Declarations.{declaration};
 ghost use Rattle.elab_groups.specs.parts.Entries.{IsSignature, AreScopes};
 ghost use Rattle.elab_groups.specs.parts.Outcomes.{setting_where, IsKept};
 ghost use Rattle.elab_declarations.specs.Outcomes.{IsLogical, IsElaborated, IsRefusal};
+ghost use Rattle.elaboration_laws.specs.Lists.{IsGroupWhole};
 ghost use Rattle.theories.specs.side_conditions.Sides.{IsCovered, IsMatch, IsSideFault, bodies};
 ghost use Rattle.theory_states.specs.Meaning.{state_at, StateHeld};
 ghost use Rattle.theory_states.specs.Uses.{OrMemory};
@@ -140,7 +140,7 @@ pub fn type_declaration(
         (state_at store.old typed.old open.old) (state_at store.new typed.new open.new)) }
     ensures held { OnOk result (StateHeld store.new typed.new open.new) }
     ensures typed { OnOk result (IsTypedState (state_at store.new typed.new open.new)) }
-    ensures sound { OnOk result (IsLevelDecl (decl_of decl.now)
+    ensures sound { OnOk result (IsGroupWhole (decl_of decl.now)
         → All IsQuotedLexeme (write_decl (decl_of decl.now))
         → IsSoundState (state_at store.old typed.old open.old)
         → IsSoundState (state_at store.new typed.new open.new)) }

@@ -1,7 +1,7 @@
 use Rattle.std.proofs.Common.{refl, sym, subst, ◌≡◌, ℕ, List, [], ◌∷◌, Option, Some, None, ap, ◌∙◌}
 use Rattle.surface.specs.SurfaceDeclarations.{decl_of}
 use Rattle.theory_states.specs.declared.states.Opened.{Opened}
-use Rattle.elaboration_laws.proofs.Quoted.{quoted_in, whole_in}
+use Rattle.elaboration_laws.proofs.Quoted.{quoted_in}
 use Rattle.elaboration_laws.specs.Sound.{IsSoundState}
 use Rattle.tasks.proofs.trees.Nodes.{Grows_trans}
 use Rattle.tasks.specs.Task.{DeclarationTree}
@@ -68,7 +68,7 @@ returns-clause-sound c =
     let d = decl_of c.args.decl.now in
     let o : Opened = record x.new.open { moves = c.push_declared.new.moves } in
     let known = known_state s t c.args.open.now d x.new.store x.new.typed x.new.open o c.in_ok-made.made x.ensures.grows c.requires.held c.in_ok-made.ensures.ok refl c.in_ok-push_declared.ensures y.new.store y.new.typed y.new.open c.in_ok-push_made.ensures.state in
-    λ w q h. subst IsSoundState (sym known) (declared_sound s t c.args.open.now d x.new.store x.new.typed x.new.open c.in_ok-made.made c.in_ok-made.ensures.ok c.laws.ensures.sorted (whole_in d w) (λ k i e r. quoted_in d k i e w r q) h)
+    λ w q h. subst IsSoundState (sym known) (declared_sound s t c.args.open.now d x.new.store x.new.typed x.new.open c.in_ok-made.made c.in_ok-made.ensures.ok c.laws.ensures.sorted w (λ k i e r. quoted_in d k i e r q) h)
 
 pub returns-in_err-made-clause-ok : goal.returns-in_err-made-clause-ok
 returns-in_err-made-clause-ok c = no_ok _ _ c.from_residual.result c.from_residual.ensures.1
