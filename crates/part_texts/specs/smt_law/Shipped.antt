@@ -79,11 +79,13 @@ ShippedArePlain = (d : Driver) (t : TaskTree) → IsValid t → HasShippedTempla
 -- the file itself
 abbrev pub shipped_text : List ℕ
 shipped_text = codes "prelude \"(set-logic UFNIA)\"\nprinter \"smtv2\"\nvalid \"^unsat\"\n"
-    ++ codes "theory BuiltIn syntax type int \"Int\" syntax predicate (=) \"(= %1 %2)\" end\ntheory int.Int\n"
+    ++ codes "theory BuiltIn syntax type int \"Int\" syntax predicate (=) \"(= %1 %2)\" end\n"
+    ++ codes "theory int.Int\n"
     ++ codes "  syntax function (-_) \"(- %1)\"     syntax function (+) \"(+ %1 %2)\"\n"
     ++ codes "  syntax function (-) \"(- %1 %2)\"   syntax function (*) \"(* %1 %2)\"\n"
     ++ codes "  syntax predicate (<) \"(< %1 %2)\"  syntax predicate (<=) \"(<= %1 %2)\"\n"
-    ++ codes "  syntax predicate (>) \"(> %1 %2)\"  syntax predicate (>=) \"(>= %1 %2)\"\n  remove allprops\nend\n"
+    ++ codes "  syntax predicate (>) \"(> %1 %2)\"  syntax predicate (>=) \"(>= %1 %2)\"\n"
+    ++ codes "  remove allprops\nend\n"
 
 -- the entries of the theory int.Int in a source: those after the type `int`
 abbrev pub first_entries : Ints
