@@ -42,20 +42,20 @@ failing_rule Imp i = RNotImp i
 failing_rule Iff i = RNotIff i
 
 -- steps refute a sequent with each list of formulas after it
-abbrev pub RefuteBehind : DraftTree → List Tree → List ℕ → List (List Tree) → Type 0
-RefuteBehind d sequent premises added = RefuteAll d premises (map (λ x. sequent ++ x) added)
+abbrev pub RefuteAfter : DraftTree → List Tree → List ℕ → List (List Tree) → Type 0
+RefuteAfter d sequent premises added = RefuteAll d premises (map (λ x. sequent ++ x) added)
 
 -- the formula is a connective, and steps refute what it gives where it holds, or where its negation
 -- holds
 abbrev pub RefuteHolding : DraftTree → List Tree → Op → Option Tree → List ℕ → Type 0
 RefuteHolding d sequent op f premises =
     IsSomeAnd (connected f) (λ p.
-    (p.0 ≡ op) × RefuteBehind d sequent premises (where_true op p.1 p.2))
+    (p.0 ≡ op) × RefuteAfter d sequent premises (where_true op p.1 p.2))
 
 abbrev pub RefuteFailing : DraftTree → List Tree → Op → Option Tree → List ℕ → Type 0
 RefuteFailing d sequent op f premises =
     IsSomeAnd (connected f) (λ p.
-    (p.0 ≡ op) × RefuteBehind d sequent premises (where_false op p.1 p.2))
+    (p.0 ≡ op) × RefuteAfter d sequent premises (where_false op p.1 p.2))
 
 -- one formula of a list is the negation of another
 abbrev pub Clash : List Tree → ℕ → ℕ → Type 0

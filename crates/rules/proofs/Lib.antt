@@ -1,4 +1,4 @@
 pub mod Closed
 pub mod Sequents
-pub mod Behind
+pub mod After
 pub mod Templates

@@ -116,7 +116,7 @@ pub fn adds_one<A: Shape>(x: &Tried<'_>, a: &A) -> bool
 }
 
 /// Whether there is one premise, which has these two formulas after the sequent.
-#[tactic(auto, using(crate::proofs::Behind::two_after))]
+#[tactic(auto, using(crate::proofs::After::two_after))]
 pub fn adds_both<A: Shape, B: Shape>(x: &Tried<'_>, a: &A, b: &B) -> bool
     requires tried { TriedHeld x.now }
     requires a_held { A.IsHeld a.now x.now.store.now }
@@ -141,7 +141,7 @@ pub fn adds_each<A: Shape, B: Shape>(x: &Tried<'_>, a: &A, b: &B) -> bool
 }
 
 /// Whether there are two premises, each of which has two formulas after the sequent.
-#[tactic(auto, using(crate::proofs::Behind::two_after))]
+#[tactic(auto, using(crate::proofs::After::two_after))]
 pub fn adds_pairs<A: Shape, B: Shape, C: Shape, D: Shape>(
     x: &Tried<'_>,
     a: &A,

@@ -178,15 +178,15 @@ pub reads_as : (x : Name) (ys : List Lexeme) (j : ℕ) (k : List Symbol) (vs : V
 reads_as x ys j k vs p h = rw (h, sym p) refl
 
 -- What comes after a pattern: a name may, after one that has none.
-abbrev pub Behind : SyntaxForm → Option Name → (k : List Symbol) → List Lexeme → ℕ → Vals k → Type 0
-Behind (aliased a g x) m k ys j vs = (m ≡ None) × Reads k ys j vs
-Behind _ m k ys j vs = Reads (s.AsPart ∷ k) ys j (m, vs)
+abbrev pub ReadsAfter : SyntaxForm → Option Name → (k : List Symbol) → List Lexeme → ℕ → Vals k → Type 0
+ReadsAfter (aliased a g x) m k ys j vs = (m ≡ None) × Reads k ys j vs
+ReadsAfter _ m k ys j vs = Reads (s.AsPart ∷ k) ys j (m, vs)
 
-pub after_named : (f : SyntaxForm) (m : Option Name) (k : List Symbol) (ys : List Lexeme) (j : ℕ) (vs : Vals k) → IsUnnamed f → Reads (s.AsPart ∷ k) ys j (m, vs) → Behind f m k ys j vs
+pub after_named : (f : SyntaxForm) (m : Option Name) (k : List Symbol) (ys : List Lexeme) (j : ℕ) (vs : Vals k) → IsUnnamed f → Reads (s.AsPart ∷ k) ys j (m, vs) → ReadsAfter f m k ys j vs
 after_named (aliased a g x) m k ys j vs u h = elim u [ ]
 after_named _ m k ys j vs u h = h
 
-pub after_plain : (f : SyntaxForm) (k : List Symbol) (ys : List Lexeme) (j : ℕ) (vs : Vals k) → Stops s.AsPart ys → Reads k ys j vs → Behind f None k ys j vs
+pub after_plain : (f : SyntaxForm) (k : List Symbol) (ys : List Lexeme) (j : ℕ) (vs : Vals k) → Stops s.AsPart ys → Reads k ys j vs → ReadsAfter f None k ys j vs
 after_plain (aliased a g x) k ys j vs n h = (refl, h)
 after_plain _ k ys j vs n h = passed s.AsPart None k ys j vs refl refl n h
 
@@ -198,7 +198,7 @@ reads_other : (c : Called) (cs : List Called) (g : SyntaxForm) (gs : SyntaxForms
 reads_other c cs g gs semi ys i k vs l p h = other_form_field c g (record { names = cs; forms = gs; semi = semi }) (mark t.Equal ∷ (write_form g ++ ((form_fields_tail cs gs ++ close_fields semi) ++ ys))) i k (name (past i (write_called c)) []) vs l p (rw h refl)
 
 mutual
-  pub reads_named : (f : SyntaxForm) (m : Option Name) (ys : List Lexeme) (i : ℕ) (k : List Symbol) (vs : Vals k) → IsForm pattern_forms f → IsPlaced i f → Stops s.Quids ys → Stops s.Patoms ys → Behind f m k ys (past i (write_form f)) vs → Reads (s.Pat ∷ k) (write_form f ++ ys) i (named_at i f m, vs)
+  pub reads_named : (f : SyntaxForm) (m : Option Name) (ys : List Lexeme) (i : ℕ) (k : List Symbol) (vs : Vals k) → IsForm pattern_forms f → IsPlaced i f → Stops s.Quids ys → Stops s.Patoms ys → ReadsAfter f m k ys (past i (write_form f)) vs → Reads (s.Pat ∷ k) (write_form f ++ ys) i (named_at i f m, vs)
   reads_named (wild a) m ys i k vs l p n o h = rw (h, p) refl
   reads_named (variable a x) m ys i k vs l p n o h = rw (h, p.0, sym p.1) refl
   reads_named (type_variable a w) m ys i k vs l p n o h = elim l [ ]

@@ -174,9 +174,9 @@ abbrev pub IsChain : ℕ → ℕ → ℕ → Chain → Type 0
 IsChain m u i stop = ⊤
 IsChain m u i (link o f c) = (is_infix o.terminal ≡ true) × MayBeMarked o.terminal o.text × (m ≤ prec o.terminal) × (need o.terminal ≤ u) × (o.at ≡ i) × IsLevel f × IsPlacedTree (i + 1) f × (right o.terminal ≤ tight f) × IsLast (ends_open f) c (IsChain m (prec o.terminal) (past (i + 1) (write f)) c)
 
-abbrev pub ChainBehind : Bool → ℕ → ℕ → ℕ → Chain → Type 0
-ChainBehind true m u i c = c ≡ stop
-ChainBehind false m u i c = IsChain m u i c
+abbrev pub ChainAfter : Bool → ℕ → ℕ → ℕ → Chain → Type 0
+ChainAfter true m u i c = c ≡ stop
+ChainAfter false m u i c = IsChain m u i c
 
 abbrev pub IsApplied : ℕ → NameRest → Type 0
 IsApplied i (args_rest ts) = AreAtoms ts × PlacedTrees i ts
@@ -221,7 +221,7 @@ HasNoArgs _ = ⊤
 
 abbrev pub IsMinus : ℕ → Minus → Type 0
 IsMinus i (named_by b ts) = AreAtoms ts × PlacedTrees (past i (opend b)) ts
-IsMinus i (operand e c z) = IsLevel e × IsPlacedTree i e × (8 ≤ tight e) × ChainBehind (ends_open e) 0 8 (past i (write e)) c × IsClosing (past (past i (write e)) (write_chain c)) z
+IsMinus i (operand e c z) = IsLevel e × IsPlacedTree i e × (8 ≤ tight e) × ChainAfter (ends_open e) 0 8 (past i (write e)) c × IsClosing (past (past i (write e)) (write_chain c)) z
 
 abbrev pub HasNoneBy : Minus → Type 0
 HasNoneBy (named_by b ts) = ts ≡ none

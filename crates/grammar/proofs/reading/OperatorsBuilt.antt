@@ -4,12 +4,12 @@ use Rattle.tokens_why.specs.declared.terminal.Terminal.TheVariants as t
 use Rattle.grammar.specs.declared.symbols.Symbol.TheVariants as s
 use Rattle.grammar.proofs.reading.Reading.{past-append}
 use Rattle.grammar.proofs.reading.Operands.{first_placed}
-use Rattle.grammar.proofs.reading.Good.{AllRows, ChainBehind, Good, IsChain, IsLast, Piece, Proper, RowOk, chain_open, hushed, write_chain}
+use Rattle.grammar.proofs.reading.Good.{AllRows, ChainAfter, Good, IsChain, IsLast, Piece, Proper, RowOk, chain_open, hushed, write_chain}
 
 -- what comes after a tree: its operators, or nothing where it ends in an open form
 pub record TailPart (e : Bool) (m u i : ℕ) (c : Chain) (xs : List Lexeme) (next : Bool → ℕ → List Lexeme → Type 0) : Type 0 where
   pub others : List Lexeme
-  pub chain : ChainBehind e m u i c
+  pub chain : ChainAfter e m u i c
   pub writes : xs ≡ write_chain c ++ others
   pub following : next (e || chain_open c) (past i (write_chain c)) others
 
@@ -58,7 +58,7 @@ attach_ok (link q f c) m u i e l p o v w h = by_open (ends_open f) refl h.8
 pub attach_good : (m i u : ℕ) (k : List Symbol) (e : SyntaxTree) (c : Chain) (xs ys : List Lexeme) (vs : Vals k) → IsLevel e → IsPlacedTree i e → u ≤ tight e → (m ≤ 8 → m ≤ tight e) → xs ≡ write e ++ ys → TailPart (ends_open e) m u (past i (write e)) c ys (λ d j zs. Good d k j zs vs) → Good false (s.Expr m ∷ k) i xs (attach e c, vs)
 attach_good m i u k e c xs ys vs l p v w x r = by_open (ends_open e) refl r.chain r.following
   where
-    by_open : (b : Bool) → ends_open e ≡ b → ChainBehind b m u (past i (write e)) c → Good (b || chain_open c) k (past (past i (write e)) (write_chain c)) r.others vs → Good false (s.Expr m ∷ k) i xs (attach e c, vs)
+    by_open : (b : Bool) → ends_open e ≡ b → ChainAfter b m u (past i (write e)) c → Good (b || chain_open c) k (past (past i (write e)) (write_chain c)) r.others vs → Good false (s.Expr m ∷ k) i xs (attach e c, vs)
     by_open true o y g = subst (λ d. Good false (s.Expr m ∷ k) i xs (attach e d, vs)) (sym y)
         (r.others, (l, p, w), x ∙ ap (λ z. write e ++ z) (r.writes ∙ ap (λ d. write_chain d ++ r.others) y), subst (λ b. Good b k (past i (write e)) r.others vs) (sym o) (subst (λ d. Good true k (past (past i (write e)) (write_chain d)) r.others vs) y g))
     by_open false o y g = let t = attach_ok c m u i e l p o v w y in (
@@ -106,10 +106,10 @@ link_ok m u o h t k i w xs vs p (ys, q, e, g) = let r = tail_part (ends_open vs.
   subst (λ b. Good b k (past i (lx o w ∷ (write vs.0 ++ write_chain vs.1.0))) r.others vs.1.1) (sym (opens (ends_open vs.0) refl r.chain)) (rw past-append r.following),
 )
   where
-    opens : (b : Bool) → ends_open vs.0 ≡ b → ChainBehind b m (prec o) (past (i + 1) (write vs.0)) vs.1.0 → chain_open (link (op i o w) vs.0 vs.1.0) ≡ (ends_open vs.0 || chain_open vs.1.0)
+    opens : (b : Bool) → ends_open vs.0 ≡ b → ChainAfter b m (prec o) (past (i + 1) (write vs.0)) vs.1.0 → chain_open (link (op i o w) vs.0 vs.1.0) ≡ (ends_open vs.0 || chain_open vs.1.0)
     opens true f y = ap (λ c. chain_open (link (op i o w) vs.0 c)) y ∙ f ∙ ap (λ b. b || chain_open vs.1.0) (sym f)
     opens false f y = sym (chain_open_link (op i o w) vs.0 vs.1.0 f) ∙ ap (λ b. b || chain_open vs.1.0) (sym f)
 
-    last : (b : Bool) → ChainBehind b m (prec o) (past (i + 1) (write vs.0)) vs.1.0 → IsLast b vs.1.0 (IsChain m (prec o) (past (i + 1) (write vs.0)) vs.1.0)
+    last : (b : Bool) → ChainAfter b m (prec o) (past (i + 1) (write vs.0)) vs.1.0 → IsLast b vs.1.0 (IsChain m (prec o) (past (i + 1) (write vs.0)) vs.1.0)
     last true y = y
     last false y = y

@@ -5,7 +5,7 @@ use Rattle.grammar.specs.declared.symbols.Symbol.TheVariants as s
 use Rattle.grammar.proofs.reading.Reading.{past-append}
 use Rattle.grammar.proofs.reading.FormsRead.{close_fields, field_past, regroup}
 use Rattle.grammar.proofs.reading.FormsBuilt.{field_written}
-use Rattle.grammar.proofs.reading.Good.{◌▸◌, AllRows, ChainBehind, Good, HasNoArgs, HasNoneBy, IsApplied, IsClosing, IsHeaded, IsMinus, IsParen, IsRest, IsHeadRest, RowOk, extend_ok, opend, write_applied, write_chain, write_closing, write_head_rest, write_minus, write_paren, write_headed, write_scoped, own_dots, IsScoped}
+use Rattle.grammar.proofs.reading.Good.{◌▸◌, AllRows, ChainAfter, Good, HasNoArgs, HasNoneBy, IsApplied, IsClosing, IsHeaded, IsMinus, IsParen, IsRest, IsHeadRest, RowOk, extend_ok, opend, write_applied, write_chain, write_closing, write_head_rest, write_minus, write_paren, write_headed, write_scoped, own_dots, IsScoped}
 use Rattle.grammar.proofs.reading.TermsRight.{IsTreeNext, IsTreeRest, next_trees, write_tree_rest, AreDots, IsCases, write_branch, write_cases, write_dots}
 use Rattle.grammar.proofs.reading.OperatorsBuilt.{TailPart, attach_good, attach_ok, le_of, link_ok, marked, not_ok, prefix_ok, tail_part}
 use Rattle.grammar.proofs.reading.OpenBuilt.{cases_past, cases_tokens, open_ok, opens_expr}
@@ -259,7 +259,7 @@ minus_paren i o (operand e c z) x y w a h = by_open (ends_open e) refl h.3
     placed_is : IsPlacedTree i (prefixed (at o.at) o e)
     placed_is = (ap at a, a, h.1)
 
-    by_open : (b : Bool) → ends_open e ≡ b → ChainBehind b 0 8 (past (i + 1) (write e)) c → MinusParen i o (operand e c z)
+    by_open : (b : Bool) → ends_open e ≡ b → ChainAfter b 0 8 (past (i + 1) (write e)) c → MinusParen i o (operand e c z)
     by_open true q y = subst (λ d. IsClosing (past (past (i + 1) (write e)) (write_chain d)) z → MinusParen i o (operand e d z)) (sym y) (λ u. record { is = (level_is, placed_is, u); writes = refl }) h.4
     by_open false q y = let r = attach_ok c 0 8 i (prefixed (at o.at) o e) level_is placed_is q (omega arith) (λ v. omega arith) y in record {
       is = (r.level, r.placed, subst (λ v. IsClosing (past i v) z) (sym r.writes) (rw past-append h.4));

@@ -4,7 +4,7 @@ use Rattle.rules.specs.term_rules.Cases.{case_by, case_of, no_con}
 use Rattle.tasks.specs.Meaning.{con_at}
 use Rattle.rules.specs.Meaning.{steps_at, sequent_of, premises_of}
 use Rattle.rules.specs.Trees.{step_or}
-use Rattle.rules.proofs.Behind.{each_after, one_after}
+use Rattle.rules.proofs.After.{each_after, one_after}
 use Rattle.rules.proofs.Sequents.{not_so, map_twice}
 use Rattle.rules.proofs.term_rules.cases.are_cases.Goals as goal
 use Rattle.tasks.proofs.Declared.{yes, no}
